@@ -1,0 +1,111 @@
+-- The cases of reading and writing a number.
+use Prim.Native.Nat.{ℕ, zero, suc, _+_, _-_, _*_, _/_, _%_, _<_, _≤_}
+use mathlib.Core.Path.{_≡_, refl, sym, _∙_, ap, ap₂}
+use mathlib.Core.Bool.{Bool, true, false, cond, _&&_}
+use mathlib.Core.List.{List, [], _∷_, _++_}
+use lib.ListN.{length, getD, set, drop}
+use lib.Dec.{ltb, leb}
+use lib.Seq.{sets, sets-eq}
+use native.Mathlib.Nat.{zero-add}
+use native.Mathlib.Omega.{arith}
+use borrow.Author.Tests.{lt-ltb, le-ltb, le-leb, lt-leb}
+use Rattle.varint.specs.Varint.{Number, value, fault, groups, read, encode, bytes, fits, written, writtenLength}
+
+-- one group
+module _ (s : List ℕ) (start k unit low at : ℕ) where
+  pub group-ended : length s ≤ at → fault 1 start ≡ groups s start (suc k) unit low at
+  unfolding groups
+  group-ended h = rw (le-ltb at (length s) h)
+
+  pub group-last : (b : ℕ) → at < length s → b ≡ getD s at 0 → b < 128 → value (low + b * unit) (at + 1) ≡ groups s start (suc k) unit low at
+  unfolding groups
+  group-last b h e l = rw e (let l' : getD s at 0 < 128 = omega arith in rw (lt-ltb at (length s) h, lt-ltb (getD s at 0) 128 l'))
+
+  pub group-more : (b : ℕ) → at < length s → b ≡ getD s at 0 → 128 ≤ b
+      → groups s start k (unit * 128) (low + (b - 128) * unit) (at + 1) ≡ groups s start (suc k) unit low at
+  unfolding groups
+  group-more b h e l = rw e (let l' : 128 ≤ getD s at 0 = omega arith in rw (lt-ltb at (length s) h, le-ltb (getD s at 0) 128 l'))
+
+-- equal values at equal places
+pub same : {v w p r : ℕ} → v ≡ w → p ≡ r → value v p ≡ value w r
+same e f = ap₂ value e f
+
+module _ (s : List ℕ) (at : ℕ) where
+  pub ended-at : length s ≤ at → fault 1 at ≡ read s at
+  unfolding read
+  ended-at h = group-ended s at 2 1 0 at h
+
+  pub one-byte : (a : ℕ) → at < length s → a ≡ getD s at 0 → a < 128 → value a (at + 1) ≡ read s at
+  unfolding read
+  one-byte a h e l = same (omega arith) refl ∙ group-last s at 2 1 0 at a h e l
+
+  module _ (a : ℕ) (h : at < length s) (ea : a ≡ getD s at 0) (la : 128 ≤ a) where
+    second : groups s at 2 128 (0 + (a - 128) * 1) (at + 1) ≡ read s at
+    unfolding read
+    second = group-more s at 2 1 0 at a h ea la
+
+    pub ended-second : length s ≤ at + 1 → fault 1 at ≡ read s at
+    ended-second j = group-ended s at 1 128 (0 + (a - 128) * 1) (at + 1) j ∙ second
+
+    pub two-bytes : (b : ℕ) → at + 1 < length s → b ≡ getD s (at + 1) 0 → b < 128 → value (a - 128 + b * 128) (at + 2) ≡ read s at
+    two-bytes b j e l = same (omega arith) (omega arith) ∙ group-last s at 1 128 (0 + (a - 128) * 1) (at + 1) b j e l ∙ second
+
+    module _ (b : ℕ) (j : at + 1 < length s) (eb : b ≡ getD s (at + 1) 0) (lb : 128 ≤ b) where
+      third : groups s at 1 16384 (0 + (a - 128) * 1 + (b - 128) * 128) (at + 1 + 1) ≡ read s at
+      third = group-more s at 1 128 (0 + (a - 128) * 1) (at + 1) b j eb lb ∙ second
+
+      pub ended-third : length s ≤ at + 2 → fault 1 at ≡ read s at
+      ended-third i = group-ended s at 0 16384 (0 + (a - 128) * 1 + (b - 128) * 128) (at + 1 + 1) (omega arith) ∙ third
+
+      module _ (c : ℕ) (i : at + 2 < length s) (ec : c ≡ getD s (at + 2) 0) where
+        ec' : c ≡ getD s (at + 1 + 1) 0
+        ec' = let p : at + 2 ≡ at + 1 + 1 = omega arith in ec ∙ ap (λ n. getD s n 0) p
+
+        pub three-bytes : c < 128 → value (a - 128 + (b - 128) * 128 + c * 16384) (at + 3) ≡ read s at
+        three-bytes l =
+            same (omega arith) (omega arith) ∙
+            group-last s at 0 16384 (0 + (a - 128) * 1 + (b - 128) * 128) (at + 1 + 1) c (omega arith) ec' l ∙
+            third
+
+        pub too-long : 128 ≤ c → fault 2 at ≡ read s at
+        unfolding groups
+        too-long l = group-more s at 0 16384 (0 + (a - 128) * 1 + (b - 128) * 128) (at + 1 + 1) c (omega arith) ec' l ∙ third
+
+-- the bytes of a number
+pub bytes-one : (v : ℕ) → v < 128 → bytes v ≡ v ∷ []
+unfolding bytes encode
+bytes-one v h = rw (lt-ltb v 128 h)
+
+pub bytes-two : (v : ℕ) → 128 ≤ v → v < 16384 → bytes v ≡ (v % 128 + 128) ∷ (v / 128) ∷ []
+unfolding bytes encode
+bytes-two v h l = let k : v / 128 < 128 = omega arith in rw (le-ltb v 128 h, lt-ltb (v / 128) 128 k)
+
+pub bytes-three : (v : ℕ) → 16384 ≤ v → v < 2097152 → bytes v ≡ (v % 128 + 128) ∷ (v / 128 % 128 + 128) ∷ (v / 16384) ∷ []
+unfolding bytes encode
+bytes-three v h l =
+    let i : 128 ≤ v = omega arith in
+    let j : 128 ≤ v / 128 = omega arith in
+    let k : v / 128 / 128 < 128 = omega arith in
+    let e : v / 128 / 128 ≡ v / 16384 = omega arith in
+    rw (le-ltb v 128 i, le-ltb (v / 128) 128 j, lt-ltb (v / 128 / 128) 128 k, e)
+
+-- writing: refused, or the bytes at the front
+module _ (out : List ℕ) (v : ℕ) where
+  refuse : fits out v ≡ false → (0 ≡ writtenLength out v) × (out ≡ written out v)
+  unfolding written writtenLength
+  refuse h = (rw h, rw h)
+
+  pub too-large : 2097152 ≤ v → (0 ≡ writtenLength out v) × (out ≡ written out v)
+  unfolding fits
+  too-large h = refuse (rw (le-ltb v 2097152 h))
+
+  module _ (bs : List ℕ) (e : bytes v ≡ bs) (small : v < 2097152) where
+    pub no-room : length out < length bs → (0 ≡ writtenLength out v) × (out ≡ written out v)
+    unfolding fits
+    no-room h = refuse (rw (lt-ltb v 2097152 small, e, lt-leb (length bs) (length out) h))
+
+    pub room : length bs ≤ length out → (length bs ≡ writtenLength out v) × (sets out 0 bs ≡ written out v)
+    unfolding fits written writtenLength
+    room h =
+        let f : fits out v ≡ true = rw (lt-ltb v 2097152 small, e, le-leb (length bs) (length out) h) in
+        (rw (f, e), sets-eq bs out 0 (omega arith) ∙ rw (zero-add (length bs), f, e))
