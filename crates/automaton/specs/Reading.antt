@@ -6,7 +6,8 @@ use lib.ListN.{length, replicate}
 use lib.Dec.{eqb, leb, ltb}
 use Rattle.base.specs.Rows.{first}
 use Rattle.base.specs.Pad.{pad}
-use Rattle.varint.specs.Varint.{Number, value, fault, read}
+use Rattle.varint.specs.declared.Number.{Number}
+use Rattle.varint.specs.Varint.{fault, read}
 use Rattle.automaton.specs.Automaton.{Automaton, mostClass}
 pub use Rattle.automaton.specs.declared.Parsed.{Parsed}
 
@@ -72,9 +73,9 @@ one n go = cond (eqb (n .refusal) 0) (go (n .value) (n .place)) (refused (n .ref
 unfoldable pub many : Numbers → (List ℕ → ℕ → Parsed) → Parsed
 many ns go = cond (eqb (ns .refusal) 0) (go (ns .values) (ns .place)) (refused (ns .refusal) (ns .place))
 
--- a sheet's numbers in their order, by a number reader and up to a largest class; nothing may follow
+-- a sheet's numbers in their order, by a number reader and up to a largest class; nothing may follow before the end
 unfoldable pub sheet : (ℕ → Number) → ℕ → ℕ → Parsed
-sheet from most length =
+sheet from most end =
     one (checked (between 1 33 3) 0 (from 0)) λ n at1.
     one (checked (between 1 17 4) at1 (from at1)) λ m at2.
     one (checked (between 1 7 5) at2 (from at2)) λ b at3.
@@ -82,7 +83,7 @@ sheet from most length =
     many (numbers from (classRow most) m [] at4) λ classes at5.
     many (numbers from (λ _. between 0 2 7) n [] at5) λ flags at6.
     many (runs from (between 0 n 9) m n [] at6) λ next at7.
-    cond (ltb at7 length)
+    cond (ltb at7 end)
     (refused 10 at7)
     (parsed (record {
       states = n; symbols = m; capacity = b; initial = q;

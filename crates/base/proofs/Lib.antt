@@ -1,0 +1,4 @@
+pub mod Bools
+pub mod Ranges
+pub mod Refusals
+pub mod Padding

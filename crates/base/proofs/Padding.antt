@@ -1,0 +1,43 @@
+-- Laws of `pad`.
+use Prim.Native.Nat.{ℕ, zero, suc, _+_, _-_, _<_, _≤_}
+use mathlib.Core.Path.{_≡_, refl, sym, _∙_, ap}
+use mathlib.Core.List.{List, [], _∷_, _++_}
+use native.Mathlib.Nat.{zero-add}
+use native.Mathlib.Omega.{arith}
+use lib.ListN.{length, getD, drop, replicate, length-append, length-replicate, getD-replicate, List·getD-append, List·getD-eq-default}
+use lib.Seq.{sets, sets-eq, getD-append-add}
+use Rattle.base.specs.Pad.{pad}
+use Rattle.base.proofs.Bools.{by}
+
+pub pad-length : (n : ℕ) (l : List ℕ) → length l ≤ n → length (pad n l) ≡ n
+unfolding pad
+pad-length n l h = simp (length-append, length-replicate) (omega arith)
+
+pub pad-inside : (n : ℕ) (l : List ℕ) (i : ℕ) → i < length l → getD (pad n l) i 0 ≡ getD l i 0
+unfolding pad
+pad-inside n l i h = List·getD-append l (replicate (n - length l) 0) 0 i h
+
+zeros-at : (n i : ℕ) → _≡_ {A = ℕ} (getD (replicate n 0) i 0) 0
+zeros-at zero i = refl
+zeros-at (suc n) zero = refl
+zeros-at (suc n) (suc i) = zeros-at n i
+
+pub pad-outside : (n : ℕ) (l : List ℕ) (i : ℕ) → length l ≤ i → getD (pad n l) i 0 ≡ 0
+unfolding pad
+pad-outside n l i h =
+    let e : i ≡ length l + (i - length l) = omega arith in
+    ap (λ j. getD (l ++ replicate (n - length l) 0) j 0) e ∙
+    getD-append-add l (replicate (n - length l) 0) (i - length l) 0 ∙
+    zeros-at (n - length l) (i - length l)
+
+drop-zeros : (n k : ℕ) → _≡_ {A = List ℕ} (drop k (replicate n 0)) (replicate (n - k) 0)
+drop-zeros n zero = let e : n ≡ n - 0 = omega arith in ap (λ m. replicate {A = ℕ} m 0) e
+drop-zeros zero (suc k) = let e : 0 ≡ 0 - suc k = omega arith in ap (λ m. replicate {A = ℕ} m 0) e
+drop-zeros (suc n) (suc k) = let e : n - k ≡ suc n - suc k = omega arith in drop-zeros n k ∙ ap (λ m. replicate {A = ℕ} m 0) e
+
+-- a run of stores at the front of zeros
+pub pad-stored : (n : ℕ) (l : List ℕ) → length l ≤ n → sets (replicate n 0) 0 l ≡ pad n l
+unfolding pad
+pad-stored n l h =
+    sets-eq l (replicate n 0) 0 (rw (length-replicate {A = ℕ} n 0) (omega arith)) ∙
+    rw (zero-add (length l), drop-zeros n (length l))

@@ -1,0 +1,69 @@
+-- Laws of `each` and `count`.
+use Prim.Native.Nat.{ℕ, zero, suc, _+_, _<_, _≤_}
+use mathlib.Core.Path.{_≡_, refl, sym, _∙_, ap, ap₂}
+use mathlib.Core.Bool.{Bool, true, false, _&&_, cond, and-assoc, and-true}
+use native.Mathlib.Nat.{add-zero, add-suc}
+use native.Mathlib.Numerals.{add-one}
+use native.Mathlib.Omega.{arith}
+use lib.Dec.{eqb}
+use borrow.Author.Tests.{eqb-true, eqb-false}
+use Rattle.base.specs.Each.{each, count}
+use Rattle.base.proofs.Bools.{by, either, clash, and-left, and-right, and-both, and-none}
+
+-- the test at one number
+pub each-at : (n : ℕ) (p : ℕ → Bool) → each n p ≡ true → (k : ℕ) → k < n → p k ≡ true
+unfolding each
+each-at zero p h k l = absurd (omega arith)
+each-at (suc n) p h k l =
+    by (eqb k n)
+    (λ e. rw (eqb-true k n e) (and-right (each n p) (p n) h))
+    (λ e. each-at n p (and-left (each n p) (p n) h) k (omega (arith, eqb-false k n e)))
+
+pub each-all : (n : ℕ) (p : ℕ → Bool) → ((k : ℕ) → k < n → p k ≡ true) → each n p ≡ true
+unfolding each
+each-all zero p h = refl
+each-all (suc n) p h = and-both (each-all n p (λ k l. h k (omega arith))) (h n (omega arith))
+
+-- a number that fails
+pub each-fails : (n : ℕ) (p : ℕ → Bool) → each n p ≡ false → (k : ℕ) × (k < n) × (p k ≡ false)
+unfolding each
+each-fails zero p h = absurd (clash refl h)
+each-fails (suc n) p h =
+    either (and-none (each n p) (p n) h)
+    (λ e. let r = each-fails n p e in (r .0, omega arith, r .2))
+    (λ e. (n, omega arith, e))
+
+pub each-false : (n : ℕ) (p : ℕ → Bool) (k : ℕ) → k < n → p k ≡ false → each n p ≡ false
+each-false n p k l h = by (each n p) (λ e. absurd (clash (each-at n p e k l) h)) (λ e. e)
+
+-- one more number, as a loop counts
+pub each-more : (n : ℕ) (p : ℕ → Bool) → each (n + 1) p ≡ (each n p && p n)
+unfolding each
+each-more n p = rw (add-one n)
+
+-- the same test below n
+pub each-same : (n : ℕ) (p r : ℕ → Bool) → ((k : ℕ) → k < n → p k ≡ r k) → each n p ≡ each n r
+unfolding each
+each-same zero p r h = refl
+each-same (suc n) p r h = ap₂ _&&_ (each-same n p r (λ k l. h k (omega arith))) (h n (omega arith))
+
+-- in two parts
+pub each-split : (n m : ℕ) (p : ℕ → Bool) → each (n + m) p ≡ (each n p && each m (λ k. p (n + k)))
+unfolding each
+each-split n zero p = rw (add-zero n) (sym (and-true (each n p)))
+each-split n (suc m) p =
+    rw (add-suc n m) (ap (λ b. b && p (n + m)) (each-split n m p) ∙ and-assoc (each n p) (each m (λ k. p (n + k))) (p (n + m)))
+
+pub count-more : (n : ℕ) (p : ℕ → Bool) → count (n + 1) p ≡ count n p + cond (p n) 1 0
+unfolding count
+count-more n p = rw (add-one n)
+
+pub count-max : (n : ℕ) (p : ℕ → Bool) → count n p ≤ n
+unfolding count
+count-max zero p = omega arith
+count-max (suc n) p = by (p n) (λ e. rw e (omega (arith, count-max n p))) (λ e. rw e (omega (arith, count-max n p)))
+
+pub count-same : (n : ℕ) (p r : ℕ → Bool) → ((k : ℕ) → k < n → p k ≡ r k) → count n p ≡ count n r
+unfolding count
+count-same zero p r h = refl
+count-same (suc n) p r h = ap₂ _+_ (count-same n p r (λ k l. h k (omega arith))) (ap (λ b. cond b 1 0) (h n (omega arith)))
