@@ -1,0 +1,1 @@
+pub fn read(x: u8) -> u8 { x }
