@@ -51,3 +51,7 @@ itemRow limit row most before v = first ((row, not (ltb v limit)) ∷ (8, ltb mo
 -- a run of numbers without its values
 unfoldable pub outcome : Numbers → Number
 outcome ns = record { refusal = ns .refusal; value = 0; place = ns .place }
+
+-- one more, where v is 1
+unfoldable pub oneMore : ℕ → ℕ → ℕ
+oneMore ones v = ones + cond (eqb v 1) 1 0
