@@ -56,13 +56,8 @@ runs from check m (suc k) before at =
 abbrev pub blank : Automaton
 blank =
     record {
-      states = 0;
-      symbols = 0;
-      capacity = 0;
-      initial = 0;
-      classes = replicate 16 0;
-      accepting = replicate 32 0;
-      next = replicate 512 0;
+      states = 0; symbols = 0; capacity = 0; initial = 0;
+      classes = replicate 16 0; accepting = replicate 32 0; next = replicate 512 0;
     }
 
 abbrev pub parsed : Automaton → Parsed
@@ -91,13 +86,8 @@ sheet from most end =
     cond (ltb at7 end)
     (refused 10 at7)
     (parsed (record {
-      states = n;
-      symbols = m;
-      capacity = b;
-      initial = q;
-      classes = pad 16 classes;
-      accepting = pad 32 flags;
-      next = pad 512 next;
+      states = n; symbols = m; capacity = b; initial = q;
+      classes = pad 16 classes; accepting = pad 32 flags; next = pad 512 next;
     }))
 
 -- what reading a sheet's bytes gives
