@@ -1,0 +1,4 @@
+pub mod Total
+pub mod Rounds
+pub mod Refining
+pub mod Largest
