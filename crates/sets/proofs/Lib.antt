@@ -2,3 +2,5 @@ pub mod Total
 pub mod Rounds
 pub mod Refining
 pub mod Largest
+pub mod Growth
+pub mod Paper
