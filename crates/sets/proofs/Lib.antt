@@ -4,3 +4,4 @@ pub mod Refining
 pub mod Largest
 pub mod Growth
 pub mod Paper
+pub mod Numbering
