@@ -5,3 +5,4 @@ pub mod Largest
 pub mod Growth
 pub mod Paper
 pub mod Numbering
+pub mod Tables

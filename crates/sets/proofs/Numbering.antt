@@ -1,10 +1,10 @@
 -- The numbering of buffers: the listing in the order of the numbers, and each number's buffer.
 use Prim.Native.Nat.{ℕ, zero, suc, _+_, _-_, _*_, _/_, _%_, _^_, _<_, _≤_}
-use mathlib.Core.Path.{_≡_, refl, sym, _∙_, ap, ap₂, subst}
+use mathlib.Core.Path.{_≡_, refl, sym, _∙_, ap, ap₂}
 use mathlib.Core.Logic.{_⊎_, inl, inr, _↔_}
-use mathlib.Core.Bool.{Bool, true, false, cond}
+use mathlib.Core.Bool.{true, cond}
 use mathlib.Core.List.{List, [], _∷_, _++_, map}
-use native.Mathlib.Nat.{pow-zero, pow-suc, mod-lt, div-add-mod', div-lt-iff-lt-mul, mul-zero, zero-mul, suc-mul, mul-comm, eq-zero-or-pos}
+use native.Mathlib.Nat.{pow-zero, pow-suc, mod-lt, div-add-mod', div-lt-iff-lt-mul, zero-mul, suc-mul, mul-comm, eq-zero-or-pos}
 use native.Mathlib.Omega.{arith}
 use lib.Dec.{eqb, ltb}
 use lib.Arith.{digits-lt}
@@ -94,8 +94,10 @@ module _ (a : Automaton) where
   symbols-listed (suc c) =
       let o : rank a c ≡ 0 + length (controllableTo a c) = omega (arith, controllableTo-length c) in
       joined 0 0 (controllableTo a c) (cond (controllable a c) (c ∷ []) []) (Symbol c) (λ e. (e ≡ c) × (controllable a e ≡ true)) (Symbol (suc c)) (rank a)
-      (λ e. (λ h. by (eqb e c) (λ t. inr (eqb-true e c t, h .1)) (λ f. inl (omega (arith, h .0, eqb-false e c f), h .1)),
-      λ h. either h (λ g. (omega (arith, g .0), g .1)) (λ g. (omega (arith, g .0), g .1))))
+      (λ e. (
+        λ h. by (eqb e c) (λ t. inr (eqb-true e c t, h .1)) (λ f. inl (omega (arith, h .0, eqb-false e c f), h .1)),
+        λ h. either h (λ g. (omega (arith, g .0), g .1)) (λ g. (omega (arith, g .0), g .1)),
+      ))
       (symbols-listed c) (rw o at (one-listed c))
 
   -- the buffers of length l, by value
@@ -147,8 +149,10 @@ module _ (a : Automaton) where
         let s = shorter-listed .holds i li in
         let parts : p ≡ j * length ws + i = sym (div-add-mod' p (length ws)) in
         let f : getD (extended symbols ws) p [] ≡ getD symbols j 0 ∷ getD ws i [] = ap (λ n. getD (extended symbols ws) n []) parts ∙ extended-at symbols ws j i lj li in
-        rw f (((r .0 .0, r .0 .1, s .0 .0), ap suc (s .0 .1)),
-        longer l (getD symbols j 0) (getD ws i []) (s .0 .1) ∙ ap₂ (λ x y. x * length ws + y) (r .1 ∙ omega arith) (s .1 ∙ omega arith) ∙ sym parts ∙ omega arith)
+        rw f (
+          ((r .0 .0, r .0 .1, s .0 .0), ap suc (s .0 .1)),
+          longer l (getD symbols j 0) (getD ws i []) (s .0 .1) ∙ ap₂ (λ x y. x * length ws + y) (r .1 ∙ omega arith) (s .1 ∙ omega arith) ∙ sym parts ∙ omega arith,
+        )
 
   none-place : (w : List ℕ) → Long 0 w → (i : ℕ) × (i < 1) × (value a w ≡ 0 + i) × (getD ([] ∷ []) i [] ≡ w)
   unfolding value
@@ -191,9 +195,25 @@ module _ (a : Automaton) where
   buffers-listed (suc b) =
       let o : shorter k (suc b) ≡ 0 + length (buffersTo a b) = omega (arith, buffersTo-length b) in
       joined [] 0 (buffersTo a b) (buffersAt a (suc b)) (UpTo b) (Long (suc b)) (UpTo (suc b)) (index a)
-      (λ w. (λ h. by (eqb (length w) (suc b)) (λ t. inr (h .0, eqb-true (length w) (suc b) t)) (λ f. inl (h .0, omega (arith, h .1, eqb-false (length w) (suc b) f))),
-      λ h. either h (λ g. (g .0, omega (arith, g .1))) (λ g. (g .0, omega (arith, g .1)))))
+      (λ w. (
+        λ h. by (eqb (length w) (suc b)) (λ t. inr (h .0, eqb-true (length w) (suc b) t)) (λ f. inl (h .0, omega (arith, h .1, eqb-false (length w) (suc b) f))),
+        λ h. either h (λ g. (g .0, omega (arith, g .1))) (λ g. (g .0, omega (arith, g .1))),
+      ))
       (buffers-listed b) (rw o at (level-listed (suc b)))
+
+  -- the place of one length among all, and of one symbol in a length
+  pub level-at : (b l i : ℕ) → l ≤ b → i < k ^ l → getD (buffersTo a b) (shorter k l + i) [] ≡ getD (buffersAt a l) i []
+  level-at b l i h lt =
+      let w = getD (buffersAt a l) i [] in
+      let r = level-listed l .holds i (omega (arith, buffersAt-length l)) in
+      let s = buffers-listed b .place w (r .0 .0, omega (arith, r .0 .1)) in
+      let e : shorter k l + i ≡ s .0 = omega (arith, r .1, s .2) in
+      rw e (s .3)
+
+  pub symbol-at : (l r i : ℕ) → r < k → i < k ^ l → getD (buffersAt a (suc l)) (r * k ^ l + i) [] ≡ getD symbols r 0 ∷ getD (buffersAt a l) i []
+  unfolding buffersAt
+  symbol-at l r i h lt =
+      rw (← buffersAt-length l) (extended-at symbols (buffersAt a l) r i (omega (arith, symbols-length)) (omega (arith, buffersAt-length l)))
 
 -- the buffers of the automaton
 module _ (a : Automaton) where

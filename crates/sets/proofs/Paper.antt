@@ -1,8 +1,8 @@
 -- Definition 6 of source document 000: the sets satisfy it, and nothing else does.
 use Prim.Native.Nat.{ℕ, zero, suc, _<_, _≤_}
 use mathlib.Core.Path.{_≡_, refl, ap, subst}
-use mathlib.Core.Logic.{_⊎_, inl, inr, _↔_, Iff·rfl}
-use mathlib.Core.Bool.{Bool, true}
+use mathlib.Core.Logic.{inl, inr, _↔_, Iff·rfl}
+use mathlib.Core.Bool.{Bool}
 use mathlib.Core.List.{List, [], _∷_, _++_}
 use native.Mathlib.Omega.{arith}
 use lib.ListN.{length}
@@ -12,7 +12,7 @@ use Rattle.automaton.specs.declared.Automaton.{Automaton}
 use Rattle.automaton.specs.Automaton.{step, run}
 use Rattle.sets.specs.Sets.{sets}
 use Rattle.sets.specs.Table.{Controllable}
-use Rattle.sets.specs.Definition6.{States, Union, In, Final, AllUncontrollable, Family, Maximum, Definition6}
+use Rattle.sets.specs.Definition6.{States, In, Final, AllUncontrollable, Family, Definition6}
 use Rattle.sets.specs.Claims.{Winning, Intermediate, SatisfyDefinition6, OnlyDefinition6}
 use Rattle.sets.proofs.Total.{Total, total}
 use Rattle.sets.proofs.Largest.{sets-are}
@@ -61,10 +61,11 @@ satisfy-definition6 a v =
       S-empty = λ q l. (λ h. (sets-are a [] .accepting q h .1, winning-stays a t q h), λ h. stays-winning a t q l (h .1));
       I-first = λ e σ _ q l. (λ h. intermediate-first a e σ q h .1, first-intermediate a e σ q l);
       S-last = λ σ e _.
-          let w = σ ++ e ∷ [] in
-          (has (sets a w .winning),
-          record { member = member a t w (Intermediate a w) (λ _ _. Iff·rfl); largest = within a t w (Intermediate a w) (λ _ _. Iff·rfl) },
-          λ q l. (inr, λ h. either h (winning-end a t σ e q) (λ x. x)));
+          let w = σ ++ e ∷ [] in (
+            has (sets a w .winning),
+            record { member = member a t w (Intermediate a w) (λ _ _. Iff·rfl); largest = within a t w (Intermediate a w) (λ _ _. Iff·rfl) },
+            λ q l. (inr, λ h. either h (winning-end a t σ e q) (λ x. x)),
+          );
     }
 
 -- a list by its last element
@@ -84,25 +85,30 @@ module _ (a : Automaton) (t : Total a) (S I : List ℕ → States) (d : Definiti
   same-first : (e : ℕ) (w : List ℕ) → Controllable a (e ∷ w) → Same w → (q : ℕ) → q < a .states → I (e ∷ w) q ↔ Intermediate a (e ∷ w) q
   same-first e w c s q l =
       let f = d .I-first e w c q l in
-      let r = s (step a q e) (t q e) in
-      (λ h. first-intermediate a e w q l (either (f .0 h) (λ x. inl (r .0 .0 x)) (λ y. inr (r .1 .0 y))),
-      λ h. f .1 (either (intermediate-first a e w q h .1) (λ x. inl (r .0 .1 x)) (λ y. inr (r .1 .1 y))))
+      let r = s (step a q e) (t q e) in (
+        λ h. first-intermediate a e w q l (either (f .0 h) (λ x. inl (r .0 .0 x)) (λ y. inr (r .1 .0 y))),
+        λ h. f .1 (either (intermediate-first a e w q h .1) (λ x. inl (r .0 .1 x)) (λ y. inr (r .1 .1 y))),
+      )
 
   same-last : (u : List ℕ) (e : ℕ) → Controllable a (u ++ e ∷ []) → Same u
       → ((q : ℕ) → q < a .states → I (u ++ e ∷ []) q ↔ Intermediate a (u ++ e ∷ []) q) → Same (u ++ e ∷ [])
   same-last u e c s i q l =
       let w = u ++ e ∷ [] in
-      let m = d .S-last u e c in
-      ((λ h. either (m .2 q l .0 h) (λ x. winning-end a t u e q (s q l .0 .0 x))
-      (within a t w (I w) i (m .0) (m .1 .member) q l),
-      λ h. m .2 q l .1 (inr (m .1 .largest (has (sets a w .winning)) (member a t w (I w) i) q l h))),
-      i q l)
+      let m = d .S-last u e c in (
+        (
+          λ h. either (m .2 q l .0 h) (λ x. winning-end a t u e q (s q l .0 .0 x))
+              (within a t w (I w) i (m .0) (m .1 .member) q l),
+          λ h. m .2 q l .1 (inr (m .1 .largest (has (sets a w .winning)) (member a t w (I w) i) q l h)),
+        ),
+        i q l,
+      )
 
   same-none : Same []
   same-none q l =
-      let s = d .S-empty q l in
-      ((λ h. stays-winning a t q l (s .0 h .1), λ h. s .1 (sets-are a [] .accepting q h .1, winning-stays a t q h)),
-      (λ h. absurd (d .I-empty q l h), λ h. absurd (none-intermediate a q h)))
+      let s = d .S-empty q l in (
+        (λ h. stays-winning a t q l (s .0 h .1), λ h. s .1 (sets-are a [] .accepting q h .1, winning-stays a t q h)),
+        (λ h. absurd (d .I-empty q l h), λ h. absurd (none-intermediate a q h)),
+      )
 
   same : (n : ℕ) (w : List ℕ) → length w ≤ n → Controllable a w → Same w
   same zero [] b c = same-none

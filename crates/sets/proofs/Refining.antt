@@ -1,9 +1,8 @@
 -- Laws of one round.
 use Prim.Native.Nat.{ℕ, _^_, _<_, _≤_}
-use mathlib.Core.Path.{_≡_, refl, sym, _∙_, ap}
+use mathlib.Core.Path.{_≡_}
 use mathlib.Core.Logic.{_⊎_, inl, inr}
-use mathlib.Core.Bool.{Bool, true, false, not, _&&_, _||_}
-use native.Mathlib.Omega.{arith}
+use mathlib.Core.Bool.{Bool, true, false, _&&_, _||_}
 use Rattle.base.specs.Each.{count}
 use Rattle.base.specs.Masks.{has}
 use Rattle.base.proofs.Bools.{by, either, clash, and-left, and-right, and-both, and-none, or-some, or-left, or-right, or-neither}

@@ -1,8 +1,7 @@
 -- Rounds until one strikes nothing.
 use Prim.Native.Nat.{ℕ, zero, suc, _+_, _<_, _≤_}
 use mathlib.Core.Path.{_≡_, refl, sym, _∙_, ap}
-use mathlib.Core.Bool.{cond}
-use native.Mathlib.Nat.{add-zero, zero-add, add-assoc}
+use native.Mathlib.Nat.{add-zero}
 use native.Mathlib.Omega.{arith}
 use lib.Dec.{eqb}
 use borrow.Author.Tests.{eqb-true, eqb-false, eq-eqb, ne-eqb}
@@ -15,6 +14,11 @@ more r s = record { set = s .set; rounds = r + s .rounds }
 
 equal : {s t : Settled} → s .set ≡ t .set → s .rounds ≡ t .rounds → s ≡ t
 equal a b = λ j. record { set = a j; rounds = b j }
+
+-- a loop of rounds: what is settled on from the start is what is settled on from here, with the rounds that struck
+pub record Striking (round : ℕ → ℕ) (from set rounds : ℕ) : Type 0 where
+  pub so-far : settle round from from ≡ more rounds (settle round set set)
+  pub few : rounds + set ≤ from
 
 module _ (round : ℕ → ℕ) where
   pub settle-stops : (k x : ℕ) → round x ≡ x → settle round k x ≡ record { set = x; rounds = 0 }
@@ -37,6 +41,9 @@ module _ (round : ℕ → ℕ) where
       (λ e.
       let one : r + (settle round k (round x) .rounds + 1) ≡ r + 1 + settle round k (round x) .rounds = omega arith in
       rw (e, one) (settle-keeps P keep k (r + 1) (round x) (keep r x (eqb-false (round x) x e) h)))
+
+  pub strike-none : (x : ℕ) → Striking round x x 0
+  strike-none x = record { so-far = equal refl (omega arith); few = omega arith }
 
   module _ (less : (x : ℕ) → round x ≤ x) where
     -- the fuel does not matter where there is enough
@@ -61,19 +68,11 @@ module _ (round : ℕ → ℕ) where
         (λ e. let f = eqb-true (round x) x e in rw (settle-stops (suc k) x f) f)
         (λ e. let f = eqb-false (round x) x e in rw (settle-strikes k x f) (settle-fixed k (round x) (omega (arith, less x))))
 
-    -- a loop of rounds: what was settled on is what is settled on from here, with the rounds that struck
-    pub record Striking (from set rounds : ℕ) : Type 0 where
-      pub so-far : settle round from from ≡ more rounds (settle round set set)
-      pub few : rounds + set ≤ from
-
-    pub strike-none : (x : ℕ) → Striking x x 0
-    strike-none x = record { so-far = equal refl (omega arith); few = omega arith }
-
-    module _ (from set rounds kept : ℕ) (s : Striking from set rounds) (one : kept ≡ round set) where
+    module _ (from set rounds kept : ℕ) (s : Striking round from set rounds) (one : kept ≡ round set) where
       pub strike-smaller : (kept ≡ set → ⊥) → kept < set
       strike-smaller h = omega (arith, less set, h)
 
-      pub strike-more : (kept ≡ set → ⊥) → Striking from kept (rounds + 1)
+      pub strike-more : (kept ≡ set → ⊥) → Striking round from kept (rounds + 1)
       strike-more h =
           let fall = strike-smaller h in
           let turn = settle-fuel set (suc set) set (omega arith) (omega arith) ∙ settle-strikes set set (λ e. h (one ∙ e)) in
