@@ -18,7 +18,7 @@ use Rattle.automaton.specs.Automaton.{controllable, controllables}
 use Rattle.sets.specs.Table.{rank, value, shorter, index, buffersCount, Controllable, Buffer, controllableTo, extended, buffersAt, buffersTo}
 use Rattle.sets.specs.Claims.{Numbered, OneToOne, Onto}
 
--- The list has each x of P, and nothing else, at the place that is its number less o.
+-- The list has each x of P, and nothing else, at its number less o.
 module _ {A : Type 0} (d : A) where
   pub record Listing (o : ℕ) (l : List A) (P : A → Type 0) (number : A → ℕ) : Type 0 where
     pub place : (x : A) → P x → (i : ℕ) × (i < length l) × (number x ≡ o + i) × (getD l i d ≡ x)
@@ -43,7 +43,7 @@ module _ {A : Type 0} (d : A) where
         rw f (same (getD m (i - length l) d) .1 (inr (r .0)), omega (arith, r .1)));
   }
 
-pub getD-map : {A B : Type 0} (f : A → B) (l : List A) (i : ℕ) (d : A) (b : B) → i < length l → getD (map f l) i b ≡ f (getD l i d)
+getD-map : {A B : Type 0} (f : A → B) (l : List A) (i : ℕ) (d : A) (b : B) → i < length l → getD (map f l) i b ≡ f (getD l i d)
 getD-map f [] i d b h = absurd (omega arith)
 getD-map f (x ∷ l) zero d b h = refl
 getD-map f (x ∷ l) (suc i) d b h = getD-map f l i d b (omega arith)
@@ -100,17 +100,17 @@ module _ (a : Automaton) where
       ))
       (symbols-listed c) (rw o at (one-listed c))
 
-  -- the buffers of length l, by value
   abbrev k : ℕ
   k = controllables a
 
   abbrev symbols : List ℕ
   symbols = controllableTo a (a .symbols)
 
-  symbols-length : length symbols ≡ k
+  pub symbols-length : length symbols ≡ k
   unfolding rank controllables
   symbols-length = controllableTo-length (a .symbols)
 
+  -- the buffers of length l, by value
   pub buffersAt-length : (l : ℕ) → length (buffersAt a l) ≡ k ^ l
   unfolding buffersAt
   buffersAt-length zero = sym (pow-zero k)
@@ -201,7 +201,7 @@ module _ (a : Automaton) where
       ))
       (buffers-listed b) (rw o at (level-listed (suc b)))
 
-  -- the place of one length among all, and of one symbol in a length
+  -- where the buffers of one length stand among all, and those that begin with one symbol among them
   pub level-at : (b l i : ℕ) → l ≤ b → i < k ^ l → getD (buffersTo a b) (shorter k l + i) [] ≡ getD (buffersAt a l) i []
   level-at b l i h lt =
       let w = getD (buffersAt a l) i [] in

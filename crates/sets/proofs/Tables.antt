@@ -3,13 +3,13 @@ use Prim.Native.Nat.{ℕ, zero, suc, _+_, _*_, _<_}
 use mathlib.Core.Path.{_≡_, refl, _∙_, ap}
 use mathlib.Core.List.{List, [], _∷_, _++_, map}
 use native.Mathlib.Omega.{arith}
-use lib.ListN.{length, getD, length-append, length-map, List·getD-append}
+use lib.ListN.{length, getD, length-append, length-map, List·getD-append, List·getD-map}
 use Rattle.base.specs.Masks.{has}
 use Rattle.automaton.specs.declared.Automaton.{Automaton}
 use Rattle.sets.specs.Sets.{Sets, sets}
 use Rattle.sets.specs.Table.{index, buffersCount, Buffer, buffersTo, pairs, table}
 use Rattle.sets.specs.Claims.{TableIsSolved}
-use Rattle.sets.proofs.Numbering.{getD-map, buffers-length, buffer-at}
+use Rattle.sets.proofs.Numbering.{buffers-length, buffer-at}
 
 pub pairs-length : (ts : List Sets) → length (pairs ts) ≡ 2 * length ts
 unfolding pairs
@@ -42,7 +42,7 @@ module _ (a : Automaton) where
   table-at w b =
       let r = buffer-at a w b in
       let l : index a w < length buffers = omega (arith, r .0, buffers-length a) in
-      let e = getD-map (sets a) buffers (index a w) [] (sets a []) l ∙ ap (sets a) (r .1) in
+      let e = List·getD-map (sets a) buffers (index a w) [] ∙ ap (sets a) (r .1) in
       let p = pairs-at (map (sets a) buffers) (index a w) (sets a []) (rw length-map l) in
       (p .0 ∙ ap (λ t. t .winning) e, p .1 ∙ ap (λ t. t .intermediate) e)
 
