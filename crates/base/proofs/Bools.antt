@@ -25,6 +25,9 @@ pub and-right : (a b : Bool) → (a && b) ≡ true → b ≡ true
 and-right true b h = h
 and-right false b h = absurd (clash refl (sym h))
 
+pub and-pair : (a b : Bool) → (a && b) ≡ true → (a ≡ true) × (b ≡ true)
+and-pair a b h = (and-left a b h, and-right a b h)
+
 pub and-both : {a b : Bool} → a ≡ true → b ≡ true → (a && b) ≡ true
 and-both {a} {b} p q = rw (p, q)
 

@@ -1,4 +1,5 @@
 pub mod Bools
 pub mod Ranges
+pub mod Masks
 pub mod Refusals
 pub mod Padding
