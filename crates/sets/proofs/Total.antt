@@ -6,7 +6,7 @@ use native.Mathlib.Omega.{arith}
 use lib.ListN.{getD}
 use Rattle.automaton.specs.declared.Automaton.{Automaton}
 use Rattle.automaton.specs.Automaton.{step, valid}
-use Rattle.automaton.proofs.Valid.{valid-facts, step-high}
+use Rattle.automaton.proofs.Facts.{valid-facts, step-high}
 
 abbrev pub Total : Automaton → Type 0
 Total a = (q e : ℕ) → step a q e < a .states

@@ -1,0 +1,42 @@
+use lib.ListN.{length-set}
+use native.Mathlib.Omega.{arith}
+use borrow.Author.Needs.{needs}
+use Rattle.automaton.proofs.writing.store_four.Statement.{statement}
+use Rattle.automaton.proofs.writing.store_four.Tie as tie
+use Rattle.automaton.proofs.writing.store_four.Reads as reads
+use Rattle.automaton.proofs.writing.store_four.Lts as lts
+
+-- src/writing.rt:30:5
+slice-write-out : tie.Need-slice-write-out
+slice-write-out c = search needs
+
+-- src/writing.rt:31:5
+slice-write-out-2 : tie.Need-slice-write-out-2
+slice-write-out-2 c = simp length-set (omega arith)
+
+-- src/writing.rt:32:5
+slice-write-out-3 : tie.Need-slice-write-out-3
+slice-write-out-3 c = simp length-set (omega arith)
+
+-- src/writing.rt:33:5
+slice-write-out-4 : tie.Need-slice-write-out-4
+slice-write-out-4 c = search needs
+
+-- src/writing.rt:26:1
+same-length : tie.Need-same-length
+same-length c = search needs
+
+-- src/writing.rt:26:1
+returns : tie.Need-returns
+returns c = search needs
+
+pub store-four-spec : {M : Type 1} → statement M
+store-four-spec =
+    tie.close
+    (tie.spec
+    slice-write-out
+    slice-write-out-2
+    slice-write-out-3
+    slice-write-out-4
+    same-length
+    returns)
