@@ -1,0 +1,141 @@
+-- Reading numbers one after the other: what is read where nothing is refused, and what follows where nothing was.
+use Prim.Native.Nat.{ℕ, zero, suc, _+_, _-_, _*_, _<_, _≤_}
+use mathlib.Core.Path.{_≡_, refl, sym, _∙_, ap}
+use mathlib.Core.Bool.{Bool, true, false, cond}
+use mathlib.Core.List.{List, [], _∷_, _++_, append-assoc, append-nil}
+use lib.ListN.{length, getD, take, drop}
+use lib.Seq.{append-snoc}
+use lib.Dec.{eqb}
+use native.Mathlib.Omega.{arith}
+use borrow.Author.Tests.{eqb-true, eqb-false, eq-eqb}
+use Rattle.base.proofs.Bools.{by}
+use Rattle.varint.specs.declared.Number.{Number}
+use Rattle.varint.specs.Varint.{value, fault}
+use Rattle.automaton.specs.Automaton.{Automaton}
+use Rattle.automaton.specs.Reading.{Parsed, Numbers, checked, numbers, runs, one, many, parsed, refused}
+
+-- numbers that were read without a fault
+abbrev pub done : List ℕ → ℕ → Numbers
+done vs at = record { refusal = 0; place = at; values = vs }
+
+-- `from` reads the numbers vs one after the other, from a place up to another
+abbrev pub Follows : (ℕ → Number) → List ℕ → ℕ → ℕ → Type 0
+Follows from [] at stop = at ≡ stop
+Follows from (v ∷ vs) at stop = (next : ℕ) × (from at ≡ value v next) × Follows from vs next stop
+
+-- each of vs passes its check against those before it
+abbrev pub Passes : (List ℕ → ℕ → ℕ) → List ℕ → List ℕ → Type 0
+Passes check before vs = (i : ℕ) → i < length vs → check (before ++ take i vs) (getD vs i 0) ≡ 0
+
+-- without a refusal
+unrefused : (n : Number) → eqb (n .refusal) 0 ≡ true → n ≡ value (n .value) (n .place)
+unrefused n r = let e : n .refusal ≡ 0 = eqb-true (n .refusal) 0 r in λ i. record { refusal = e i; value = n .value; place = n .place }
+
+pub all-unrefused : (ns : Numbers) → eqb (ns .refusal) 0 ≡ true → ns ≡ done (ns .values) (ns .place)
+all-unrefused ns r = let e : ns .refusal ≡ 0 = eqb-true (ns .refusal) 0 r in λ i. record { refusal = e i; place = ns .place; values = ns .values }
+
+-- one number
+module _ (check : ℕ → ℕ) (at : ℕ) (n : Number) (v next : ℕ) where
+  pub checked-done : n ≡ value v next → check v ≡ 0 → checked check at n ≡ value v next
+  unfolding checked
+  checked-done e c = rw (e, c)
+
+  pub checked-read : checked check at n ≡ value v next → (n ≡ value v next) × (check v ≡ 0)
+  unfolding checked
+  checked-read h =
+      by (eqb (n .refusal) 0)
+      (λ r. by (eqb (check (n .value)) 0)
+      (λ c. let e : n ≡ value v next = rw (r, c) at h in (e, ap (λ m. check (m .value)) (sym e) ∙ eqb-true (check (n .value)) 0 c))
+      (λ c. absurd (eqb-false (check (n .value)) 0 c (ap (λ m. m .refusal) (rw (r, c) at h)))))
+      (λ r. absurd (eqb-false (n .refusal) 0 r (ap (λ m. m .refusal) (rw r at h))))
+
+-- a number, or numbers, and then the rest
+pub one-done : (n : Number) (go : ℕ → ℕ → Parsed) (v next : ℕ) → n ≡ value v next → one n go ≡ go v next
+unfolding one
+one-done n go v next e = rw e
+
+pub one-parsed : (n : Number) (go : ℕ → ℕ → Parsed) (a : Automaton) → one n go ≡ parsed a
+    → (n ≡ value (n .value) (n .place)) × (go (n .value) (n .place) ≡ parsed a)
+unfolding one
+one-parsed n go a h =
+    by (eqb (n .refusal) 0)
+    (λ r. (unrefused n r, rw r at h))
+    (λ r. absurd (eqb-false (n .refusal) 0 r (ap (λ p. p .refusal) (rw r at h))))
+
+pub many-done : (ns : Numbers) (go : List ℕ → ℕ → Parsed) (vs : List ℕ) (next : ℕ) → ns ≡ done vs next → many ns go ≡ go vs next
+unfolding many
+many-done ns go vs next e = rw e
+
+pub many-parsed : (ns : Numbers) (go : List ℕ → ℕ → Parsed) (a : Automaton) → many ns go ≡ parsed a
+    → (ns ≡ done (ns .values) (ns .place)) × (go (ns .values) (ns .place) ≡ parsed a)
+unfolding many
+many-parsed ns go a h =
+    by (eqb (ns .refusal) 0)
+    (λ r. (all-unrefused ns r, rw r at h))
+    (λ r. absurd (eqb-false (ns .refusal) 0 r (ap (λ p. p .refusal) (rw r at h))))
+
+module _ (check : List ℕ → ℕ → ℕ) (before : List ℕ) (v : ℕ) (vs : List ℕ) where
+  passes-head : Passes check before (v ∷ vs) → check before v ≡ 0
+  passes-head h = rw append-nil at (h 0 (omega arith))
+
+  passes-tail : Passes check before (v ∷ vs) → Passes check (before ++ v ∷ []) vs
+  passes-tail h i l = rw (append-snoc before v (take i vs)) (h (suc i) (omega arith))
+
+  passes-cons : check before v ≡ 0 → Passes check (before ++ v ∷ []) vs → Passes check before (v ∷ vs)
+  passes-cons c h zero l = rw (append-nil before) c
+  passes-cons c h (suc i) l = rw (append-snoc before v (take i vs)) at (h i (omega arith))
+
+-- what was read where nothing was refused: vs, from a place up to another
+pub record Section (from : ℕ → Number) (check : List ℕ → ℕ → ℕ) (before : List ℕ) (k : ℕ) (all : List ℕ) (at stop : ℕ) : Type 0 where
+  pub vs : List ℕ
+  pub all-eq : before ++ vs ≡ all
+  pub vs-length : length vs ≡ k
+  pub follows : Follows from vs at stop
+  pub passes : Passes check before vs
+
+module _ (from : ℕ → Number) where
+  pub follows-append : (xs ys : List ℕ) (at mid stop : ℕ) → Follows from xs at mid → Follows from ys mid stop → Follows from (xs ++ ys) at stop
+  follows-append [] ys at mid stop f g = rw f g
+  follows-append (x ∷ xs) ys at mid stop f g = (f .0, f .1, follows-append xs ys (f .0) mid stop (f .2) g)
+
+  pub follows-split : (xs ys : List ℕ) (at stop : ℕ) → Follows from (xs ++ ys) at stop → (mid : ℕ) × Follows from xs at mid × Follows from ys mid stop
+  follows-split [] ys at stop f = (at, refl, f)
+  follows-split (x ∷ xs) ys at stop f =
+      let r = follows-split xs ys (f .0) stop (f .2) in
+      (r .0, (f .0, f .1, r .1), r .2)
+
+  module _ (check : List ℕ → ℕ → ℕ) where
+    pub numbers-done : (vs before : List ℕ) (at stop : ℕ) → Follows from vs at stop → Passes check before vs
+        → numbers from check (length vs) before at ≡ done (before ++ vs) stop
+    unfolding numbers
+    numbers-done [] before at stop f h = rw (f, append-nil before)
+    numbers-done (v ∷ vs) before at stop f h =
+        rw (checked-done (check before) at (from at) v (f .0) (f .1) (passes-head check before v vs h), ← append-snoc before v vs)
+        (numbers-done vs (before ++ v ∷ []) (f .0) stop (f .2) (passes-tail check before v vs h))
+
+    section-cons : {before all : List ℕ} {k at v next stop : ℕ} → from at ≡ value v next → check before v ≡ 0
+        → Section from check (before ++ v ∷ []) k all next stop → Section from check before (suc k) all at stop
+    section-cons {before} {v = v} {next = next} e c s =
+        record {
+          vs = v ∷ s .vs;
+          all-eq = sym (append-snoc before v (s .vs)) ∙ s .all-eq;
+          vs-length = ap suc (s .vs-length);
+          follows = (next, e, s .follows);
+          passes = passes-cons check before v (s .vs) c (s .passes);
+        }
+
+    pub numbers-read : (k : ℕ) (before all : List ℕ) (at stop : ℕ) → numbers from check k before at ≡ done all stop
+        → Section from check before k all at stop
+    unfolding numbers
+    numbers-read zero before all at stop h =
+        record {
+          vs = []; all-eq = append-nil before ∙ ap (λ n. n .values) h; vs-length = refl; follows = ap (λ n. n .place) h;
+          passes = λ i l. absurd (omega arith);
+        }
+    numbers-read (suc k) before all at stop h =
+        let n : Number = checked (check before) at (from at) in
+        by (eqb (n .refusal) 0)
+        (λ r.
+        let c = checked-read (check before) at (from at) (n .value) (n .place) (unrefused n r) in
+        section-cons (c .0) (c .1) (numbers-read k (before ++ n .value ∷ []) all (n .place) stop (rw r at h)))
+        (λ r. absurd (eqb-false (n .refusal) 0 r (ap (λ m. m .refusal) (rw r at h))))
