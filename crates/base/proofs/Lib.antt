@@ -2,3 +2,4 @@ pub mod Bools
 pub mod Ranges
 pub mod Refusals
 pub mod Padding
+pub mod Every

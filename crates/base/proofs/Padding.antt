@@ -10,6 +10,7 @@ use lib.Dec.{ltb}
 use borrow.Author.Tests.{ltb-true, ltb-false}
 use Rattle.base.specs.Pad.{pad}
 use Rattle.base.proofs.Bools.{by}
+use Rattle.base.proofs.Every.{Every}
 
 pub pad-length : (n : ℕ) (l : List ℕ) → length l ≤ n → length (pad n l) ≡ n
 unfolding pad
@@ -57,3 +58,10 @@ pad-take n m l long h zeros =
 pub take-pad : (n : ℕ) (l : List ℕ) → take (length l) (pad n l) ≡ l
 unfolding pad
 take-pad n l = take-append-seam l (replicate (n - length l) 0)
+
+-- a fact of 0 and of every number of the list
+pub pad-every : (P : ℕ → Type 0) (n : ℕ) (l : List ℕ) → P 0 → Every P l → (i : ℕ) → P (getD (pad n l) i 0)
+pad-every P n l z f i =
+    by (ltb i (length l))
+    (λ u. let h : i < length l = ltb-true i (length l) u in rw (pad-inside n l i h) (f i h))
+    (λ u. rw (pad-outside n l i (ltb-false i (length l) u)) z)
