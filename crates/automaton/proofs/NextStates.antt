@@ -4,7 +4,7 @@ use mathlib.Core.Path.{_≡_, refl, sym, _∙_, ap}
 use mathlib.Core.Bool.{Bool, true, false}
 use mathlib.Core.List.{List, [], _∷_, _++_, append-assoc, append-nil}
 use lib.ListN.{length, getD, take, drop, length-append, length-drop, take-append-drop, drop-of-length-le, List·getD-append}
-use lib.Seq.{length-take-le, getD-take, getD-drop, getD-append-add, take-append-le, take-take, take-at, drop-at, drop-drop}
+use lib.Seq.{length-take-le, getD-take, getD-drop, getD-append-add, take-append-le, drop-append-le, take-take, take-at, drop-at, drop-drop}
 use lib.Dec.{eqb}
 use native.Mathlib.Omega.{arith}
 use borrow.Author.Tests.{eqb-false}
@@ -25,6 +25,17 @@ next-first next m (suc k) =
     rw (e, ← drop-drop (k * 16) 16 next)
     (ap (λ l. l ++ take m (drop (k * 16) (drop 16 next))) (next-first next m k) ∙
     append-assoc (take m next) (nextNumbers (drop 16 next) m k) (take m (drop (k * 16) (drop 16 next))))
+
+-- what stands after the rows does not matter
+pub next-prefix : (l rest : List ℕ) (m k : ℕ) → m ≤ 16 → k * 16 ≤ length l → nextNumbers (l ++ rest) m k ≡ nextNumbers l m k
+unfolding nextNumbers
+next-prefix l rest m zero small h = refl
+next-prefix l rest m (suc k) small h =
+    let inside : m ≤ length (drop (k * 16) l) = rw (length-drop (k * 16) l) (omega arith) in
+    rw
+    (next-prefix l rest m k small (omega arith),
+    drop-append-le (k * 16) l rest (omega arith),
+    take-append-le m (drop (k * 16) l) rest inside)
 
 -- of the places of a row the first m pass the check, and the others are 0
 abbrev pub Place : ℕ → (ℕ → ℕ) → ℕ → ℕ → Type 0

@@ -36,11 +36,11 @@ all-unrefused ns r = let e : ns .refusal ≡ 0 = eqb-true (ns .refusal) 0 r in �
 
 -- one number
 module _ (check : ℕ → ℕ) (at : ℕ) (n : Number) (v next : ℕ) where
-  pub checked-done : n ≡ value v next → check v ≡ 0 → checked check at n ≡ value v next
+  checked-done : n ≡ value v next → check v ≡ 0 → checked check at n ≡ value v next
   unfolding checked
   checked-done e c = rw (e, c)
 
-  pub checked-read : checked check at n ≡ value v next → (n ≡ value v next) × (check v ≡ 0)
+  checked-read : checked check at n ≡ value v next → (n ≡ value v next) × (check v ≡ 0)
   unfolding checked
   checked-read h =
       by (eqb (n .refusal) 0)
@@ -49,30 +49,34 @@ module _ (check : ℕ → ℕ) (at : ℕ) (n : Number) (v next : ℕ) where
       (λ c. absurd (eqb-false (check (n .value)) 0 c (ap (λ m. m .refusal) (rw (r, c) at h)))))
       (λ r. absurd (eqb-false (n .refusal) 0 r (ap (λ m. m .refusal) (rw r at h))))
 
--- a number, or numbers, and then the rest
-pub one-done : (n : Number) (go : ℕ → ℕ → Parsed) (v next : ℕ) → n ≡ value v next → one n go ≡ go v next
-unfolding one
-one-done n go v next e = rw e
+-- a number, and then the rest
+module _ (check : ℕ → ℕ) (at : ℕ) (n : Number) (go : ℕ → ℕ → Parsed) where
+  pub one-done : (v next : ℕ) → n ≡ value v next → check v ≡ 0 → one (checked check at n) go ≡ go v next
+  unfolding one
+  one-done v next e c = rw (checked-done check at n v next e c)
 
-pub one-parsed : (n : Number) (go : ℕ → ℕ → Parsed) (a : Automaton) → one n go ≡ parsed a
-    → (n ≡ value (n .value) (n .place)) × (go (n .value) (n .place) ≡ parsed a)
-unfolding one
-one-parsed n go a h =
-    by (eqb (n .refusal) 0)
-    (λ r. (unrefused n r, rw r at h))
-    (λ r. absurd (eqb-false (n .refusal) 0 r (ap (λ p. p .refusal) (rw r at h))))
+  pub one-read {ℓ} : {C : Type ℓ} (a : Automaton) → one (checked check at n) go ≡ parsed a
+      → ((v next : ℕ) → n ≡ value v next → check v ≡ 0 → go v next ≡ parsed a → C) → C
+  unfolding one
+  one-read a h use′ =
+      let m : Number = checked check at n in
+      by (eqb (m .refusal) 0)
+      (λ r. let c = checked-read check at n (m .value) (m .place) (unrefused m r) in use′ (m .value) (m .place) (c .0) (c .1) (rw r at h))
+      (λ r. absurd (eqb-false (m .refusal) 0 r (ap (λ p. p .refusal) (rw r at h))))
 
-pub many-done : (ns : Numbers) (go : List ℕ → ℕ → Parsed) (vs : List ℕ) (next : ℕ) → ns ≡ done vs next → many ns go ≡ go vs next
-unfolding many
-many-done ns go vs next e = rw e
+-- numbers, and then the rest
+module _ (ns : Numbers) (go : List ℕ → ℕ → Parsed) where
+  pub many-done : (vs : List ℕ) (next : ℕ) → ns ≡ done vs next → many ns go ≡ go vs next
+  unfolding many
+  many-done vs next e = rw e
 
-pub many-parsed : (ns : Numbers) (go : List ℕ → ℕ → Parsed) (a : Automaton) → many ns go ≡ parsed a
-    → (ns ≡ done (ns .values) (ns .place)) × (go (ns .values) (ns .place) ≡ parsed a)
-unfolding many
-many-parsed ns go a h =
-    by (eqb (ns .refusal) 0)
-    (λ r. (all-unrefused ns r, rw r at h))
-    (λ r. absurd (eqb-false (ns .refusal) 0 r (ap (λ p. p .refusal) (rw r at h))))
+  pub many-read {ℓ} : {C : Type ℓ} (a : Automaton) → many ns go ≡ parsed a
+      → ((vs : List ℕ) (next : ℕ) → ns ≡ done vs next → go vs next ≡ parsed a → C) → C
+  unfolding many
+  many-read a h use′ =
+      by (eqb (ns .refusal) 0)
+      (λ r. use′ (ns .values) (ns .place) (all-unrefused ns r) (rw r at h))
+      (λ r. absurd (eqb-false (ns .refusal) 0 r (ap (λ p. p .refusal) (rw r at h))))
 
 module _ (check : List ℕ → ℕ → ℕ) (before : List ℕ) (v : ℕ) (vs : List ℕ) where
   passes-head : Passes check before (v ∷ vs) → check before v ≡ 0
