@@ -1,6 +1,6 @@
 -- The next states: read row by row and kept in 16 places for each state.
 use Prim.Native.Nat.{ℕ, zero, suc, _+_, _-_, _*_, _<_, _≤_}
-use mathlib.Core.Path.{_≡_, refl, sym, _∙_, ap}
+use mathlib.Core.Path.{_≡_, refl, sym, _∙_, ap, subst}
 use mathlib.Core.Bool.{Bool, true, false}
 use mathlib.Core.List.{List, [], _∷_, _++_, append-assoc, append-nil}
 use lib.ListN.{length, getD, take, drop, length-append, length-drop, take-append-drop, drop-of-length-le, List·getD-append}
@@ -14,7 +14,7 @@ use Rattle.base.proofs.Padding.{pad-length, pad-inside, pad-outside, pad-take, 
 use Rattle.varint.specs.declared.Number.{Number}
 use Rattle.automaton.specs.Reading.{Numbers, numbers, runs}
 use Rattle.automaton.specs.Writing.{nextNumbers}
-use Rattle.automaton.proofs.Sections.{done, Follows, Passes, Section, all-unrefused, follows-append, follows-split, numbers-done, numbers-read}
+use Rattle.automaton.proofs.Sections.{done, Follows, Passes, all-unrefused, follows-append, follows-split, numbers-done, numbers-all}
 
 -- the first row, and the rows after it
 pub next-first : (next : List ℕ) (m k : ℕ) → nextNumbers next m (suc k) ≡ take m next ++ nextNumbers (drop 16 next) m k
@@ -110,30 +110,30 @@ module _ (m : ℕ) (check : ℕ → ℕ) (small : m ≤ 16) where
         rw (append-assoc before (take 16 l) (drop 16 l), take-append-drop 16 l))
 
 -- what was read in k runs where nothing was refused
-pub record Runs (from : ℕ → Number) (m : ℕ) (check : ℕ → ℕ) (before : List ℕ) (k : ℕ) (all : List ℕ) (at stop : ℕ) : Type 0 where
-  pub vs : List ℕ
-  pub all-eq : before ++ vs ≡ all
-  pub rows : Rows m check k vs
-  pub follows : Follows from (nextNumbers vs m k) at stop
+record Runs (from : ℕ → Number) (m : ℕ) (check : ℕ → ℕ) (before : List ℕ) (k : ℕ) (all : List ℕ) (at stop : ℕ) : Type 0 where
+  vs : List ℕ
+  all-eq : before ++ vs ≡ all
+  rows : Rows m check k vs
+  follows : Follows from (nextNumbers vs m k) at stop
 
 module _ (m : ℕ) (check : ℕ → ℕ) (small : m ≤ 16) (from : ℕ → Number) where
-  runs-cons : {before row all : List ℕ} {k at mid stop : ℕ} → Section from (λ _. check) [] m row at mid
+  runs-cons : {before row all : List ℕ} {k at mid stop : ℕ} → numbers from (λ _. check) m [] at ≡ done row mid
       → Runs from m check (before ++ pad 16 row) k all mid stop → Runs from m check before (suc k) all at stop
-  runs-cons {before} {row} {all} {k} {at} {mid} {stop} s r =
-      let row-eq : s .vs ≡ row = s .all-eq in
-      let long : length row ≡ m = ap length (sym row-eq) ∙ s .vs-length in
+  runs-cons {before} {row} {all} {k} {at} {mid} {stop} h r =
+      let s = numbers-all from (λ _. check) m row at mid h in
+      let long : length row ≡ m = s .0 in
       let padded : length (pad 16 row) ≡ 16 = pad-length 16 row (omega arith) in
       let first : take m (pad 16 row ++ r .vs) ≡ row = take-append-le m (pad 16 row) (r .vs) (omega arith) ∙ rw (← long) (take-pad 16 row) in
       record {
         vs = pad 16 row ++ r .vs;
         all-eq = sym (append-assoc before (pad 16 row) (r .vs)) ∙ r .all-eq;
-        rows = rows-cons m check small k row (r .vs) long (rw row-eq at (s .passes)) (r .rows);
+        rows = rows-cons m check small k row (r .vs) long (s .2) (r .rows);
         follows =
             rw (next-first (pad 16 row ++ r .vs) m k, first, drop-at (pad 16 row) (r .vs) 16 padded)
-            (follows-append from row (nextNumbers (r .vs) m k) at mid stop (rw row-eq at (s .follows)) (r .follows));
+            (follows-append from row (nextNumbers (r .vs) m k) at mid stop (s .1) (r .follows));
       }
 
-  pub runs-read : (k : ℕ) (before all : List ℕ) (at stop : ℕ) → runs from check m k before at ≡ done all stop
+  runs-read : (k : ℕ) (before all : List ℕ) (at stop : ℕ) → runs from check m k before at ≡ done all stop
       → Runs from m check before k all at stop
   unfolding runs nextNumbers
   runs-read zero before all at stop h =
@@ -144,8 +144,12 @@ module _ (m : ℕ) (check : ℕ → ℕ) (small : m ≤ 16) (from : ℕ → Numb
   runs-read (suc k) before all at stop h =
       let row : Numbers = numbers from (λ _. check) m [] at in
       by (eqb (row .refusal) 0)
-      (λ r.
-      runs-cons
-      (numbers-read from (λ _. check) m [] (row .values) at (row .place) (all-unrefused row r))
-      (runs-read k (before ++ pad 16 (row .values)) all (row .place) stop (rw r at h)))
+      (λ r. runs-cons (all-unrefused row r) (runs-read k (before ++ pad 16 (row .values)) all (row .place) stop (rw r at h)))
       (λ r. absurd (eqb-false (row .refusal) 0 r (ap (λ m. m .refusal) (rw r at h))))
+
+  -- where nothing stands before them
+  pub runs-all : (k : ℕ) (vs : List ℕ) (at stop : ℕ) → runs from check m k [] at ≡ done vs stop
+      → Rows m check k vs × Follows from (nextNumbers vs m k) at stop
+  runs-all k vs at stop h =
+      let s = runs-read k [] vs at stop h in
+      subst (λ l. Rows m check k l × Follows from (nextNumbers l m k) at stop) (s .all-eq) (s .rows, s .follows)

@@ -1,9 +1,9 @@
 -- An automaton is what is read where its numbers stand in their order and nothing follows them, and only there.
 use Prim.Native.Nat.{ℕ, zero, suc, _+_, _-_, _*_, _/_, _%_, _<_, _≤_}
-use mathlib.Core.Path.{_≡_, refl, sym, _∙_, ap}
+use mathlib.Core.Path.{_≡_, refl, sym, _∙_, ap, subst}
 use mathlib.Core.Bool.{Bool, true, false, cond}
 use mathlib.Core.List.{List, [], _∷_, _++_}
-use lib.ListN.{length, getD, take, drop, take-append-drop, length-take, length-drop}
+use lib.ListN.{length, getD, take, drop, replicate, take-append-drop}
 use lib.Seq.{length-take-le, getD-take, getD-drop}
 use lib.Dec.{eqb, ltb}
 use native.Mathlib.Omega.{arith}
@@ -19,8 +19,8 @@ use Rattle.automaton.specs.Automaton.{Automaton, class, controllable, co
 use Rattle.automaton.specs.Reading.{Parsed, Numbers, checked, between, classRow, tally, numbers, runs, one, many, parsed, refused, sheet}
 use Rattle.automaton.specs.Writing.{nextNumbers, sheetNumbers}
 use Rattle.automaton.proofs.Valid.{Valid}
-use Rattle.automaton.proofs.Sections.{done, Follows, Passes, Section, one-done, one-read, many-done, many-read, follows-append, follows-split, numbers-done, numbers-read}
-use Rattle.automaton.proofs.NextStates.{Rows, Runs, next-prefix, runs-done, runs-read}
+use Rattle.automaton.proofs.Sections.{done, Follows, Passes, one-done, one-read, many-done, many-read, follows-append, follows-split, numbers-done, numbers-all}
+use Rattle.automaton.proofs.NextStates.{Rows, next-prefix, runs-done, runs-all}
 use Rattle.automaton.proofs.Checks.{between-passes, between-passed, class-passed, classes-pass, classes-tally, tally-count}
 
 module _ (a : Automaton) (v : Valid a) where
@@ -107,12 +107,19 @@ module _ (a : Automaton) (v : Valid a) where
         many-done _ _ states stop (states-done _ stop (s6 .2)) ∙
         rw (le-ltb stop end h, classes-padded, flags-padded, states-padded)
 
+-- what stands where an automaton was read
+pub record Standing (from : ℕ → Number) (end : ℕ) (a : Automaton) : Type 0 where
+  pub valid : Valid a
+  pub stop : ℕ
+  pub follows : Follows from (sheetNumbers a) 0 stop
+  pub reaches : end ≤ stop
+
 -- what the arrays hold after reading
 module _ (n m b q : ℕ) (cs fs vs : List ℕ) where
   abbrev made : Automaton
   made = record { states = n; symbols = m; capacity = b; initial = q; classes = pad 16 cs; accepting = pad 32 fs; next = pad 512 vs }
 
-  module _ (n1 : 1 ≤ n) (n2 : n < 33) (m1 : 1 ≤ m) (m2 : m < 17) (b1 : 1 ≤ b) (b2 : b < 7) (q1 : q < n)
+  module _ (hn : (1 ≤ n) × (n < 33)) (hm : (1 ≤ m) × (m < 17)) (hb : (1 ≤ b) × (b < 7)) (hq : q < n)
       (lc : length cs ≡ m) (pc : Passes (classRow 1) [] cs) (lf : length fs ≡ n) (pf : Passes (λ _. between 0 2 7) [] fs)
       (r : Rows m (between 0 n 9) n vs) where
     made-count : controllables made ≤ 8
@@ -135,8 +142,8 @@ module _ (n m b q : ℕ) (cs fs vs : List ℕ) where
           classes-length = pad-length 16 cs (omega arith);
           accepting-length = pad-length 32 fs (omega arith);
           next-length = pad-length 512 vs (omega (arith, r .rows-length));
-          states-low = n1; states-high = omega arith; symbols-low = m1; symbols-high = omega arith;
-          capacity-low = b1; capacity-high = omega arith; initial-below = q1;
+          states-low = hn .0; states-high = omega arith; symbols-low = hm .0; symbols-high = omega arith;
+          capacity-low = hb .0; capacity-high = omega arith; initial-below = hq;
           class-high = pad-every (λ c. c ≤ 1) 16 cs (omega arith) (λ i h. class-passed 1 (take i cs) (getD cs i 0) (pc i h) .0);
           class-unused = λ e h. pad-outside 16 cs e (omega arith);
           controllables-high = made-count;
@@ -149,3 +156,40 @@ module _ (n m b q : ℕ) (cs fs vs : List ℕ) where
               (λ u. let w : s < n = ltb-true s n u in rw (made-next (s * 16 + e) (omega arith)) (r .place s e w le .1 ls))
               (λ u. made-after (s * 16 + e) (omega (arith, ltb-false s n u)));
         }
+
+    made-numbers : sheetNumbers made ≡ n ∷ m ∷ b ∷ q ∷ (cs ++ (fs ++ nextNumbers vs m n))
+    unfolding sheetNumbers pad
+    made-numbers =
+        let c : take m (pad 16 cs) ≡ cs = rw (← lc) (take-pad 16 cs) in
+        let f : take n (pad 32 fs) ≡ fs = rw (← lf) (take-pad 32 fs) in
+        let s : nextNumbers (pad 512 vs) m n ≡ nextNumbers vs m n = next-prefix vs (replicate (512 - length vs) 0) m n (omega arith) (omega (arith, r .rows-length)) in
+        rw (c, f, s)
+
+    made-standing : (from : ℕ → Number) (end stop : ℕ) → Follows from (n ∷ m ∷ b ∷ q ∷ (cs ++ (fs ++ nextNumbers vs m n))) 0 stop → end ≤ stop
+        → Standing from end made
+    made-standing from end stop f h =
+        record { valid = made-valid; stop = stop; follows = subst (λ l. Follows from l 0 stop) (sym made-numbers) f; reaches = h }
+
+pub parsed-facts : (from : ℕ → Number) (end : ℕ) (a : Automaton) → sheet from 1 end ≡ parsed a → Standing from end a
+unfolding sheet
+parsed-facts from end a h =
+    one-read _ _ _ _ a h λ n at1 e1 c1 h1.
+    one-read _ _ _ _ a h1 λ m at2 e2 c2 h2.
+    one-read _ _ _ _ a h2 λ b at3 e3 c3 h3.
+    one-read _ _ _ _ a h3 λ q at4 e4 c4 h4.
+    many-read _ _ a h4 λ cs at5 e5 h5.
+    many-read _ _ a h5 λ fs at6 e6 h6.
+    many-read _ _ a h6 λ vs at7 e7 h7.
+    by (ltb at7 end)
+    (λ u. absurd (let z : 10 ≡ 0 = ap (λ p. p .refusal) (rw u at h7) in omega arith))
+    (λ u.
+    let same : made n m b q cs fs vs ≡ a = ap (λ p. p .automaton) (rw u at h7) in
+    let n0 = between-passed 1 33 n 2 c1 in
+    let m0 = between-passed 1 17 m 3 c2 in
+    let c0 = numbers-all from (classRow 1) m cs at4 at5 e5 in
+    let f0 = numbers-all from (λ _. between 0 2 7) n fs at5 at6 e6 in
+    let r0 = runs-all m (between 0 n 9) (omega arith) from n vs at6 at7 e7 in
+    let rest = follows-append from cs (fs ++ nextNumbers vs m n) at4 at5 at7 (c0 .1) (follows-append from fs (nextNumbers vs m n) at5 at6 at7 (f0 .1) (r0 .1)) in
+    subst (Standing from end) same
+    (made-standing n m b q cs fs vs n0 m0 (between-passed 1 7 b 4 c3) (between-passed 0 n q 5 c4 .1) (c0 .0) (c0 .2) (f0 .0) (f0 .2) (r0 .0)
+    from end at7 (at1, e1, (at2, e2, (at3, e3, (at4, e4, rest)))) (ltb-false at7 end u)))

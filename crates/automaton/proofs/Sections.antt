@@ -1,6 +1,6 @@
 -- Reading numbers one after the other: what is read where nothing is refused, and what follows where nothing was.
 use Prim.Native.Nat.{ℕ, zero, suc, _+_, _-_, _*_, _<_, _≤_}
-use mathlib.Core.Path.{_≡_, refl, sym, _∙_, ap}
+use mathlib.Core.Path.{_≡_, refl, sym, _∙_, ap, subst}
 use mathlib.Core.Bool.{Bool, true, false, cond}
 use mathlib.Core.List.{List, [], _∷_, _++_, append-assoc, append-nil}
 use lib.ListN.{length, getD, take, drop}
@@ -90,12 +90,12 @@ module _ (check : List ℕ → ℕ → ℕ) (before : List ℕ) (v : ℕ) (vs : 
   passes-cons c h (suc i) l = rw (append-snoc before v (take i vs)) at (h i (omega arith))
 
 -- what was read where nothing was refused: vs, from a place up to another
-pub record Section (from : ℕ → Number) (check : List ℕ → ℕ → ℕ) (before : List ℕ) (k : ℕ) (all : List ℕ) (at stop : ℕ) : Type 0 where
-  pub vs : List ℕ
-  pub all-eq : before ++ vs ≡ all
-  pub vs-length : length vs ≡ k
-  pub follows : Follows from vs at stop
-  pub passes : Passes check before vs
+record Section (from : ℕ → Number) (check : List ℕ → ℕ → ℕ) (before : List ℕ) (k : ℕ) (all : List ℕ) (at stop : ℕ) : Type 0 where
+  vs : List ℕ
+  all-eq : before ++ vs ≡ all
+  vs-length : length vs ≡ k
+  follows : Follows from vs at stop
+  passes : Passes check before vs
 
 module _ (from : ℕ → Number) where
   pub follows-append : (xs ys : List ℕ) (at mid stop : ℕ) → Follows from xs at mid → Follows from ys mid stop → Follows from (xs ++ ys) at stop
@@ -128,7 +128,7 @@ module _ (from : ℕ → Number) where
           passes = passes-cons check before v (s .vs) c (s .passes);
         }
 
-    pub numbers-read : (k : ℕ) (before all : List ℕ) (at stop : ℕ) → numbers from check k before at ≡ done all stop
+    numbers-read : (k : ℕ) (before all : List ℕ) (at stop : ℕ) → numbers from check k before at ≡ done all stop
         → Section from check before k all at stop
     unfolding numbers
     numbers-read zero before all at stop h =
@@ -143,3 +143,10 @@ module _ (from : ℕ → Number) where
         let c = checked-read (check before) at (from at) (n .value) (n .place) (unrefused n r) in
         section-cons (c .0) (c .1) (numbers-read k (before ++ n .value ∷ []) all (n .place) stop (rw r at h)))
         (λ r. absurd (eqb-false (n .refusal) 0 r (ap (λ m. m .refusal) (rw r at h))))
+
+    -- where nothing stands before them
+    pub numbers-all : (k : ℕ) (vs : List ℕ) (at stop : ℕ) → numbers from check k [] at ≡ done vs stop
+        → (length vs ≡ k) × Follows from vs at stop × Passes check [] vs
+    numbers-all k vs at stop h =
+        let s = numbers-read k [] vs at stop h in
+        subst (λ l. (length l ≡ k) × Follows from l at stop × Passes check [] l) (s .all-eq) (s .vs-length, s .follows, s .passes)
