@@ -1,23 +1,23 @@
 -- Numbers as bytes: they are read back one after the other, and no bytes that read so are fewer.
-use Prim.Native.Nat.{ℕ, zero, suc, _+_, _<_, _≤_}
-use mathlib.Core.Path.{_≡_, refl, sym, _∙_, ap}
+use Prim.Native.Nat.{ℕ, suc, _+_, _<_, _≤_}
 use mathlib.Core.List.{List, [], _∷_, _++_, append-assoc, append-nil}
-use lib.ListN.{length, getD, length-append}
+use lib.ListN.{length, length-append}
 use native.Mathlib.Omega.{arith}
 use Rattle.base.proofs.Every.{Every}
 use Rattle.varint.specs.Varint.{read, bytes}
 use Rattle.varint.proofs.Laws.{bytes-one}
 use Rattle.varint.proofs.Trips.{reads-back, read-after, read-inside}
 use Rattle.automaton.specs.Writing.{encoded}
-use Rattle.automaton.proofs.Sections.{Follows}
+use Rattle.automaton.proofs.Follows.{Follows}
 
 pub encoded-follows : (vs p : List ℕ) → Every (λ v. v < 2097152) vs → Follows (read (p ++ encoded vs)) vs (length p) (length (p ++ encoded vs))
 unfolding encoded
 encoded-follows [] p h = rw (append-nil p)
-encoded-follows (v ∷ vs) p h =
-    (length p + length (bytes v),
-    reads-back v p (encoded vs) (h 0 (omega arith)),
-    rw (append-assoc p (bytes v) (encoded vs), length-append p (bytes v)) at (encoded-follows vs (p ++ bytes v) (λ i l. h (suc i) (omega arith))))
+encoded-follows (v ∷ vs) p h = (
+  length p + length (bytes v),
+  reads-back v p (encoded vs) (h 0 (omega arith)),
+  rw (append-assoc p (bytes v) (encoded vs), length-append p (bytes v)) at (encoded-follows vs (p ++ bytes v) (λ i l. h (suc i) (omega arith))),
+)
 
 module _ (s : List ℕ) where
   pub follows-fewest : (vs : List ℕ) (at stop : ℕ) → Follows (read s) vs at stop → Every (λ v. v < 128) vs → at + length (encoded vs) ≤ stop

@@ -1,10 +1,9 @@
 -- The next states: read row by row and kept in 16 places for each state.
-use Prim.Native.Nat.{ℕ, zero, suc, _+_, _-_, _*_, _<_, _≤_}
+use Prim.Native.Nat.{ℕ, zero, suc, _+_, _*_, _<_, _≤_}
 use mathlib.Core.Path.{_≡_, refl, sym, _∙_, ap, subst}
-use mathlib.Core.Bool.{Bool, true, false}
-use mathlib.Core.List.{List, [], _∷_, _++_, append-assoc, append-nil}
+use mathlib.Core.List.{List, [], _++_, append-assoc, append-nil}
 use lib.ListN.{length, getD, take, drop, length-append, length-drop, take-append-drop, drop-of-length-le, List·getD-append}
-use lib.Seq.{length-take-le, getD-take, getD-drop, getD-append-add, take-append-le, drop-append-le, take-take, take-at, drop-at, drop-drop}
+use lib.Seq.{length-take-le, getD-take, getD-drop, getD-append-add, take-append-le, drop-append-le, take-take, drop-at, drop-drop}
 use lib.Dec.{eqb}
 use native.Mathlib.Omega.{arith}
 use borrow.Author.Tests.{eqb-false}
@@ -14,7 +13,7 @@ use Rattle.base.proofs.Padding.{pad-length, pad-inside, pad-outside, pad-take, 
 use Rattle.varint.specs.declared.Number.{Number}
 use Rattle.automaton.specs.Reading.{Numbers, numbers, runs}
 use Rattle.automaton.specs.Writing.{nextNumbers}
-use Rattle.automaton.proofs.Sections.{done, Follows, Passes, all-unrefused, follows-append, follows-split, numbers-done, numbers-all}
+use Rattle.automaton.proofs.Follows.{done, Follows, Passes, all-unrefused, follows-append, follows-split, numbers-done, numbers-all}
 
 -- the first row, and the rows after it
 pub next-first : (next : List ℕ) (m k : ℕ) → nextNumbers next m (suc k) ≡ take m next ++ nextNumbers (drop 16 next) m k
@@ -32,10 +31,11 @@ unfolding nextNumbers
 next-prefix l rest m zero small h = refl
 next-prefix l rest m (suc k) small h =
     let inside : m ≤ length (drop (k * 16) l) = rw (length-drop (k * 16) l) (omega arith) in
-    rw
-    (next-prefix l rest m k small (omega arith),
-    drop-append-le (k * 16) l rest (omega arith),
-    take-append-le m (drop (k * 16) l) rest inside)
+    rw (
+      next-prefix l rest m k small (omega arith),
+      drop-append-le (k * 16) l rest (omega arith),
+      take-append-le m (drop (k * 16) l) rest inside,
+    )
 
 -- of the places of a row the first m pass the check, and the others are 0
 abbrev pub Place : ℕ → (ℕ → ℕ) → ℕ → ℕ → Type 0
@@ -104,7 +104,7 @@ module _ (m : ℕ) (check : ℕ → ℕ) (small : m ≤ 16) where
     runs-done (suc k) l before at stop r f =
         let s = follows-split from (take m l) (nextNumbers (drop 16 l) m k) at stop (rw (next-first l m k) at f) in
         let n : numbers from (λ _. check) m [] at ≡ done (take m l) (s .0)
-            = rw (row-length k l r) at (numbers-done from (λ _. check) (take m l) [] at (s .0) (s .1) (row-passes k l r)) in
+        = rw (row-length k l r) at (numbers-done from (λ _. check) (take m l) [] at (s .0) (s .1) (row-passes k l r)) in
         rw (n, row-padded k l r)
         (runs-done k (drop 16 l) (before ++ take 16 l) (s .0) stop (rows-rest k l r) (s .2) ∙
         rw (append-assoc before (take 16 l) (drop 16 l), take-append-drop 16 l))
@@ -138,7 +138,9 @@ module _ (m : ℕ) (check : ℕ → ℕ) (small : m ≤ 16) (from : ℕ → Numb
   unfolding runs nextNumbers
   runs-read zero before all at stop h =
       record {
-        vs = []; all-eq = append-nil before ∙ ap (λ n. n .values) h; follows = ap (λ n. n .place) h;
+        vs = [];
+        all-eq = append-nil before ∙ ap (λ n. n .values) h;
+        follows = ap (λ n. n .place) h;
         rows = record { rows-length = refl; place = λ q e lq le. absurd (omega arith) };
       }
   runs-read (suc k) before all at stop h =

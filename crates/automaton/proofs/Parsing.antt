@@ -1,27 +1,23 @@
 -- An automaton is what is read where its numbers stand in their order and nothing follows them, and only there.
-use Prim.Native.Nat.{ℕ, zero, suc, _+_, _-_, _*_, _/_, _%_, _<_, _≤_}
-use mathlib.Core.Path.{_≡_, refl, sym, _∙_, ap, subst}
-use mathlib.Core.Bool.{Bool, true, false, cond}
+use Prim.Native.Nat.{ℕ, _+_, _-_, _*_, _/_, _%_, _<_, _≤_}
+use mathlib.Core.Path.{_≡_, sym, _∙_, ap, subst}
 use mathlib.Core.List.{List, [], _∷_, _++_}
 use lib.ListN.{length, getD, take, drop, replicate, take-append-drop}
-use lib.Seq.{length-take-le, getD-take, getD-drop}
-use lib.Dec.{eqb, ltb}
+use lib.Seq.{length-take-le, getD-take}
+use lib.Dec.{ltb}
 use native.Mathlib.Omega.{arith}
 use borrow.Author.Tests.{ltb-true, ltb-false, le-ltb}
-use Rattle.base.specs.Each.{count}
 use Rattle.base.specs.Pad.{pad}
 use Rattle.base.proofs.Bools.{by}
-use Rattle.base.proofs.Every.{Every, every-cons, every-append}
 use Rattle.base.proofs.Padding.{pad-length, pad-inside, pad-outside, pad-take, pad-every, take-pad}
 use Rattle.varint.specs.declared.Number.{Number}
-use Rattle.varint.specs.Varint.{value}
-use Rattle.automaton.specs.Automaton.{Automaton, class, controllable, controllables, flag, step}
-use Rattle.automaton.specs.Reading.{Parsed, Numbers, checked, between, classRow, tally, numbers, runs, one, many, parsed, refused, sheet}
+use Rattle.automaton.specs.Automaton.{Automaton, controllable, controllables, flag, step}
+use Rattle.automaton.specs.Reading.{between, classRow, tally, numbers, runs, parsed, sheet}
 use Rattle.automaton.specs.Writing.{nextNumbers, sheetNumbers}
 use Rattle.automaton.proofs.Valid.{Valid}
-use Rattle.automaton.proofs.Sections.{done, Follows, Passes, one-done, one-read, many-done, many-read, follows-append, follows-split, numbers-done, numbers-all}
+use Rattle.automaton.proofs.Follows.{done, Follows, Passes, one-done, one-read, many-done, many-read, follows-append, follows-split, numbers-done, numbers-all}
 use Rattle.automaton.proofs.NextStates.{Rows, next-prefix, runs-done, runs-all}
-use Rattle.automaton.proofs.Checks.{between-passes, between-passed, class-passed, classes-pass, classes-tally, tally-count}
+use Rattle.automaton.proofs.Classes.{between-passes, between-passed, class-passed, classes-pass, classes-tally, tally-count}
 
 module _ (a : Automaton) (v : Valid a) where
   -- the used places of the arrays
@@ -89,8 +85,8 @@ module _ (a : Automaton) (v : Valid a) where
         → runs from (between 0 (a .states) 9) (a .symbols) (a .states) [] at ≡ done states stop
     states-done at stop f =
         let e : nextNumbers (a .next) (a .symbols) (a .states) ≡ nextNumbers states (a .symbols) (a .states)
-            = ap (λ l. nextNumbers l (a .symbols) (a .states)) (sym (take-append-drop (a .states * 16) (a .next))) ∙
-                next-prefix states (drop (a .states * 16) (a .next)) (a .symbols) (a .states) (v .symbols-high) (omega (arith, states-length)) in
+        = ap (λ l. nextNumbers l (a .symbols) (a .states)) (sym (take-append-drop (a .states * 16) (a .next))) ∙
+        next-prefix states (drop (a .states * 16) (a .next)) (a .symbols) (a .states) (v .symbols-high) (omega (arith, states-length)) in
         runs-done (a .symbols) (between 0 (a .states) 9) (v .symbols-high) from (a .states) states [] at stop states-rows (rw e at f)
 
     pub parsed-of : (end stop : ℕ) → Follows from (sheetNumbers a) 0 stop → end ≤ stop → sheet from 1 end ≡ parsed a
@@ -142,8 +138,13 @@ module _ (n m b q : ℕ) (cs fs vs : List ℕ) where
           classes-length = pad-length 16 cs (omega arith);
           accepting-length = pad-length 32 fs (omega arith);
           next-length = pad-length 512 vs (omega (arith, r .rows-length));
-          states-low = hn .0; states-high = omega arith; symbols-low = hm .0; symbols-high = omega arith;
-          capacity-low = hb .0; capacity-high = omega arith; initial-below = hq;
+          states-low = hn .0;
+          states-high = omega arith;
+          symbols-low = hm .0;
+          symbols-high = omega arith;
+          capacity-low = hb .0;
+          capacity-high = omega arith;
+          initial-below = hq;
           class-high = pad-every (λ c. c ≤ 1) 16 cs (omega arith) (λ i h. class-passed 1 (take i cs) (getD cs i 0) (pc i h) .0);
           class-unused = λ e h. pad-outside 16 cs e (omega arith);
           controllables-high = made-count;

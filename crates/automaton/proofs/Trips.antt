@@ -1,13 +1,12 @@
 -- Reading an automaton that was written, and writing one that was read.
-use Prim.Native.Nat.{ℕ, zero, suc, _+_, _*_, _<_, _≤_}
-use mathlib.Core.Path.{_≡_, refl}
+use Prim.Native.Nat.{ℕ, zero, suc, _*_, _<_, _≤_}
 use mathlib.Core.List.{List, [], _∷_, _++_}
-use lib.ListN.{length, getD, take, drop, length-take, length-drop}
+use lib.ListN.{length, getD, take, drop, length-take}
 use lib.Seq.{getD-take, getD-drop}
 use native.Mathlib.Omega.{arith}
 use Rattle.base.proofs.Every.{Every, every-cons, every-append}
 use Rattle.varint.specs.Varint.{read}
-use Rattle.automaton.specs.Automaton.{Automaton, class, flag, step}
+use Rattle.automaton.specs.Automaton.{Automaton, step}
 use Rattle.automaton.specs.Reading.{parse}
 use Rattle.automaton.specs.Writing.{nextNumbers, sheetNumbers, encoded, sheetBytes}
 use Rattle.automaton.specs.Claims.{WrittenReadsBack, ReadIsValid, ReadAgain}
@@ -63,9 +62,11 @@ read-is-valid s a h = valid-of a (parsed-facts (read s) (length s) a h .valid)
 pub read-again : ReadAgain
 unfolding parse sheetBytes
 read-again s a h =
-    let t = parsed-facts (read s) (length s) a h in
-    (written-reads-back a (read-is-valid s a h),
-    omega
-    (arith,
-    follows-fewest s (sheetNumbers a) 0 (t .stop) (t .follows) (numbers-small a (t .valid)),
-    follows-inside s (sheetNumbers a) 0 (t .stop) (omega arith) (t .follows)))
+    let t = parsed-facts (read s) (length s) a h in (
+      written-reads-back a (read-is-valid s a h),
+      omega (
+        arith,
+        follows-fewest s (sheetNumbers a) 0 (t .stop) (t .follows) (numbers-small a (t .valid)),
+        follows-inside s (sheetNumbers a) 0 (t .stop) (omega arith) (t .follows),
+      ),
+    )

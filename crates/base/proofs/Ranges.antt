@@ -67,11 +67,3 @@ pub count-same : (n : ℕ) (p r : ℕ → Bool) → ((k : ℕ) → k < n → p k
 unfolding count
 count-same zero p r h = refl
 count-same (suc n) p r h = ap₂ _+_ (count-same n p r (λ k l. h k (omega arith))) (ap (λ b. cond b 1 0) (h n (omega arith)))
-
-pub count-grows : (k n : ℕ) (p : ℕ → Bool) → k ≤ n → count k p ≤ count n p
-unfolding count
-count-grows k zero p h = let e : k ≡ 0 = omega arith in rw e (omega arith)
-count-grows k (suc n) p h =
-    by (eqb k (suc n))
-    (λ u. let e : k ≡ suc n = eqb-true k (suc n) u in rw e (omega arith))
-    (λ u. omega (arith, count-grows k n p (omega (arith, eqb-false k (suc n) u))))

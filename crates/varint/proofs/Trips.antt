@@ -9,7 +9,7 @@ use native.Mathlib.Nat.{pow-suc, one-le-pow, add-mul, mul-assoc, mul-comm}
 use native.Mathlib.Omega.{arith}
 use borrow.Author.Tests.{ltb-true, ltb-false, lt-ltb, le-ltb}
 use Rattle.base.proofs.Bools.{by}
-use Rattle.varint.specs.Varint.{Number, value, fault, groups, read, encode, bytes}
+use Rattle.varint.specs.Varint.{value, fault, groups, read, encode, bytes}
 use Rattle.varint.specs.Claims.{AreBytes, ReadsBack, Fewest}
 use Rattle.varint.proofs.Laws.{group-ended, group-last, group-more, same}
 

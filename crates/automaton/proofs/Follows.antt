@@ -1,18 +1,18 @@
 -- Reading numbers one after the other: what is read where nothing is refused, and what follows where nothing was.
-use Prim.Native.Nat.{ℕ, zero, suc, _+_, _-_, _*_, _<_, _≤_}
+use Prim.Native.Nat.{ℕ, zero, suc, _<_}
 use mathlib.Core.Path.{_≡_, refl, sym, _∙_, ap, subst}
-use mathlib.Core.Bool.{Bool, true, false, cond}
-use mathlib.Core.List.{List, [], _∷_, _++_, append-assoc, append-nil}
-use lib.ListN.{length, getD, take, drop}
+use mathlib.Core.Bool.{true}
+use mathlib.Core.List.{List, [], _∷_, _++_, append-nil}
+use lib.ListN.{length, getD, take}
 use lib.Seq.{append-snoc}
 use lib.Dec.{eqb}
 use native.Mathlib.Omega.{arith}
-use borrow.Author.Tests.{eqb-true, eqb-false, eq-eqb}
+use borrow.Author.Tests.{eqb-true, eqb-false}
 use Rattle.base.proofs.Bools.{by}
 use Rattle.varint.specs.declared.Number.{Number}
-use Rattle.varint.specs.Varint.{value, fault}
+use Rattle.varint.specs.Varint.{value}
 use Rattle.automaton.specs.Automaton.{Automaton}
-use Rattle.automaton.specs.Reading.{Parsed, Numbers, checked, numbers, runs, one, many, parsed, refused}
+use Rattle.automaton.specs.Reading.{Parsed, Numbers, checked, numbers, one, many, parsed}
 
 -- numbers that were read without a fault
 abbrev pub done : List ℕ → ℕ → Numbers
@@ -133,7 +133,10 @@ module _ (from : ℕ → Number) where
     unfolding numbers
     numbers-read zero before all at stop h =
         record {
-          vs = []; all-eq = append-nil before ∙ ap (λ n. n .values) h; vs-length = refl; follows = ap (λ n. n .place) h;
+          vs = [];
+          all-eq = append-nil before ∙ ap (λ n. n .values) h;
+          vs-length = refl;
+          follows = ap (λ n. n .place) h;
           passes = λ i l. absurd (omega arith);
         }
     numbers-read (suc k) before all at stop h =

@@ -1,8 +1,8 @@
 -- The checks of one number, and how many classes are controllable.
 use Prim.Native.Nat.{ℕ, zero, suc, _+_, _-_, _<_, _≤_}
-use mathlib.Core.Path.{_≡_, refl, sym, _∙_, ap}
-use mathlib.Core.Bool.{Bool, true, false, cond, _&&_}
-use mathlib.Core.List.{List, [], _∷_, _++_, append-assoc}
+use mathlib.Core.Path.{_≡_, refl, sym, ap}
+use mathlib.Core.Bool.{_&&_}
+use mathlib.Core.List.{List, [], _∷_, _++_}
 use lib.ListN.{length, getD, take, drop, take-append-drop}
 use lib.Seq.{take-suc, take-all}
 use lib.Dec.{eqb, leb, ltb}
@@ -10,9 +10,9 @@ use native.Mathlib.Omega.{arith}
 use borrow.Author.Tests.{ltb-true, ltb-false, leb-true, lt-ltb, le-ltb, le-leb}
 use Rattle.base.specs.Each.{count}
 use Rattle.base.specs.Rows.{first}
-use Rattle.base.proofs.Bools.{by, and-both, and-pair}
+use Rattle.base.proofs.Bools.{by, and-pair}
 use Rattle.automaton.specs.Reading.{between, tally, classRow}
-use Rattle.automaton.proofs.Sections.{Passes}
+use Rattle.automaton.proofs.Follows.{Passes}
 
 module _ (low limit v : ℕ) where
   pub between-passes : (row : ℕ) → low ≤ v → v < limit → between low limit row v ≡ 0
