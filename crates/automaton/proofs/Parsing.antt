@@ -12,9 +12,9 @@ use Rattle.base.proofs.Bools.{by}
 use Rattle.base.proofs.Padding.{pad-length, pad-inside, pad-outside, pad-take, pad-every, take-pad}
 use Rattle.varint.specs.declared.Number.{Number}
 use Rattle.automaton.specs.Automaton.{Automaton, controllable, controllables, flag, step}
-use Rattle.automaton.specs.Reading.{between, classRow, tally, numbers, runs, parsed, sheet}
+use Rattle.automaton.specs.Reading.{between, classRow, tally, numbers, runs, parsed, tables, sheet}
 use Rattle.automaton.specs.Writing.{nextNumbers, sheetNumbers}
-use Rattle.automaton.proofs.Valid.{Valid}
+use Rattle.automaton.proofs.Facts.{Valid}
 use Rattle.automaton.proofs.Follows.{done, Follows, Passes, one-done, one-read, many-done, many-read, follows-append, follows-split, numbers-done, numbers-all}
 use Rattle.automaton.proofs.NextStates.{Rows, next-prefix, runs-done, runs-all}
 use Rattle.automaton.proofs.Classes.{between-passes, between-passed, class-passed, classes-pass, classes-tally, tally-count}
@@ -90,7 +90,7 @@ module _ (a : Automaton) (v : Valid a) where
         runs-done (a .symbols) (between 0 (a .states) 9) (v .symbols-high) from (a .states) states [] at stop states-rows (rw e at f)
 
     pub parsed-of : (end stop : ℕ) → Follows from (sheetNumbers a) 0 stop → end ≤ stop → sheet from 1 end ≡ parsed a
-    unfolding sheet sheetNumbers
+    unfolding sheet tables sheetNumbers
     parsed-of end stop f h =
         let s5 = follows-split from classes (flags ++ nextNumbers (a .next) (a .symbols) (a .states)) _ stop (f .2 .2 .2 .2) in
         let s6 = follows-split from flags (nextNumbers (a .next) (a .symbols) (a .states)) (s5 .0) stop (s5 .2) in
@@ -172,7 +172,7 @@ module _ (n m b q : ℕ) (cs fs vs : List ℕ) where
         record { valid = made-valid; stop = stop; follows = subst (λ l. Follows from l 0 stop) (sym made-numbers) f; reaches = h }
 
 pub parsed-facts : (from : ℕ → Number) (end : ℕ) (a : Automaton) → sheet from 1 end ≡ parsed a → Standing from end a
-unfolding sheet
+unfolding sheet tables
 parsed-facts from end a h =
     one-read _ _ _ _ a h λ n at1 e1 c1 h1.
     one-read _ _ _ _ a h1 λ m at2 e2 c2 h2.

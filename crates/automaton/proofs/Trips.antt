@@ -10,7 +10,7 @@ use Rattle.automaton.specs.Automaton.{Automaton, step}
 use Rattle.automaton.specs.Reading.{parse}
 use Rattle.automaton.specs.Writing.{nextNumbers, sheetNumbers, encoded, sheetBytes}
 use Rattle.automaton.specs.Claims.{WrittenReadsBack, ReadIsValid, ReadAgain}
-use Rattle.automaton.proofs.Valid.{Valid, valid-facts, valid-of}
+use Rattle.automaton.proofs.Facts.{Valid, valid-facts, valid-of}
 use Rattle.automaton.proofs.Encoded.{encoded-follows, follows-fewest, follows-inside}
 use Rattle.automaton.proofs.Parsing.{parsed-of, parsed-facts}
 

@@ -73,22 +73,27 @@ one n go = cond (eqb (n .refusal) 0) (go (n .value) (n .place)) (refused (n .ref
 unfoldable pub many : Numbers → (List ℕ → ℕ → Parsed) → Parsed
 many ns go = cond (eqb (ns .refusal) 0) (go (ns .values) (ns .place)) (refused (ns .refusal) (ns .place))
 
--- a sheet's numbers in their order, by a number reader and up to a largest class; nothing may follow before the end
+-- the m classes, n flags and n × m next states of a sheet whose first four numbers are read; nothing may follow before the end
+unfoldable pub tables : (ℕ → Number) → ℕ → ℕ → ℕ → ℕ → ℕ → ℕ → ℕ → Parsed
+tables from most end n m b q at =
+    many (numbers from (classRow most) m [] at) λ classes at1.
+    many (numbers from (λ _. between 0 2 7) n [] at1) λ flags at2.
+    many (runs from (between 0 n 9) m n [] at2) λ next at3.
+    cond (ltb at3 end)
+    (refused 10 at3)
+    (parsed (record {
+      states = n; symbols = m; capacity = b; initial = q;
+      classes = pad 16 classes; accepting = pad 32 flags; next = pad 512 next;
+    }))
+
+-- a sheet's numbers in their order, by a number reader and up to a largest class: n, m, B, start, then the tables
 unfoldable pub sheet : (ℕ → Number) → ℕ → ℕ → Parsed
 sheet from most end =
     one (checked (between 1 33 3) 0 (from 0)) λ n at1.
     one (checked (between 1 17 4) at1 (from at1)) λ m at2.
     one (checked (between 1 7 5) at2 (from at2)) λ b at3.
     one (checked (between 0 n 6) at3 (from at3)) λ q at4.
-    many (numbers from (classRow most) m [] at4) λ classes at5.
-    many (numbers from (λ _. between 0 2 7) n [] at5) λ flags at6.
-    many (runs from (between 0 n 9) m n [] at6) λ next at7.
-    cond (ltb at7 end)
-    (refused 10 at7)
-    (parsed (record {
-      states = n; symbols = m; capacity = b; initial = q;
-      classes = pad 16 classes; accepting = pad 32 flags; next = pad 512 next;
-    }))
+    tables from most end n m b q at4
 
 -- what reading a sheet's bytes gives
 unfoldable pub parse : List ℕ → Parsed

@@ -1,7 +1,12 @@
-ghost use mathlib.Core.Path.{_≡_};
-ghost use Rattle.automaton.specs.Reading.{parsed, refused};
+// The property automaton (document 01's sheet): its record, the check of row 11, reading and writing it.
+mod check;
+mod reading;
+mod writing;
+pub use check::valid;
+pub use reading::read;
+pub use writing::write;
 
-// The property automaton: document 01's sheet as a record. The next state of q under e stands at q * 16 + e; unused places are 0.
+// The record. The next state of q under e stands at q * 16 + e; unused places are 0.
 pub struct Automaton {
     pub states: u8,
     pub symbols: u8,
@@ -23,22 +28,4 @@ pub struct Parsed {
 pub struct Written {
     pub refusal: u8,
     pub length: usize,
-}
-
-fn refused(row: u8, at: usize) -> Parsed
-    ensures { λ r. ⌜ r ≡ refused row at ⌝ }
-{
-    Parsed {
-        refusal: row,
-        place: at,
-        automaton: Automaton {
-            states: 0,
-            symbols: 0,
-            capacity: 0,
-            initial: 0,
-            classes: [0u8; 16],
-            accepting: [0u8; 32],
-            next: [0u8; 512],
-        },
-    }
 }

@@ -1,5 +1,6 @@
 pub mod Bools
 pub mod Ranges
+pub mod Masks
 pub mod Refusals
 pub mod Padding
 pub mod Every

@@ -33,7 +33,7 @@ pad-outside n l i h =
     getD-append-add l (replicate (n - length l) 0) (i - length l) 0 ∙
     zeros-at (n - length l) (i - length l)
 
-drop-zeros : (n k : ℕ) → _≡_ {A = List ℕ} (drop k (replicate n 0)) (replicate (n - k) 0)
+pub drop-zeros : (n k : ℕ) → _≡_ {A = List ℕ} (drop k (replicate n 0)) (replicate (n - k) 0)
 drop-zeros n zero = let e : n ≡ n - 0 = omega arith in ap (λ m. replicate {A = ℕ} m 0) e
 drop-zeros zero (suc k) = let e : 0 ≡ 0 - suc k = omega arith in ap (λ m. replicate {A = ℕ} m 0) e
 drop-zeros (suc n) (suc k) = let e : n - k ≡ suc n - suc k = omega arith in drop-zeros n k ∙ ap (λ m. replicate {A = ℕ} m 0) e

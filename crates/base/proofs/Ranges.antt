@@ -67,3 +67,25 @@ pub count-same : (n : ℕ) (p r : ℕ → Bool) → ((k : ℕ) → k < n → p k
 unfolding count
 count-same zero p r h = refl
 count-same (suc n) p r h = ap₂ _+_ (count-same n p r (λ k l. h k (omega arith))) (ap (λ b. cond b 1 0) (h n (omega arith)))
+
+-- fewer numbers where p holds only where r does, ..
+pub count-mono : (n : ℕ) (p r : ℕ → Bool) → ((k : ℕ) → k < n → p k ≡ true → r k ≡ true) → count n p ≤ count n r
+unfolding count
+count-mono zero p r h = omega arith
+count-mono (suc n) p r h =
+    let c = count-mono n p r (λ k l. h k (omega arith)) in
+    by (p n) (λ e. rw (e, h n (omega arith) e) (omega arith)) (λ e. rw e (omega arith))
+
+-- .. and not everywhere
+pub count-fewer : (n : ℕ) (p r : ℕ → Bool) → ((k : ℕ) → k < n → p k ≡ true → r k ≡ true) → (k : ℕ) → k < n → r k ≡ true → p k ≡ false
+    → count n p < count n r
+unfolding count
+count-fewer zero p r h k l a b = absurd (omega arith)
+count-fewer (suc n) p r h k l a b =
+    by (eqb k n)
+    (λ e. let g = eqb-true k n e in
+    let a′ : r n ≡ true = rw g at a in
+    let b′ : p n ≡ false = rw g at b in
+    rw (a′, b′) (omega (arith, count-mono n p r (λ k l. h k (omega arith)))))
+    (λ e. let c = count-fewer n p r (λ k l. h k (omega arith)) k (omega (arith, eqb-false k n e)) a b in
+    by (p n) (λ f. rw (f, h n (omega arith) f) (omega arith)) (λ f. rw f (omega arith)))

@@ -1,0 +1,25 @@
+use borrow.Author.Tests.{eq-eqb, ne-eqb}
+use Rattle.automaton.specs.Parts.{oneMore}
+use native.Mathlib.Omega.{arith}
+use borrow.Author.Needs.{needs}
+use Rattle.automaton.proofs.reading.one_more.Statement.{statement}
+use Rattle.automaton.proofs.reading.one_more.Tie as tie
+use Rattle.automaton.proofs.reading.one_more.Reads as reads
+use Rattle.automaton.proofs.reading.one_more.Lts as lts
+
+-- src/reading.rt:55:17
+add-result : tie.Need-add-result
+add-result c = search needs
+
+-- src/reading.rt:51:1
+returns : tie.Need-returns
+unfolding oneMore
+returns c = rw (eq-eqb _ 1 (c .if1 .taken))
+
+-- src/reading.rt:51:1
+returns-2 : tie.Need-returns-2
+unfolding oneMore
+returns-2 c = rw (ne-eqb _ 1 (c .if1 .left)) (omega arith)
+
+pub one-more-spec : {M : Type 1} → statement M
+one-more-spec = tie.close (tie.spec add-result returns returns-2)

@@ -1,0 +1,1 @@
+pub fn write(x: u8) -> u8 { x }

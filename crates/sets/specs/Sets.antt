@@ -1,0 +1,66 @@
+-- Where the monitor may rest and where it must release (document 01, "Where it may rest, where it must release").
+use Prim.Native.Nat.{ℕ, zero, suc, _+_}
+use mathlib.Core.Bool.{Bool, cond, _&&_, _||_}
+use mathlib.Core.List.{List, [], _∷_}
+use lib.Dec.{eqb}
+use Rattle.base.specs.Each.{each}
+use Rattle.base.specs.Masks.{has, mask}
+use Rattle.automaton.specs.declared.Automaton.{Automaton}
+use Rattle.automaton.specs.Automaton.{controllable, accepts, step}
+pub use Rattle.sets.specs.declared.Settled.{Settled}
+
+-- all accepting states
+unfoldable pub acceptingSet : Automaton → ℕ
+acceptingSet a = mask (a .states) (accepts a)
+
+-- The test of one uncontrollable symbol e at q in a round: it leads into the set x, as it stood when the round began, or into i.
+-- (`home` is the winning set of the empty buffer; no class asks for it yet.)
+unfoldable pub admits : Automaton → ℕ → ℕ → ℕ → ℕ → ℕ → Bool
+admits a i home x q e = has x (step a q e) || has i (step a q e)
+
+-- q passes that test for every uncontrollable symbol
+unfoldable pub stays : Automaton → ℕ → ℕ → ℕ → ℕ → Bool
+stays a i home x q = each (a .symbols) (λ e. controllable a e || admits a i home x q e)
+
+-- One round (document 01's striking): what is left of x when each state that does not stay is struck at once.
+unfoldable pub refine : Automaton → ℕ → ℕ → ℕ → ℕ
+refine a i home x = mask (a .states) (λ q. has x q && stays a i home x q)
+
+-- one more round that struck
+abbrev pub again : Settled → Settled
+again r = record { set = r .set; rounds = r .rounds + 1 }
+
+-- Rounds from x until one strikes nothing, and how many struck. A round that strikes makes the set, as a number, smaller, so x
+-- rounds are enough.
+unfoldable pub settle : (ℕ → ℕ) → ℕ → ℕ → Settled
+settle round zero x = record { set = x; rounds = 0 }
+settle round (suc fuel) x =
+    cond (eqb (round x) x) (record { set = x; rounds = 0 }) (again (settle round fuel (round x)))
+
+-- The two sets of a buffer (document 01's held list) and the rounds that found the first: `winning` is S, where the monitor may
+-- rest; `intermediate` is I, where it must release its first held event.
+pub record Sets : Type 0 where
+  pub winning : ℕ
+  pub intermediate : ℕ
+  pub rounds : ℕ
+
+-- S where I is i, by rounds from all accepting states
+unfoldable pub settled : Automaton → ℕ → (ℕ → ℕ) → Settled
+settled a i home = settle (λ x. refine a i (home x) x) (acceptingSet a) (acceptingSet a)
+
+unfoldable pub setsOf : Automaton → ℕ → (ℕ → ℕ) → Sets
+setsOf a i home =
+    let r = settled a i home in
+    record { winning = r .set; intermediate = i; rounds = r .rounds }
+
+-- of the empty buffer: no state is intermediate
+unfoldable pub emptySets : Automaton → Sets
+emptySets a = setsOf a 0 (λ x. x)
+
+-- every state that e takes into S or I
+unfoldable pub into : Automaton → ℕ → Sets → ℕ
+into a e t = mask (a .states) (λ q. has (t .winning) (step a q e) || has (t .intermediate) (step a q e))
+
+unfoldable pub sets : Automaton → List ℕ → Sets
+sets a [] = emptySets a
+sets a (e ∷ w) = setsOf a (into a e (sets a w)) (λ x. emptySets a .winning)
