@@ -1,30 +1,17 @@
--- The checks of one number, and how many classes are controllable.
+-- The classes: their tally, and what passes their check.
 use Prim.Native.Nat.{ℕ, zero, suc, _+_, _-_, _<_, _≤_}
 use mathlib.Core.Path.{_≡_, refl, sym, ap}
-use mathlib.Core.Bool.{_&&_}
 use mathlib.Core.List.{List, [], _∷_, _++_}
 use lib.ListN.{length, getD, take, drop, take-append-drop}
 use lib.Seq.{take-suc, take-all}
-use lib.Dec.{eqb, leb, ltb}
+use lib.Dec.{eqb, ltb}
 use native.Mathlib.Omega.{arith}
-use borrow.Author.Tests.{ltb-true, ltb-false, leb-true, lt-ltb, le-ltb, le-leb}
+use borrow.Author.Tests.{ltb-false, le-ltb}
 use Rattle.base.specs.Each.{count}
 use Rattle.base.specs.Rows.{first}
-use Rattle.base.proofs.Bools.{by, and-pair}
-use Rattle.automaton.specs.Reading.{between, tally, classRow}
+use Rattle.base.proofs.Bools.{by}
+use Rattle.automaton.specs.Reading.{tally, classRow}
 use Rattle.automaton.proofs.Follows.{Passes}
-
-module _ (low limit v : ℕ) where
-  pub between-passes : (row : ℕ) → low ≤ v → v < limit → between low limit row v ≡ 0
-  unfolding between
-  between-passes row l h = rw (le-leb low v l, lt-ltb v limit h)
-
-  pub between-passed : (row : ℕ) → between low limit (suc row) v ≡ 0 → (low ≤ v) × (v < limit)
-  unfolding between
-  between-passed row h =
-      by (leb low v && ltb v limit)
-      (λ u. let p = and-pair (leb low v) _ u in (leb-true low v (p .0), ltb-true v limit (p .1)))
-      (λ u. absurd (let z : suc row ≡ 0 = rw u at h in omega arith))
 
 tally-append : (xs ys : List ℕ) → tally (xs ++ ys) ≡ tally xs + tally ys
 unfolding tally

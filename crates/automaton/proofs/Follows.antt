@@ -13,6 +13,7 @@ use Rattle.varint.specs.declared.Number.{Number}
 use Rattle.varint.specs.Varint.{value}
 use Rattle.automaton.specs.Automaton.{Automaton}
 use Rattle.automaton.specs.Reading.{Parsed, Numbers, checked, numbers, one, many, parsed}
+use Rattle.automaton.proofs.Items.{checked-fits, passed}
 
 -- numbers that were read without a fault
 abbrev pub done : List ℕ → ℕ → Numbers
@@ -35,19 +36,16 @@ pub all-unrefused : (ns : Numbers) → eqb (ns .refusal) 0 ≡ true → ns ≡ d
 all-unrefused ns r = let e : ns .refusal ≡ 0 = eqb-true (ns .refusal) 0 r in λ i. record { refusal = e i; place = ns .place; values = ns .values }
 
 -- one number
-module _ (check : ℕ → ℕ) (at : ℕ) (n : Number) (v next : ℕ) where
-  checked-done : n ≡ value v next → check v ≡ 0 → checked check at n ≡ value v next
-  unfolding checked
-  checked-done e c = rw (e, c)
+module _ (check : ℕ → ℕ) (at : ℕ) (n : Number) where
+  checked-done : (v next : ℕ) → n ≡ value v next → check v ≡ 0 → checked check at n ≡ value v next
+  checked-done v next e c = checked-fits check at n (ap (λ m. m .refusal) e) (ap (λ m. check (m .value)) e ∙ c) ∙ e
 
-  checked-read : checked check at n ≡ value v next → (n ≡ value v next) × (check v ≡ 0)
-  unfolding checked
-  checked-read h =
-      by (eqb (n .refusal) 0)
-      (λ r. by (eqb (check (n .value)) 0)
-      (λ c. let e : n ≡ value v next = rw (r, c) at h in (e, ap (λ m. check (m .value)) (sym e) ∙ eqb-true (check (n .value)) 0 c))
-      (λ c. absurd (eqb-false (check (n .value)) 0 c (ap (λ m. m .refusal) (rw (r, c) at h)))))
-      (λ r. absurd (eqb-false (n .refusal) 0 r (ap (λ m. m .refusal) (rw r at h))))
+  -- its value and the place after it
+  checked-read : {C : Type 0} → eqb (checked check at n .refusal) 0 ≡ true
+      → (n ≡ value (checked check at n .value) (checked check at n .place) → check (checked check at n .value) ≡ 0 → C) → C
+  checked-read r go =
+      let p = passed check at n (checked check at n) refl (eqb-true _ 0 r) in
+      go (sym (p .same) ∙ unrefused _ r) (ap (λ m. check (m .value)) (p .same) ∙ p .fits)
 
 -- a number, and then the rest
 module _ (check : ℕ → ℕ) (at : ℕ) (n : Number) (go : ℕ → ℕ → Parsed) where
@@ -55,13 +53,13 @@ module _ (check : ℕ → ℕ) (at : ℕ) (n : Number) (go : ℕ → ℕ → Par
   unfolding one
   one-done v next e c = rw (checked-done check at n v next e c)
 
-  pub one-read {ℓ} : {C : Type ℓ} (a : Automaton) → one (checked check at n) go ≡ parsed a
+  pub one-read : {C : Type 0} (a : Automaton) → one (checked check at n) go ≡ parsed a
       → ((v next : ℕ) → n ≡ value v next → check v ≡ 0 → go v next ≡ parsed a → C) → C
   unfolding one
   one-read a h use′ =
       let m : Number = checked check at n in
       by (eqb (m .refusal) 0)
-      (λ r. let c = checked-read check at n (m .value) (m .place) (unrefused m r) in use′ (m .value) (m .place) (c .0) (c .1) (rw r at h))
+      (λ r. checked-read check at n r λ e c. use′ (m .value) (m .place) e c (rw r at h))
       (λ r. absurd (eqb-false (m .refusal) 0 r (ap (λ p. p .refusal) (rw r at h))))
 
 -- numbers, and then the rest
@@ -70,7 +68,7 @@ module _ (ns : Numbers) (go : List ℕ → ℕ → Parsed) where
   unfolding many
   many-done vs next e = rw e
 
-  pub many-read {ℓ} : {C : Type ℓ} (a : Automaton) → many ns go ≡ parsed a
+  pub many-read : {C : Type 0} (a : Automaton) → many ns go ≡ parsed a
       → ((vs : List ℕ) (next : ℕ) → ns ≡ done vs next → go vs next ≡ parsed a → C) → C
   unfolding many
   many-read a h use′ =
@@ -142,9 +140,8 @@ module _ (from : ℕ → Number) where
     numbers-read (suc k) before all at stop h =
         let n : Number = checked (check before) at (from at) in
         by (eqb (n .refusal) 0)
-        (λ r.
-        let c = checked-read (check before) at (from at) (n .value) (n .place) (unrefused n r) in
-        section-cons (c .0) (c .1) (numbers-read k (before ++ n .value ∷ []) all (n .place) stop (rw r at h)))
+        (λ r. checked-read (check before) at (from at) r λ e c.
+        section-cons e c (numbers-read k (before ++ n .value ∷ []) all (n .place) stop (rw r at h)))
         (λ r. absurd (eqb-false (n .refusal) 0 r (ap (λ m. m .refusal) (rw r at h))))
 
     -- where nothing stands before them

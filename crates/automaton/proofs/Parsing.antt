@@ -15,9 +15,10 @@ use Rattle.automaton.specs.Automaton.{Automaton, controllable, controlla
 use Rattle.automaton.specs.Reading.{between, classRow, tally, numbers, runs, parsed, tables, sheet}
 use Rattle.automaton.specs.Writing.{nextNumbers, sheetNumbers}
 use Rattle.automaton.proofs.Facts.{Valid}
+use Rattle.automaton.proofs.Items.{inside, range-of}
 use Rattle.automaton.proofs.Follows.{done, Follows, Passes, one-done, one-read, many-done, many-read, follows-append, follows-split, numbers-done, numbers-all}
 use Rattle.automaton.proofs.NextStates.{Rows, next-prefix, runs-done, runs-all}
-use Rattle.automaton.proofs.Classes.{between-passes, between-passed, class-passed, classes-pass, classes-tally, tally-count}
+use Rattle.automaton.proofs.Classes.{class-passed, classes-pass, classes-tally, tally-count}
 
 module _ (a : Automaton) (v : Valid a) where
   -- the used places of the arrays
@@ -62,7 +63,7 @@ module _ (a : Automaton) (v : Valid a) where
   flags-passes : Passes (λ _. between 0 2 7) [] flags
   flags-passes i h =
       rw (getD-take (a .states) (a .accepting) i 0 (omega (arith, flags-length)))
-      (between-passes 0 2 (flag a i) 7 (omega arith) (omega (arith, v .flag-high i)))
+      (inside 0 2 7 (flag a i) (omega arith) (omega (arith, v .flag-high i)))
 
   states-rows : Rows (a .symbols) (between 0 (a .states) 9) (a .states) states
   unfolding step
@@ -71,7 +72,7 @@ module _ (a : Automaton) (v : Valid a) where
         rows-length = states-length;
         place = λ q e lq le.
             rw (getD-take (a .states * 16) (a .next) (q * 16 + e) 0 (omega arith))
-            (λ u. between-passes 0 (a .states) (step a q e) 9 (omega arith) (v .step-below q e lq u), λ u. v .step-no-symbol q e u le);
+            (λ u. inside 0 (a .states) 9 (step a q e) (omega arith) (v .step-below q e lq u), λ u. v .step-no-symbol q e u le);
       }
 
   module _ (from : ℕ → Number) where
@@ -94,10 +95,10 @@ module _ (a : Automaton) (v : Valid a) where
     parsed-of end stop f h =
         let s5 = follows-split from classes (flags ++ nextNumbers (a .next) (a .symbols) (a .states)) _ stop (f .2 .2 .2 .2) in
         let s6 = follows-split from flags (nextNumbers (a .next) (a .symbols) (a .states)) (s5 .0) stop (s5 .2) in
-        one-done _ _ _ _ (a .states) (f .0) (f .1) (between-passes 1 33 (a .states) 3 (v .states-low) (omega (arith, v .states-high))) ∙
-        one-done _ _ _ _ (a .symbols) (f .2 .0) (f .2 .1) (between-passes 1 17 (a .symbols) 4 (v .symbols-low) (omega (arith, v .symbols-high))) ∙
-        one-done _ _ _ _ (a .capacity) (f .2 .2 .0) (f .2 .2 .1) (between-passes 1 7 (a .capacity) 5 (v .capacity-low) (omega (arith, v .capacity-high))) ∙
-        one-done _ _ _ _ (a .initial) (f .2 .2 .2 .0) (f .2 .2 .2 .1) (between-passes 0 (a .states) (a .initial) 6 (omega arith) (v .initial-below)) ∙
+        one-done _ _ _ _ (a .states) (f .0) (f .1) (inside 1 33 3 (a .states) (v .states-low) (omega (arith, v .states-high))) ∙
+        one-done _ _ _ _ (a .symbols) (f .2 .0) (f .2 .1) (inside 1 17 4 (a .symbols) (v .symbols-low) (omega (arith, v .symbols-high))) ∙
+        one-done _ _ _ _ (a .capacity) (f .2 .2 .0) (f .2 .2 .1) (inside 1 7 5 (a .capacity) (v .capacity-low) (omega (arith, v .capacity-high))) ∙
+        one-done _ _ _ _ (a .initial) (f .2 .2 .2 .0) (f .2 .2 .2 .1) (inside 0 (a .states) 6 (a .initial) (omega arith) (v .initial-below)) ∙
         many-done _ _ classes (s5 .0) (classes-done _ (s5 .0) (s5 .1)) ∙
         many-done _ _ flags (s6 .0) (flags-done _ (s6 .0) (s6 .1)) ∙
         many-done _ _ states stop (states-done _ stop (s6 .2)) ∙
@@ -148,9 +149,9 @@ module _ (n m b q : ℕ) (cs fs vs : List ℕ) where
           class-high = pad-every (λ c. c ≤ 1) 16 cs (omega arith) (λ i h. class-passed 1 (take i cs) (getD cs i 0) (pc i h) .0);
           class-unused = λ e h. pad-outside 16 cs e (omega arith);
           controllables-high = made-count;
-          flag-high = pad-every (λ c. c ≤ 1) 32 fs (omega arith) (λ i h. omega (arith, between-passed 0 2 (getD fs i 0) 6 (pf i h) .1));
+          flag-high = pad-every (λ c. c ≤ 1) 32 fs (omega arith) (λ i h. omega (arith, range-of 0 2 7 (getD fs i 0) (omega arith) (pf i h) .1));
           flag-unused = λ e h. pad-outside 32 fs e (omega arith);
-          step-below = λ s e ls le. rw (made-next (s * 16 + e) (omega arith)) (between-passed 0 n (getD vs (s * 16 + e) 0) 8 (r .place s e ls (omega arith) .0 le) .1);
+          step-below = λ s e ls le. rw (made-next (s * 16 + e) (omega arith)) (range-of 0 n 9 (getD vs (s * 16 + e) 0) (omega arith) (r .place s e ls (omega arith) .0 le) .1);
           step-no-state = λ s e ls le. made-after (s * 16 + e) (omega arith);
           step-no-symbol = λ s e ls le.
               by (ltb s n)
@@ -185,12 +186,12 @@ parsed-facts from end a h =
     (λ u. absurd (let z : 10 ≡ 0 = ap (λ p. p .refusal) (rw u at h7) in omega arith))
     (λ u.
     let same : made n m b q cs fs vs ≡ a = ap (λ p. p .automaton) (rw u at h7) in
-    let n0 = between-passed 1 33 n 2 c1 in
-    let m0 = between-passed 1 17 m 3 c2 in
+    let n0 = range-of 1 33 3 n (omega arith) c1 in
+    let m0 = range-of 1 17 4 m (omega arith) c2 in
     let c0 = numbers-all from (classRow 1) m cs at4 at5 e5 in
     let f0 = numbers-all from (λ _. between 0 2 7) n fs at5 at6 e6 in
     let r0 = runs-all m (between 0 n 9) (omega arith) from n vs at6 at7 e7 in
     let rest = follows-append from cs (fs ++ nextNumbers vs m n) at4 at5 at7 (c0 .1) (follows-append from fs (nextNumbers vs m n) at5 at6 at7 (f0 .1) (r0 .1)) in
     subst (Standing from end) same
-    (made-standing n m b q cs fs vs n0 m0 (between-passed 1 7 b 4 c3) (between-passed 0 n q 5 c4 .1) (c0 .0) (c0 .2) (f0 .0) (f0 .2) (r0 .0)
+    (made-standing n m b q cs fs vs n0 m0 (range-of 1 7 5 b (omega arith) c3) (range-of 0 n 6 q (omega arith) c4 .1) (c0 .0) (c0 .2) (f0 .0) (f0 .2) (r0 .0)
     from end at7 (at1, e1, (at2, e2, (at3, e3, (at4, e4, rest)))) (ltb-false at7 end u)))
