@@ -3,3 +3,4 @@ pub mod Ranges
 pub mod Masks
 pub mod Refusals
 pub mod Padding
+pub mod Every

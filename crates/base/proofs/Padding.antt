@@ -4,10 +4,13 @@ use mathlib.Core.Path.{_≡_, refl, sym, _∙_, ap}
 use mathlib.Core.List.{List, [], _∷_, _++_}
 use native.Mathlib.Nat.{zero-add}
 use native.Mathlib.Omega.{arith}
-use lib.ListN.{length, getD, drop, replicate, length-append, length-replicate, getD-replicate, List·getD-append, List·getD-eq-default}
-use lib.Seq.{sets, sets-eq, getD-append-add}
+use lib.ListN.{length, getD, take, drop, replicate, length-append, length-replicate, getD-replicate, List·getD-append, List·getD-eq-default}
+use lib.Seq.{sets, sets-eq, ext-getD, getD-take, getD-append-add, length-take-le, take-append-seam}
+use lib.Dec.{ltb}
+use borrow.Author.Tests.{ltb-true, ltb-false}
 use Rattle.base.specs.Pad.{pad}
 use Rattle.base.proofs.Bools.{by}
+use Rattle.base.proofs.Every.{Every}
 
 pub pad-length : (n : ℕ) (l : List ℕ) → length l ≤ n → length (pad n l) ≡ n
 unfolding pad
@@ -41,3 +44,24 @@ unfolding pad
 pad-stored n l h =
     sets-eq l (replicate n 0) 0 (rw (length-replicate {A = ℕ} n 0) (omega arith)) ∙
     rw (zero-add (length l), drop-zeros n (length l))
+
+-- the used part of an array, padded again
+pub pad-take : (n m : ℕ) (l : List ℕ) → length l ≡ n → m ≤ n → ((i : ℕ) → m ≤ i → i < n → getD l i 0 ≡ 0) → pad n (take m l) ≡ l
+pad-take n m l long h zeros =
+    let short : length (take m l) ≡ m = length-take-le m l (omega arith) in
+    let same : length (pad n (take m l)) ≡ n = pad-length n (take m l) (omega arith) in
+    ext-getD 0 (pad n (take m l)) l (omega arith) λ i b.
+    by (ltb i m)
+    (λ u. let v : i < m = ltb-true i m u in pad-inside n (take m l) i (omega arith) ∙ getD-take m l i 0 v)
+    (λ u. let v : m ≤ i = ltb-false i m u in pad-outside n (take m l) i (omega arith) ∙ sym (zeros i v (omega arith)))
+
+pub take-pad : (n : ℕ) (l : List ℕ) → take (length l) (pad n l) ≡ l
+unfolding pad
+take-pad n l = take-append-seam l (replicate (n - length l) 0)
+
+-- a fact of 0 and of every number of the list
+pub pad-every : (P : ℕ → Type 0) (n : ℕ) (l : List ℕ) → P 0 → Every P l → (i : ℕ) → P (getD (pad n l) i 0)
+pad-every P n l z f i =
+    by (ltb i (length l))
+    (λ u. let h : i < length l = ltb-true i (length l) u in rw (pad-inside n l i h) (f i h))
+    (λ u. rw (pad-outside n l i (ltb-false i (length l) u)) z)

@@ -1,1 +1,2 @@
 pub mod Varint
+pub mod Claims
