@@ -1,3 +1,4 @@
+use Prim.Native.Nat.{_*_}
 use Rattle.automaton.specs.Writing.{nextNumbers}
 use lib.Seq.{sets}
 use lib.ListN.{length}
@@ -29,15 +30,15 @@ mul-copy c = search needs
 
 -- src/writing.rt:43:41
 mul-copy-2 : tie.Need-mul-copy-2 Inv-loop μ-loop
-mul-copy-2 c = search needs
+mul-copy-2 c = let a = c .before .before .before .before .before .args in omega (arith, row-within (a .n) (a .m) (c .before .before .before .loop .q) (omega arith), rows-small (a .n) (a .m) (omega arith) (omega arith))
 
 -- src/writing.rt:43:36
 add-copy : tie.Need-add-copy Inv-loop μ-loop
-add-copy c = search needs
+add-copy c = let a = c .before .before .before .before .before .args in omega (arith, row-within (a .n) (a .m) (c .before .before .before .loop .q) (omega arith), rows-small (a .n) (a .m) (omega arith) (omega arith))
 
 -- src/writing.rt:43:9
 copy-requires : tie.Need-copy-requires Inv-loop μ-loop
-copy-requires c κs = search needs
+copy-requires c κs = let a = c .before .before .before .before .before .args in let l : a .at + c .before .before .before .loop .q * a .m + a .m ≤ length (c .before .before .before .loop .out) = omega (arith, row-within (a .n) (a .m) (c .before .before .before .loop .q) (omega arith), c .before .before .before .loop .inv .1) in (search needs, l)
 
 -- src/writing.rt:44:13
 add-q : tie.Need-add-q Inv-loop μ-loop
@@ -49,7 +50,7 @@ loop-less c = search needs
 
 -- src/writing.rt:42:5
 loop-again : tie.Need-loop-again Inv-loop μ-loop
-loop-again c = search needs
+loop-again c = let a = c .before .before .before .before .before .before .before .before .args in let long : length (a .next .now) ≡ 512 = search needs in (omega arith, search needs, c .before .before .copy .ensures ∙ rw (c .before .before .before .before .before .before .loop .inv .2) (row-more (a .next .now) long (a .m) (omega arith) _ _ _ (omega arith)))
 
 -- src/writing.rt:37:1
 same-length : tie.Need-same-length Inv-loop μ-loop
@@ -57,7 +58,7 @@ same-length c = search needs
 
 -- src/writing.rt:37:1
 returns : tie.Need-returns Inv-loop μ-loop
-returns c = search needs
+returns c = let e : c .before .loop .q ≡ c .before .before .before .args .n = omega arith in rw e at (c .before .loop .inv .2)
 
 pub store-rows-spec : {M : Type 1} → statement M
 store-rows-spec =
