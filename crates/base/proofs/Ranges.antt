@@ -8,7 +8,7 @@ use native.Mathlib.Omega.{arith}
 use lib.Dec.{eqb}
 use borrow.Author.Tests.{eqb-true, eqb-false}
 use Rattle.base.specs.Each.{each, count}
-use Rattle.base.proofs.Bools.{by, either, clash, and-left, and-right, and-both, and-none}
+use Rattle.base.proofs.Bools.{by, either, clash, and-left, and-right, and-both, and-none, and-right-false}
 
 -- the test at one number
 pub each-at : (n : ℕ) (p : ℕ → Bool) → each n p ≡ true → (k : ℕ) → k < n → p k ≡ true
@@ -40,6 +40,14 @@ each-false n p k l h = by (each n p) (λ e. absurd (clash (each-at n p e k l) h)
 pub each-more : (n : ℕ) (p : ℕ → Bool) → each (n + 1) p ≡ (each n p && p n)
 unfolding each
 each-more n p = rw (add-one n)
+
+-- a flag that falls once a test fails
+module _ (p : ℕ → Bool) (i : ℕ) (fine : Bool) (so-far : fine ≡ each i p) where
+  pub each-falls : p i ≡ false → false ≡ each (i + 1) p
+  each-falls h = sym (each-more i p ∙ and-right-false (each i p) h)
+
+  pub each-keeps : p i ≡ true → fine ≡ each (i + 1) p
+  each-keeps h = so-far ∙ sym (each-more i p ∙ ap (λ b. each i p && b) h ∙ and-true (each i p))
 
 -- the same test below n
 pub each-same : (n : ℕ) (p r : ℕ → Bool) → ((k : ℕ) → k < n → p k ≡ r k) → each n p ≡ each n r

@@ -9,7 +9,7 @@ use Rattle.base.specs.Pad.{pad}
 use Rattle.automaton.specs.declared.Automaton.{Automaton}
 use Rattle.automaton.specs.Automaton.{controllable, valid}
 pub use Rattle.configuration.specs.declared.Configuration.{Configuration}
-pub use Rattle.configuration.specs.declared.Initial.{Initial}
+pub use Rattle.configuration.specs.declared.Start.{Start}
 
 -- the held events, first in first
 unfoldable pub heldEvents : Configuration → List ℕ
@@ -37,7 +37,7 @@ unfoldable pub initialOf : Automaton → Configuration
 initialOf a = configuration (a .initial) []
 
 -- asked of a record: row 11, with zeros
-unfoldable pub initialAnswer : Automaton → Initial
+unfoldable pub initialAnswer : Automaton → Start
 initialAnswer a =
     cond (valid a)
     (record { refusal = 0; configuration = initialOf a })

@@ -34,5 +34,5 @@ Agrees =
 abbrev pub VerdictAgrees : Type 0
 VerdictAgrees =
     (a : Automaton) (c : Configuration) → gameRefusal a c ≡ 0
-    → (verdict a c .may_rest ≡ has (sets a (heldEvents c) .winning) (c .state))
-    × (verdict a c .can_rest ≡ (has (sets a (heldEvents c) .winning) (c .state) || has (sets a (heldEvents c) .intermediate) (c .state)))
+    → (verdict a c .«may_rest» ≡ has (sets a (heldEvents c) .winning) (c .state))
+    × (verdict a c .«can_rest» ≡ (has (sets a (heldEvents c) .winning) (c .state) || has (sets a (heldEvents c) .intermediate) (c .state)))

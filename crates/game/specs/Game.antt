@@ -43,5 +43,5 @@ gameRefusal a c = first ((11, not (valid a)) ∷ (13, not (consistent a c)) ∷ 
 unfoldable pub verdict : Automaton → Configuration → Verdict
 verdict a c =
     cond (eqb (gameRefusal a c) 0)
-    (record { refusal = 0; may_rest = mayRest a (heldEvents c) (a .states) (c .state); can_rest = canRest a (heldEvents c) (a .states) (c .state) })
-    (record { refusal = gameRefusal a c; may_rest = false; can_rest = false })
+    (record { refusal = 0; «may_rest» = mayRest a (heldEvents c) (a .states) (c .state); «can_rest» = canRest a (heldEvents c) (a .states) (c .state) })
+    (record { refusal = gameRefusal a c; «may_rest» = false; «can_rest» = false })

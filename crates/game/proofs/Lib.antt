@@ -1,0 +1,2 @@
+pub mod Worded
+pub mod Turns
