@@ -1,5 +1,6 @@
 -- Numbers as bytes: they are read back one after the other, and no bytes that read so are fewer.
 use Prim.Native.Nat.{ℕ, suc, _+_, _<_, _≤_}
+use mathlib.Core.Path.{_≡_, refl}
 use mathlib.Core.List.{List, [], _∷_, _++_, append-assoc, append-nil}
 use lib.ListN.{length, length-append}
 use native.Mathlib.Omega.{arith}
@@ -30,3 +31,9 @@ module _ (s : List ℕ) where
   pub follows-inside : (vs : List ℕ) (at stop : ℕ) → at ≤ length s → Follows (read s) vs at stop → stop ≤ length s
   follows-inside [] at stop h f = omega (arith, f)
   follows-inside (v ∷ vs) at stop h f = follows-inside vs (f .0) stop (read-inside s at v (f .0) (f .1)) (f .2)
+
+-- numbers below 128 are their own bytes
+pub encoded-small : (vs : List ℕ) → Every (λ v. v < 128) vs → encoded vs ≡ vs
+unfolding encoded
+encoded-small [] h = refl
+encoded-small (v ∷ vs) h = rw (bytes-one v (h 0 (omega arith)), encoded-small vs (λ i l. h (suc i) (omega arith)))

@@ -15,7 +15,7 @@ use Rattle.automaton.proofs.Encoded.{encoded-follows, follows-fewest, f
 use Rattle.automaton.proofs.Parsing.{parsed-of, parsed-facts}
 
 -- Each number of a valid automaton is one byte long.
-abbrev small : ℕ → Type 0
+abbrev pub small : ℕ → Type 0
 small n = n < 128
 
 -- the first places of an array
@@ -32,7 +32,7 @@ module _ (a : Automaton) (v : Valid a) where
       (front-small (a .symbols) (drop (k * 16) (a .next)) λ e l.
       rw (getD-drop (k * 16) (a .next) e 0) (omega (arith, v .step-below k e (omega arith) l, v .states-high)))
 
-  numbers-small : Every small (sheetNumbers a)
+  pub numbers-small : Every small (sheetNumbers a)
   unfolding sheetNumbers
   numbers-small =
       let fs : List ℕ = take (a .states) (a .accepting) in

@@ -1,3 +1,10 @@
+use lib.Seq.{length-sets}
+use lib.ListN.{length}
+use Prim.Native.Nat.{_≤_, _+_, _*_}
+use mathlib.Core.Path.{_≡_, _∙_, ap}
+use Rattle.automaton.proofs.Facts.{valid-facts}
+use Rattle.automaton.proofs.Storing.{numbers-length, parts-join}
+use native.Mathlib.Omega.{arith}
 use borrow.Author.Needs.{needs}
 use Rattle.automaton.proofs.writing.store.Statement.{statement}
 use Rattle.automaton.proofs.writing.store.Tie as tie
@@ -18,11 +25,11 @@ size-requires-2 c κs = search needs
 
 -- src/writing.rt:55:5
 store-four-requires : tie.Need-store-four-requires
-store-four-requires c κs = ?
+store-four-requires c κs = let a = c .before .before .before .before .args in let v = valid-facts (a .t1) (c .before .before .before .before .pre .0) in let l : 4 ≤ length (a .out .now) = omega (arith, numbers-length (a .t1) v, c .before .before .before .before .pre .1) in l
 
 -- src/writing.rt:56:5
 copy-requires : tie.Need-copy-requires
-copy-requires c κs = ?
+copy-requires c κs = let a = c .before .before .before .before .before .before .before .before .before .before .before .args in let v = valid-facts (a .t1) (c .before .before .before .before .before .before .before .before .before .before .before .pre .0) in let s = c .before .before .before .before .before .before .before .before .size2 .ensures .0 in let k = c .before .before .before .before .before .before .store-four .kept .0 in let l : 4 + c .before .before .before .before .before .before .before .before .size2 .result ≤ length (c .before .before .before .before .before .before .store-four .last .0) = omega (arith, numbers-length (a .t1) v, c .before .before .before .before .before .before .before .before .before .before .before .pre .1, s, k) in (omega (arith, s, v .classes-length, v .symbols-high), l)
 
 -- src/writing.rt:57:35
 add-copy : tie.Need-add-copy
@@ -30,7 +37,7 @@ add-copy c = search needs
 
 -- src/writing.rt:57:5
 copy-requires-2 : tie.Need-copy-requires-2
-copy-requires-2 c κs = ?
+copy-requires-2 c κs = let a = c .before .before .before .before .before .before .before .before .before .before .before .before .before .before .before .before .before .before .args in let v = valid-facts (a .t1) (c .before .before .before .before .before .before .before .before .before .before .before .before .before .before .before .before .before .before .pre .0) in let s = c .before .before .before .before .before .before .before .before .before .before .before .before .before .before .before .size2 .ensures .0 in let z = c .before .before .before .before .before .before .before .before .before .before .before .before .before .before .before .before .size .ensures .0 in let k = c .before .before .before .before .before .before .before .before .before .before .before .before .before .store-four .kept .0 in let j = c .before .before .before .before .before .before .copy .kept .1 .1 .1 .0 in let l : 4 + c .before .before .before .before .before .before .before .before .before .before .before .before .before .before .before .size2 .result + c .before .before .before .before .before .before .before .before .before .before .before .before .before .before .before .before .size .result ≤ length (c .before .before .before .before .before .before .copy .last .1 .1 .1 .0) = omega (arith, numbers-length (a .t1) v, c .before .before .before .before .before .before .before .before .before .before .before .before .before .before .before .before .before .before .pre .1, s, z, k, j) in (omega (arith, z, v .accepting-length, v .states-high), l)
 
 -- src/writing.rt:58:36
 add-store-rows : tie.Need-add-store-rows
@@ -42,7 +49,7 @@ add-store-rows-2 c = search needs
 
 -- src/writing.rt:58:5
 store-rows-requires : tie.Need-store-rows-requires
-store-rows-requires c κs = ?
+store-rows-requires c κs = let a = c .before .before .before .before .before .before .before .before .before .before .before .before .before .before .before .before .before .before .before .before .before .before .before .before .args in let v = valid-facts (a .t1) (c .before .before .before .before .before .before .before .before .before .before .before .before .before .before .before .before .before .before .before .before .before .before .before .before .pre .0) in let s = c .before .before .before .before .before .before .before .before .before .before .before .before .before .before .before .before .before .before .before .before .before .size2 .ensures .0 in let z = c .before .before .before .before .before .before .before .before .before .before .before .before .before .before .before .before .before .before .before .before .before .before .size .ensures .0 in let k = c .before .before .before .before .before .before .before .before .before .before .before .before .before .before .before .before .before .before .before .store-four .kept .0 in let j = c .before .before .before .before .before .before .before .before .before .before .before .before .copy .kept .1 .1 .1 .0 in let i = c .before .before .before .before .before .copy2 .kept .1 .1 .1 .0 in let l : 4 + c .before .before .before .before .before .before .before .before .before .before .before .before .before .before .before .before .before .before .before .before .before .size2 .result + c .before .before .before .before .before .before .before .before .before .before .before .before .before .before .before .before .before .before .before .before .before .before .size .result + c .before .before .before .before .before .before .before .before .before .before .before .before .before .before .before .before .before .before .before .before .before .before .size .result * c .before .before .before .before .before .before .before .before .before .before .before .before .before .before .before .before .before .before .before .before .before .size2 .result ≤ length (c .before .before .before .before .before .copy2 .last .1 .1 .1 .0) = rw (s, z) (omega (arith, numbers-length (a .t1) v, c .before .before .before .before .before .before .before .before .before .before .before .before .before .before .before .before .before .before .before .before .before .before .before .before .pre .1, k, j, i)) in (omega (arith, z, v .states-high), omega (arith, s, v .symbols-high), l)
 
 -- src/writing.rt:49:1
 same-length : tie.Need-same-length
@@ -50,7 +57,7 @@ same-length c = search needs
 
 -- src/writing.rt:49:1
 returns : tie.Need-returns
-returns c = ?
+returns c = let a = c .before .before .before .before .before .before .before .before .before .before .before .before .before .before .before .before .before .before .before .before .before .before .before .before .before .before .before .args in let v = valid-facts (a .t1) (c .before .before .before .before .before .before .before .before .before .before .before .before .before .before .before .before .before .before .before .before .before .before .before .before .before .before .before .pre .0) in c .before .before .store-rows .ensures ∙ rw (c .before .before .before .before .before .before .before .before .copy2 .ensures, c .before .before .before .before .before .before .before .before .before .before .before .before .before .before .before .copy .ensures, c .before .before .before .before .before .before .before .before .before .before .before .before .before .before .before .before .before .before .before .before .before .before .store-four .ensures, c .before .before .before .before .before .before .before .before .before .before .before .before .before .before .before .before .before .before .before .before .before .before .before .before .before .size .ensures .0, c .before .before .before .before .before .before .before .before .before .before .before .before .before .before .before .before .before .before .before .before .before .before .before .before .size2 .ensures .0) (parts-join (a .t1) v (a .out .now))
 
 pub store-spec : {M : Type 1} → statement M
 store-spec =
