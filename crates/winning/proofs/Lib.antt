@@ -1,2 +1,3 @@
 pub mod Free
 pub mod Scanning
+pub mod Filling

@@ -1,30 +1,31 @@
 -- What the inner functions of the solver hand back, over the arrays that are lent to them: the next states and the first u of a list
 -- of symbols.
-use Prim.Native.Nat.{ℕ, zero, suc, _+_, _*_, _^_, _<_, _≤_}
+use Prim.Native.Nat.{ℕ, zero, suc, _+_, _*_, _<_, _≤_}
 use mathlib.Core.Bool.{Bool, cond, _&&_}
 use mathlib.Core.List.{List, [], _∷_, _++_}
 use lib.Bits.{bitOr}
 use lib.Dec.{eqb}
 use lib.ListN.{length, getD}
+use lib.Seq.{sets as stores}
 use Rattle.base.specs.Each.{each}
 use Rattle.base.specs.Masks.{has, mask}
 use Rattle.base.specs.Pad.{pad}
 use Rattle.sets.specs.declared.Settled.{Settled}
 use Rattle.sets.specs.declared.Sets.{Sets}
 use Rattle.sets.specs.Sets.{settle}
+use Rattle.sets.specs.Table.{pairs}
 pub use Rattle.winning.specs.declared.refinement.Symbols.{Symbols}
 
 -- every number of a list is below a limit
 abbrev pub Below : ℕ → List ℕ → Type 0
 Below limit l = (i : ℕ) → getD l i 0 < limit
 
--- the lent arrays and numbers are those of an automaton within its limits
-pub record Fits (next free : List ℕ) (n u accepting : ℕ) : Type 0 where
+-- n states and u symbols with which the lent arrays can be indexed
+pub record Fits (next free : List ℕ) (n u : ℕ) : Type 0 where
   pub states : n ≤ 32
   pub symbols : u ≤ 16
   pub next-below : Below 32 next
   pub free-below : Below 16 free
-  pub accepting-below : accepting < 2 ^ n
 
 -- the states whose flag is 1
 unfoldable pub flagged : List ℕ → ℕ → ℕ
@@ -80,3 +81,7 @@ unfoldable pub levelOf : (ℕ → ℕ → Sets) → List ℕ → ℕ → List �
 levelOf f classes zero t from count = []
 levelOf f classes (suc e) t from count =
     levelOf f classes e t from count ++ cond (eqb (getD classes e 0) 1) (rowOf (f e) t from count) []
+
+-- a table with sets stored from a place on
+abbrev pub stored : List ℕ → ℕ → List Sets → List ℕ
+stored t at ss = stores t at (pairs ss)

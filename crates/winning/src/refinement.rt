@@ -50,7 +50,7 @@ pub fn uncontrollable(classes: &[u8; 16], m: usize) -> Symbols
 // One round (document 01's striking): what is left of `set` when each state is taken out of which a symbol leads neither into `set`,
 // as it stood when the round began, nor into `must`.
 fn refine<'a>(next: &'a [u8; 512], free: &'a [u8; 16], n: usize, u: usize, must: u32, set: u32) -> u32
-    requires { ⌜ (n ≤ 32) × (u ≤ 16) × Below 32 (now next) × Below 16 (now free) ⌝ }
+    requires { ⌜ Fits (now next) (now free) n u ⌝ }
     ensures { λ r. ⌜ r ≡ leftOf (now (next .entry)) (now (free .entry)) n u must set ⌝ }
 {
     let safe = set | must;
@@ -76,7 +76,7 @@ fn refine<'a>(next: &'a [u8; 512], free: &'a [u8; 16], n: usize, u: usize, must:
 
 // Rounds until one takes nothing out, and how many took a state out.
 pub fn settle<'a>(next: &'a [u8; 512], free: &'a [u8; 16], n: usize, u: usize, must: u32, from: u32) -> Settled
-    requires { ⌜ (n ≤ 32) × (u ≤ 16) × Below 32 (now next) × Below 16 (now free) ⌝ }
+    requires { ⌜ Fits (now next) (now free) n u ⌝ }
     ensures { λ r. ⌜ r ≡ settledOn (now (next .entry)) (now (free .entry)) n u must from ⌝ }
 {
     let mut set = from;

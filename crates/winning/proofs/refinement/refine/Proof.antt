@@ -59,11 +59,11 @@ size-requires c κs = search needs
 
 -- src/refinement.rt:63:41
 add-size : tie.Need-add-size Inv-scan μ-scan Inv-loop μ-loop
-add-size c = omega (arith, c .size .ensures .0, c .before .before .before .before .before .before .before .before .pre .3 (c .before .before .before .scan .k))
+add-size c = omega (arith, c .size .ensures .0, c .before .before .before .before .before .before .before .before .pre .free-below (c .before .before .before .scan .k))
 
 -- src/refinement.rt:63:36
 element-copy-out-size-2 : tie.Need-element-copy-out-size-2 Inv-scan μ-scan Inv-loop μ-loop
-element-copy-out-size-2 c = omega (arith, c .size .ensures .0, c .before .before .before .before .before .before .before .before .pre .3 (c .before .before .before .scan .k))
+element-copy-out-size-2 c = omega (arith, c .size .ensures .0, c .before .before .before .before .before .before .before .before .pre .free-below (c .before .before .before .scan .k))
 
 -- src/refinement.rt:63:31
 size-requires-2 : tie.Need-size-requires-2 Inv-scan μ-scan Inv-loop μ-loop
@@ -71,7 +71,7 @@ size-requires-2 c κs = search needs
 
 -- src/refinement.rt:63:21
 has-requires-2 : tie.Need-has-requires-2 Inv-scan μ-scan Inv-loop μ-loop
-has-requires-2 c κs = omega (arith, c .size2 .ensures .0, c .before .before .before .before .before .before .before .before .before .before .pre .2 (c .before .before .before .before .before .before .before .before .before .loop .q * 16 + c .before .before .size .result))
+has-requires-2 c κs = omega (arith, c .size2 .ensures .0, c .before .before .before .before .before .before .before .before .before .before .pre .next-below (c .before .before .before .before .before .before .before .before .before .loop .q * 16 + c .before .before .size .result))
 
 -- src/refinement.rt:66:21
 add-k : tie.Need-add-k Inv-scan μ-scan Inv-loop μ-loop
