@@ -21,7 +21,7 @@ use Rattle.sets.specs.declared.Sets.{Sets}
 use Rattle.sets.specs.Table.{pairs, roundsSum}
 use Rattle.sets.proofs.Rounds.{settle-keeps}
 use Rattle.sets.proofs.Tables.{pairs-length}
-use Rattle.winning.specs.Parts.{leads, leftOf, settledOn, setsFrom, goalAt, rowOf, levelOf, stored}
+use Rattle.winning.specs.Parts.{leads, leftOf, settledOn, predecessors, setsFrom, goalAt, rowOf, levelOf, stored}
 
 -- the rounds of one buffer are at most the states
 module _ (next free : List ℕ) (n u i x : ℕ) (small : x < 2 ^ n) where
@@ -43,9 +43,9 @@ module _ (next free : List ℕ) (n u i x : ℕ) (small : x < 2 ^ n) where
       (λ r y ne h. (left-lt y, omega (arith, h .1, fewer-states n y (round y) (h .0) (left-lt y) (left-in y) ne)))
       x 0 x (small, omega (arith, count-max n (has x))) .1)
 
-pub sets-few : (next free : List ℕ) (n u accepting : ℕ) → accepting < 2 ^ n → (e goal : ℕ) → setsFrom next free n u accepting e goal .rounds ≤ n
+pub sets-few : (next free : List ℕ) (n u accepting : ℕ) → n ≤ 32 → accepting < 2 ^ n → (e goal : ℕ) → setsFrom next free n u accepting e goal .rounds ≤ 32
 unfolding setsFrom
-sets-few next free n u accepting small e goal = settled-few next free n u _ accepting small
+sets-few next free n u accepting l small e goal = omega (arith, settled-few next free n u (predecessors next n e goal) accepting small)
 
 -- lists of sets, one behind the other
 pub pairs-append : (ss ts : List Sets) → pairs (ss ++ ts) ≡ pairs ss ++ pairs ts
@@ -83,7 +83,7 @@ row-same f t v from (suc j) h =
     ap₂ (λ l x. l ++ f x ∷ []) (row-same f t v from j (λ i l. h i (omega arith)))
     (ap₂ bitOr (h (from + 2 * j) (omega arith)) (h (from + 2 * j + 1) (omega arith)))
 
-row-few : (f : ℕ → Sets) → ((goal : ℕ) → f goal .rounds ≤ 32) → (t : List ℕ) (from j : ℕ) → roundsSum (rowOf f t from j) ≤ 32 * j
+pub row-few : (f : ℕ → Sets) → ((goal : ℕ) → f goal .rounds ≤ 32) → (t : List ℕ) (from j : ℕ) → roundsSum (rowOf f t from j) ≤ 32 * j
 unfolding rowOf roundsSum
 row-few f few t from zero = omega arith
 row-few f few t from (suc j) =

@@ -64,3 +64,34 @@ fn fill_row<'a>(
     }
     rounds
 }
+
+// Writes the sets of the buffers one longer than the `count` ones that stand from a place on, behind these: a row for each
+// controllable symbol.
+fn fill_level<'a>(
+    next: &'a [u8; 512],
+    free: &'a [u8; 16],
+    classes: &'a [u8; 16],
+    n: usize,
+    m: usize,
+    u: usize,
+    accepting: u32,
+    table: &mut [u32],
+    from: usize,
+    count: usize,
+) -> u32
+    requires { ⌜ Fits (now next) (now free) n u × (accepting < 2 ^ n) × (m ≤ 16) × (count ≤ 262144) × (from + 2 * count + 2 * length (levelOf (setsFrom (now next) (now free) n u accepting) (now classes) m (now table) from count) ≤ length (now table)) ⌝ }
+    ensures { λ r. ⌜ (now (table .exit) ≡ stored (now (table .entry)) (from + 2 * count) (levelOf (setsFrom (now (next .entry)) (now (free .entry)) n u accepting) (now (classes .entry)) m (now (table .entry)) from count)) × (r ≡ roundsSum (levelOf (setsFrom (now (next .entry)) (now (free .entry)) n u accepting) (now (classes .entry)) m (now (table .entry)) from count)) ⌝ }
+{
+    let mut at = from + 2 * count;
+    let mut rounds: u32 = 0;
+    let mut e: usize = 0;
+    while e < m {
+        if classes[e] == 1 {
+            let more = fill_row(next, free, n, u, accepting, e, table, from, at, count);
+            rounds = rounds + more;
+            at = at + 2 * count;
+        }
+        e = e + 1;
+    }
+    rounds
+}

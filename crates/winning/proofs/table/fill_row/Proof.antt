@@ -89,7 +89,7 @@ slice-write-table-2 c = simp length-set (omega arith)
 
 -- src/table.rt:62:18
 add-rounds : tie.Need-add-rounds Inv-loop μ-loop
-add-rounds c = let a = c .before .before .before .before .before .before .before .before .args in let v = c .before .before .before .before .before .loop .inv .1 in let j = c .before .if1 in let p = c .before .before .before .before .before .before .before .before .pre in omega (arith, fill-fits _ _ _ _ _ _ _ _ _ v (omega arith) _ _ (⊎-elim (λ w. w .2) (λ w. w .1 ∙ sym (w .0 .left)) (j .came)) (⊎-elim (λ w. w .3 ∙ w .1 .ensures ∙ ap (setsFrom (a .next .now) (a .free .now) (a .n) (a .u) (a .accepting) (a .symbol)) (sym (w .2))) (λ w. w .2 ∙ v .remembered ∙ ap (setsFrom (a .next .now) (a .free .now) (a .n) (a .u) (a .accepting) (a .symbol)) (sym (w .1))) (j .came)) (λ goal. omega (arith, sets-few (a .next .now) (a .free .now) (a .n) (a .u) (a .accepting) (p .1) (a .symbol) goal, p .0 .states)))
+add-rounds c = let a = c .before .before .before .before .before .before .before .before .args in let v = c .before .before .before .before .before .loop .inv .1 in let j = c .before .if1 in let p = c .before .before .before .before .before .before .before .before .pre in omega (arith, fill-fits _ _ _ _ _ _ _ _ _ v (omega arith) _ _ (⊎-elim (λ w. w .2) (λ w. w .1 ∙ sym (w .0 .left)) (j .came)) (⊎-elim (λ w. w .3 ∙ w .1 .ensures ∙ ap (setsFrom (a .next .now) (a .free .now) (a .n) (a .u) (a .accepting) (a .symbol)) (sym (w .2))) (λ w. w .2 ∙ v .remembered ∙ ap (setsFrom (a .next .now) (a .free .now) (a .n) (a .u) (a .accepting) (a .symbol)) (sym (w .1))) (j .came)) (sets-few _ _ _ _ _ (p .0 .states) (p .1) (a .symbol)))
 
 -- src/table.rt:63:13
 add-j : tie.Need-add-j Inv-loop μ-loop
