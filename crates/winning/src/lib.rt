@@ -1,4 +1,6 @@
 // The solver: the sets S and I of every buffer, written into a lent table.
+mod refinement;
+mod table;
 use automaton::Automaton;
 
 // What solving gives: the rounds that struck a state, summed over all buffers (refusal 0), or the refusing row with 0 rounds.

@@ -1,0 +1,4 @@
+pub mod Free
+pub mod Scanning
+pub mod Filling
+pub mod Levels
