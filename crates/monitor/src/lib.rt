@@ -1,4 +1,5 @@
 // The enforcement monitor: one event, and a whole day of them, over a lent table.
+mod releasing;
 use automaton::Automaton;
 use configuration::Configuration;
 
@@ -25,4 +26,17 @@ pub struct Ran {
     pub configuration: Configuration,
     pub length: usize,
     pub refused: usize,
+}
+
+// The controllable symbols: how many there are, and the rank of each from 1 (0: uncontrollable).
+pub struct Ranking {
+    pub count: u32,
+    pub ranks: [u8; 16],
+}
+
+// The front part of a buffer that is released: its length, the state after it, and whether the monitor may rest there.
+pub struct Front {
+    pub winning: bool,
+    pub count: usize,
+    pub state: usize,
 }
