@@ -1,0 +1,5 @@
+pub mod Release
+pub mod Effects
+pub mod Runs
+pub mod Refusals
+pub mod Solved
