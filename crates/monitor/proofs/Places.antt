@@ -9,7 +9,7 @@ use native.Mathlib.Omega.{arith}
 use lib.ListN.{length, getD, set, take, drop, replicate, length-append, length-drop, length-replicate, replicate-append-replicate, List·getD-append}
 use lib.Seq.{set-at, drop-cons, drop-length, getD-take, getD-append-add, length-take-le, take-nil}
 use lib.Dec.{eqb, ltb}
-use borrow.Author.Tests.{eq-eqb, ne-eqb, eqb-true, eqb-false}
+use borrow.Author.Tests.{eq-eqb, ne-eqb, ltb-true, ltb-false}
 use Rattle.base.specs.Each.{count}
 use Rattle.base.specs.Pad.{pad}
 use Rattle.base.proofs.Bools.{by}
@@ -127,3 +127,21 @@ module _ (classes ranks : List ℕ) (e : ℕ) (h : e < 16) (so-far : ranks ≡ p
   rank-none c =
       let l = ranks-length classes e in
       so-far ∙ pad-zero 16 (ranksTo classes e) (omega arith) ∙ rw (add-one e, ne-eqb (getD classes e 0) 1 c)
+
+-- what stands at a place
+place-in : (ranks : List ℕ) (k : ℕ) (w : List ℕ) (i : ℕ) → i < length w → getD (placesOf ranks k w) i 0 ≡ placeIn ranks k (drop i w)
+unfolding placesOf
+place-in ranks k [] i h = absurd (omega arith)
+place-in ranks k (e ∷ w) zero h = refl
+place-in ranks k (e ∷ w) (suc i) h = place-in ranks k w i (omega arith)
+
+pub place-at : (ranks : List ℕ) (k : ℕ) (w : List ℕ) (i : ℕ) → i ≤ length w → getD (pad 8 (placesOf ranks k w)) i 0 ≡ placeIn ranks k (drop i w)
+unfolding placeIn
+place-at ranks k w i h =
+    by (ltb i (length w))
+    (λ t.
+    let l = ltb-true i (length w) t in
+    pad-inside 8 (placesOf ranks k w) i (omega (arith, places-length ranks k w)) ∙ place-in ranks k w i l)
+    (λ t.
+    let e : i ≡ length w = omega (arith, ltb-false i (length w) t) in
+    pad-outside 8 (placesOf ranks k w) i (omega (arith, places-length ranks k w, ltb-false i (length w) t)) ∙ sym (rw (e, drop-length w)))

@@ -6,21 +6,18 @@ use mathlib.Core.List.{List, [], _∷_, _++_}
 use native.Mathlib.Numerals.{add-one}
 use native.Mathlib.Omega.{arith}
 use lib.ListN.{length, getD, take, drop}
-use lib.Seq.{take-suc}
+use lib.Seq.{take-suc, getD-take}
 use Rattle.base.specs.Each.{those, lastOr}
 use Rattle.base.specs.Masks.{has}
 use Rattle.base.proofs.Bools.{by}
 use Rattle.base.proofs.Picking.{last-taken, last-kept}
 use Rattle.automaton.specs.declared.Automaton.{Automaton}
 use Rattle.automaton.specs.Automaton.{step, run}
+use Rattle.automaton.proofs.Running.{run-end}
 use Rattle.monitor.specs.Step.{Rest, qualifies, qualifying, release}
-use Rattle.monitor.specs.Parts.{Front, front}
-
--- one more event of a front part
-run-more : (a : Automaton) (q : ℕ) (w : List ℕ) (e : ℕ) → run a q (w ++ e ∷ []) ≡ step a (run a q w) e
-unfolding run
-run-more a q [] e = refl
-run-more a q (x ∷ w) e = run-more a (step a q x) w e
+use Rattle.base.specs.Pad.{pad}
+use Rattle.monitor.specs.Parts.{Front, front, placeIn, placesOf, restIn, over, Lent}
+use Rattle.monitor.proofs.Places.{place-at}
 
 pub record Searching (rest : Rest) (a : Automaton) (q : ℕ) (w : List ℕ) (winning : Bool) (count state p r : ℕ) : Type 0 where
   pub within : r ≤ length w
@@ -32,7 +29,7 @@ pub record Searching (rest : Rest) (a : Automaton) (q : ℕ) (w : List ℕ) (win
 
 module _ (rest : Rest) (a : Automaton) (q : ℕ) (w : List ℕ) where
   pub searching-begins : (b : Bool) → b ≡ rest w q → Searching rest a q w b 0 q q 0
-  unfolding qualifies run
+  unfolding qualifies run those lastOr
   searching-begins b e =
       record {
         within = omega arith;
@@ -47,7 +44,7 @@ module _ (rest : Rest) (a : Automaton) (q : ℕ) (w : List ℕ) where
     -- the next state on the way
     next-state : step a p (getD w r 0) ≡ run a q (take (r + 1) w)
     next-state =
-        ap (λ x. step a x (getD w r 0)) (g .here) ∙ sym (run-more a q (take r w) (getD w r 0)) ∙
+        ap (λ x. step a x (getD w r 0)) (g .here) ∙ sym (run-end a q (take r w) (getD w r 0)) ∙
         ap (run a q) (sym (take-suc w r 0 h) ∙ ap (λ i. take i w) (sym (add-one r)))
 
     module _ (s : ℕ) (e : s ≡ step a p (getD w r 0)) (b : Bool) (f : b ≡ rest (drop (r + 1) w) s) where
@@ -84,3 +81,21 @@ module _ (rest : Rest) (a : Automaton) (q : ℕ) (w : List ℕ) where
       let e : r ≡ length w = omega (arith, g .within) in
       let k = rw (e, add-one (length w)) at (g .longest) in
       rw (g .winning-is, g .state-is, k)
+
+-- what the release reads of the arrays that it is lent
+module _ {next ranks : List ℕ} {k : ℕ} {t : List ℕ} {q : ℕ} {buffer : List ℕ} {held : ℕ} (l : Lent next ranks k t q buffer held)
+    (long : length (take held buffer) ≡ held) where
+  module _ (places : List ℕ) (e : places ≡ pad 8 (placesOf ranks k (take held buffer))) (i : ℕ) (h : i ≤ held) where
+    lent-place : getD places i 0 ≡ placeIn ranks k (drop i (take held buffer))
+    lent-place = ap (λ x. getD x i 0) e ∙ place-at ranks k (take held buffer) i (omega arith)
+
+    pub lent-below : 2 * getD places i 0 < length t
+    lent-below = rw lent-place (l .long i h)
+
+    pub lent-rest : (s : ℕ) (b : Bool) → b ≡ has (getD t (2 * getD places i 0) 0) s → b ≡ restIn t ranks k (drop i (take held buffer)) s
+    unfolding restIn
+    lent-rest s b f = f ∙ ap (λ x. has (getD t (2 * x) 0) s) lent-place
+
+  pub lent-step : (p r x s : ℕ) → r < held → x ≡ getD buffer r 0 → s ≡ getD next (p * 16 + x) 0 → s ≡ step (over next) p (getD (take held buffer) r 0)
+  unfolding step
+  lent-step p r x s h e f = f ∙ ap (λ y. getD next (p * 16 + y) 0) (e ∙ sym (getD-take held buffer r 0 h))
