@@ -15,11 +15,11 @@ use Rattle.winning.specs.Parts.{freeTo, freeOf}
 
 module _ (classes : List ℕ) where
   -- a symbol more, which is controllable or not
-  free-none : (e : ℕ) → getD classes e 0 ≡ 1 → freeTo classes (e + 1) ≡ freeTo classes e
+  pub free-none : (e : ℕ) → getD classes e 0 ≡ 1 → freeTo classes (e + 1) ≡ freeTo classes e
   unfolding freeTo
   free-none e h = rw (add-one e, eq-eqb (getD classes e 0) 1 h) (append-nil (freeTo classes e))
 
-  free-one : (e : ℕ) → (getD classes e 0 ≡ 1 → ⊥) → freeTo classes (e + 1) ≡ freeTo classes e ++ e ∷ []
+  pub free-one : (e : ℕ) → (getD classes e 0 ≡ 1 → ⊥) → freeTo classes (e + 1) ≡ freeTo classes e ++ e ∷ []
   unfolding freeTo
   free-one e h = rw (add-one e, ne-eqb (getD classes e 0) 1 h)
 
