@@ -1,8 +1,9 @@
 -- The lent arrays of an automaton give its sets.
-use Prim.Native.Nat.{ℕ, zero, suc, _+_, _*_, _<_}
+use Prim.Native.Nat.{ℕ, zero, suc, _+_, _*_, _^_, _<_}
 use mathlib.Core.Path.{_≡_, refl, sym, _∙_, ap, ap₂}
 use mathlib.Core.List.{List, [], _∷_, _++_, append-nil}
 use mathlib.Core.Bool.{Bool, true, _&&_, _||_, and-true}
+use native.Mathlib.Omega.{arith}
 use lib.Bits.{bitOr}
 use lib.Dec.{eqb}
 use lib.ListN.{length, getD, length-append, List·getD-append}
@@ -13,15 +14,17 @@ use Rattle.base.specs.Masks.{has}
 use Rattle.base.specs.Pad.{pad}
 use Rattle.base.proofs.Bools.{by}
 use Rattle.base.proofs.Ranges.{each-more, each-same}
-use Rattle.base.proofs.Masks.{mask-same, has-or}
+use Rattle.base.proofs.Masks.{mask-lt, mask-same, has-or}
 use Rattle.base.proofs.Padding.{pad-inside}
 use Rattle.automaton.specs.declared.Automaton.{Automaton}
-use Rattle.automaton.specs.Automaton.{controllable, accepts, step}
+use Rattle.automaton.specs.Automaton.{controllable, accepts, step, valid}
+use Rattle.automaton.proofs.Facts.{valid-facts}
 use Rattle.sets.specs.declared.Sets.{Sets}
 use Rattle.sets.specs.declared.Settled.{Settled}
 use Rattle.sets.specs.Sets.{acceptingSet, admits, stays, refine, settle, settled, setsOf, emptySets, into, sets}
-use Rattle.winning.specs.Parts.{flagged, freeTo, leads, leftOf, settledOn, predecessors, setsFrom}
-use Rattle.winning.proofs.Free.{free-none, free-one}
+use Rattle.sets.proofs.Total.{total}
+use Rattle.winning.specs.Parts.{Fits, flagged, freeTo, leads, leftOf, settledOn, predecessors, setsFrom}
+use Rattle.winning.proofs.Free.{free-length, free-below}
 
 -- a test of each uncontrollable symbol
 free-each : (classes : List ℕ) (p : ℕ → Bool) (m : ℕ)
@@ -41,6 +44,22 @@ free-each classes p (suc e) =
 module _ (a : Automaton) where
   abbrev free : List ℕ
   free = freeTo (a .classes) (a .symbols)
+
+  -- they can be indexed
+  pub lent-fits : valid a ≡ true → Fits (a .next) (pad 16 free) (a .states) (length free)
+  unfolding step
+  lent-fits h =
+      let v = valid-facts a h in
+      record {
+        states = v .states-high;
+        symbols = omega (arith, v .symbols-high, free-length (a .classes) (a .symbols));
+        next-below = λ i. let e : 0 * 16 + i ≡ i = omega arith in omega (arith, rw e at (total a h 0 i), v .states-high);
+        free-below = free-below (a .classes) (a .symbols) (v .symbols-high);
+      }
+
+  pub accepting-below : acceptingSet a < 2 ^ a .states
+  unfolding acceptingSet
+  accepting-below = mask-lt (a .states) (accepts a)
 
   pub flagged-is : flagged (a .accepting) (a .states) ≡ acceptingSet a
   unfolding flagged acceptingSet accepts
