@@ -6,3 +6,4 @@ pub mod Agreeing
 pub mod Buffers
 pub mod Bounds
 pub mod Lengths
+pub mod Answers
