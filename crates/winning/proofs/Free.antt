@@ -10,16 +10,17 @@ use lib.ListN.{length, getD, set, length-append}
 use borrow.Author.Tests.{eq-eqb, ne-eqb}
 use Rattle.base.specs.Pad.{pad}
 use Rattle.base.proofs.Bools.{by}
-use Rattle.base.proofs.Padding.{pad-set}
-use Rattle.winning.specs.Parts.{freeTo, freeOf}
+use Rattle.base.proofs.Every.{Every, every-cons, every-append}
+use Rattle.base.proofs.Padding.{pad-set, pad-every}
+use Rattle.winning.specs.Parts.{Below, freeTo, freeOf}
 
 module _ (classes : List ℕ) where
   -- a symbol more, which is controllable or not
-  free-none : (e : ℕ) → getD classes e 0 ≡ 1 → freeTo classes (e + 1) ≡ freeTo classes e
+  pub free-none : (e : ℕ) → getD classes e 0 ≡ 1 → freeTo classes (e + 1) ≡ freeTo classes e
   unfolding freeTo
   free-none e h = rw (add-one e, eq-eqb (getD classes e 0) 1 h) (append-nil (freeTo classes e))
 
-  free-one : (e : ℕ) → (getD classes e 0 ≡ 1 → ⊥) → freeTo classes (e + 1) ≡ freeTo classes e ++ e ∷ []
+  pub free-one : (e : ℕ) → (getD classes e 0 ≡ 1 → ⊥) → freeTo classes (e + 1) ≡ freeTo classes e ++ e ∷ []
   unfolding freeTo
   free-one e h = rw (add-one e, ne-eqb (getD classes e 0) 1 h)
 
@@ -30,6 +31,18 @@ module _ (classes : List ℕ) where
       by (eqb (getD classes e 0) 1)
       (λ t. rw (t, length-append (freeTo classes e) []) (omega (arith, free-length e)))
       (λ f. rw (f, length-append (freeTo classes e) (e ∷ [])) (omega (arith, free-length e)))
+
+  free-small : (m e : ℕ) → e ≤ m → Every (λ x. x < m) (freeTo classes e)
+  unfolding freeTo
+  free-small m zero h = λ i l. absurd (omega arith)
+  free-small m (suc e) h =
+      by (eqb (getD classes e 0) 1)
+      (λ t. rw (t, append-nil (freeTo classes e)) (free-small m e (omega arith)))
+      (λ f. rw f (every-append (λ x. x < m) (freeTo classes e) (e ∷ []) (free-small m e (omega arith))
+      (every-cons (λ x. x < m) e [] (omega arith) (λ i l. absurd (omega arith)))))
+
+  pub free-below : (e : ℕ) → e ≤ 16 → Below 16 (pad 16 (freeTo classes e))
+  free-below e h = pad-every (λ x. x < 16) 16 (freeTo classes e) (omega arith) (free-small 16 e h)
 
 -- a loop that makes the list
 pub record Listed (classes : List ℕ) (e : ℕ) (list : List ℕ) (count : ℕ) : Type 0 where

@@ -10,7 +10,7 @@ ghost use mathlib.Core.List.{_++_};
 ghost use Prim.Native.Nat.{ℕ, _+_, _*_, _^_, _<_, _≤_};
 ghost use lib.ListN.{length, drop};
 ghost use Rattle.automaton.specs.Automaton.{valid};
-ghost use Rattle.sets.specs.Table.{pairs, roundsSum, buffersCount, table, rounds};
+ghost use Rattle.sets.specs.Table.{shorter, roundsSum, buffersCount, table as tableOf, rounds as roundsOf};
 ghost use Rattle.winning.specs.Parts.{Fits, setsFrom, rowOf, levelOf, stored};
 
 // The sets of a buffer that begins with a symbol, where `goal` has the states of either set of the rest.
@@ -92,6 +92,34 @@ fn fill_level<'a>(
             at = at + 2 * count;
         }
         e = e + 1;
+    }
+    rounds
+}
+
+// Writes the sets of every buffer, from the empty one on.
+pub fn fill(a: Automaton, table: &mut [u32]) -> u32
+    requires { ⌜ (valid a ≡ true) × (2 * buffersCount a ≤ length (now table)) ⌝ }
+    ensures { λ r. ⌜ (now (table .exit) ≡ tableOf a ++ drop (2 * buffersCount a) (now (table .entry))) × (r ≡ roundsOf a) ⌝ }
+{
+    let n = size(a.states);
+    let m = size(a.symbols);
+    let capacity = size(a.capacity);
+    let accepting = accepting_states(&a.accepting, n);
+    let free = uncontrollable(&a.classes, m);
+    let u = free.count;
+    let empty = settle(&a.next, &free.list, n, u, 0, accepting);
+    table[0] = empty.set;
+    table[1] = 0;
+    let mut rounds = empty.rounds;
+    let mut from: usize = 0;
+    let mut count: usize = 1;
+    let mut length: usize = 0;
+    while length < capacity {
+        let more = fill_level(&a.next, &free.list, &a.classes, n, m, u, accepting, table, from, count);
+        rounds = rounds + more;
+        from = from + 2 * count;
+        count = count * (m - u);
+        length = length + 1;
     }
     rounds
 }
