@@ -1,2 +1,4 @@
 pub mod Worded
 pub mod Turns
+pub mod Arena
+pub mod Answers
