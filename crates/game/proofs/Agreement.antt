@@ -27,8 +27,7 @@ use Rattle.game.specs.Claims.{Agrees, VerdictAgrees}
 
 -- resting, where what releasing comes to is the intermediate set
 module _ (a : Automaton) (t : Total a) (w : List ℕ) (released : ℕ → Bool)
-  (is : (q : ℕ) → q < a .states → released q ≡ has (sets a w .intermediate) q) where
-
+    (is : (q : ℕ) → q < a .states → released q ≡ has (sets a w .intermediate) q) where
   abbrev turn : ℕ → ℕ → ℕ → Bool
   turn r q e = controllable a e || (restsBy a released r (step a q e) || released (step a q e))
 

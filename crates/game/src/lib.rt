@@ -1,10 +1,13 @@
 // The game for small automata: may we rest here, and can we come to rest?
 use automaton::Automaton;
 use configuration::Configuration;
+
 mod limits;
 mod play;
+
 use limits::too_large;
-use play::{can_rest, may_rest};
+use play::can_rest;
+use play::may_rest;
 ghost use mathlib.Core.Path.{_≡_};
 ghost use Rattle.game.specs.Game.{refused, verdict};
 
@@ -42,9 +45,13 @@ pub fn judge(a: Automaton, c: Configuration) -> Verdict
     let m = base::size(a.symbols);
     let held = base::size(c.held);
     let q = base::size(c.state);
+    let next = &a.next;
+    let classes = &a.classes;
+    let accepting = &a.accepting;
+    let buffer = &c.buffer;
     Verdict {
         refusal: 0,
-        may_rest: may_rest(&a.next, &a.classes, &a.accepting, &c.buffer, n, m, held, 0, q, n),
-        can_rest: can_rest(&a.next, &a.classes, &a.accepting, &c.buffer, n, m, held, 0, q, n),
+        may_rest: may_rest(next, classes, accepting, buffer, n, m, held, 0, q, n),
+        can_rest: can_rest(next, classes, accepting, buffer, n, m, held, 0, q, n),
     }
 }
