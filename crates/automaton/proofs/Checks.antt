@@ -10,7 +10,7 @@ use lib.Seq.{set-at, getD-append-add}
 use lib.Dec.{eqb, leb, ltb}
 use borrow.Author.Tests.{lt-ltb, le-ltb, le-leb, lt-leb, eq-eqb, ne-eqb}
 use Rattle.base.specs.Each.{each, count}
-use Rattle.base.proofs.Ranges.{each-falls, each-keeps, count-more}
+use Rattle.base.proofs.Ranges.{each-falls, each-keeps, count-adds, count-skips}
 use Rattle.automaton.specs.Parts.{rangesHold, belowFrom, limitsOf, rowBelow, rowsBelow, controllableIn, tablesHold}
 
 module _ (l : List ℕ) (from i limit : ℕ) (fine : Bool) (so-far : fine ≡ belowFrom l from i limit) where
@@ -51,13 +51,11 @@ module _ (next : List ℕ) (from q : ℕ) (limits : List ℕ) (fine : Bool) (so-
 module _ (classes : List ℕ) (e n : ℕ) (so-far : n ≡ controllableIn classes e) where
   pub counted : getD classes e 0 ≡ 1 → n + 1 ≡ controllableIn classes (e + 1)
   unfolding controllableIn
-  counted h = let t : eqb (getD classes e 0) 1 ≡ true = eq-eqb (getD classes e 0) 1 h in
-      sym (count-more e (λ e. eqb (getD classes e 0) 1) ∙ rw (t, ← so-far))
+  counted h = count-adds (λ e. eqb (getD classes e 0) 1) e n so-far (eq-eqb (getD classes e 0) 1 h)
 
   pub passed : (getD classes e 0 ≡ 1 → ⊥) → n ≡ controllableIn classes (e + 1)
   unfolding controllableIn
-  passed h = let t : eqb (getD classes e 0) 1 ≡ false = ne-eqb (getD classes e 0) 1 h in
-      sym (count-more e (λ e. eqb (getD classes e 0) 1) ∙ rw (t, ← so-far) (omega arith))
+  passed h = count-skips (λ e. eqb (getD classes e 0) 1) e n so-far (ne-eqb (getD classes e 0) 1 h)
 
 -- one more limit
 repeat-end : (k n : ℕ) (rest : List ℕ) → replicate k n ++ n ∷ rest ≡ replicate (suc k) n ++ rest

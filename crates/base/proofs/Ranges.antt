@@ -66,6 +66,14 @@ pub count-more : (n : ℕ) (p : ℕ → Bool) → count (n + 1) p ≡ count n p 
 unfolding count
 count-more n p = rw (add-one n)
 
+-- a count that grows where a test holds
+module _ (p : ℕ → Bool) (i n : ℕ) (so-far : n ≡ count i p) where
+  pub count-adds : p i ≡ true → n + 1 ≡ count (i + 1) p
+  count-adds h = sym (count-more i p ∙ rw (h, ← so-far))
+
+  pub count-skips : p i ≡ false → n ≡ count (i + 1) p
+  count-skips h = sym (count-more i p ∙ rw (h, ← so-far) (omega arith))
+
 pub count-max : (n : ℕ) (p : ℕ → Bool) → count n p ≤ n
 unfolding count
 count-max zero p = omega arith

@@ -91,7 +91,7 @@ module _ (a : Automaton) (c : Configuration) where
       let small : c .held ≤ 6 = omega (arith, v .capacity-high) in
       let held : length (take (c .held) (c .buffer)) ≡ c .held = length-take-le (c .held) (c .buffer) (omega arith) in
       let same : pad 6 (take (c .held) (c .buffer)) ≡ c .buffer =
-          pad-take 6 (c .held) (c .buffer) long small (λ i l b. place-unused i l (each-at 6 place (p3 .1) i b)) in
+      pad-take 6 (c .held) (c .buffer) long small (λ i l b. place-unused i l (each-at 6 place (p3 .1) i b)) in
       record {
         state-below = ltb-true _ _ (p2 .0);
         held-high = most;

@@ -39,7 +39,13 @@ fn buffer_stands<'a>(symbols: u8, classes: &'a [u8; 16], held: usize, buffer: &'
     fine
 }
 
-pub fn consistent(states: u8, symbols: u8, capacity: u8, classes: &[u8; 16], c: Configuration) -> bool
+pub fn consistent(
+    states: u8,
+    symbols: u8,
+    capacity: u8,
+    classes: &[u8; 16],
+    c: Configuration,
+) -> bool
     ensures { λ r. ⌜ r ≡ consistentIn states symbols capacity (now (classes .entry)) c ⌝ }
 {
     if states <= c.state {

@@ -1,6 +1,8 @@
 // The configuration of a monitor: its state and the events that it holds back.
 use automaton::Automaton;
+
 mod check;
+
 pub use check::consistent;
 ghost use mathlib.Core.Path.{_≡_};
 ghost use mathlib.Core.List.{[]};

@@ -1,4 +1,4 @@
-// The two questions, which put each other. The events still held stand from `at` to `held`.
+// The two questions, which put each other, over n states and m symbols. The events still held stand from `at` to `held`.
 ghost use mathlib.Core.Path.{_≡_};
 ghost use Prim.Native.Nat.{_+_, _*_, _<_, _≤_};
 ghost use lib.ListN.{getD};
@@ -19,15 +19,15 @@ pub fn may_rest<'a>(
     classes: &'a [u8; 16],
     accepting: &'a [u8; 32],
     buffer: &'a [u8; 6],
-    states: usize,
-    symbols: usize,
+    n: usize,
+    m: usize,
     held: usize,
     at: usize,
     q: usize,
     rounds: usize,
 ) -> bool
-    requires { ⌜ Playable (arena states symbols (now classes) (now accepting) (now next)) (now buffer) held × (at ≤ held) × (q < states) ⌝ }
-    ensures { λ r. ⌜ r ≡ mayRest (arena states symbols (now (classes .entry)) (now (accepting .entry)) (now (next .entry))) (heldFrom (now (buffer .entry)) held at) rounds q ⌝ }
+    requires { ⌜ Playable (arena n m (now classes) (now accepting) (now next)) (now buffer) held × (at ≤ held) × (q < n) ⌝ }
+    ensures { λ r. ⌜ r ≡ mayRest (arena n m (now (classes .entry)) (now (accepting .entry)) (now (next .entry))) (heldFrom (now (buffer .entry)) held at) rounds q ⌝ }
 {
     if accepting[q] != 1 {
         return false;
@@ -36,10 +36,11 @@ pub fn may_rest<'a>(
         return true;
     }
     let mut e: usize = 0;
-    while e < symbols {
+    while e < m {
         if classes[e] != 1 {
             let t = step(next, q, e);
-            if !can_rest(next, classes, accepting, buffer, states, symbols, held, at, t, rounds - 1) {
+            let left = rounds - 1;
+            if !can_rest(next, classes, accepting, buffer, n, m, held, at, t, left) {
                 return false;
             }
         }
@@ -54,17 +55,17 @@ pub fn can_rest<'a>(
     classes: &'a [u8; 16],
     accepting: &'a [u8; 32],
     buffer: &'a [u8; 6],
-    states: usize,
-    symbols: usize,
+    n: usize,
+    m: usize,
     held: usize,
     at: usize,
     q: usize,
     rounds: usize,
 ) -> bool
-    requires { ⌜ Playable (arena states symbols (now classes) (now accepting) (now next)) (now buffer) held × (at ≤ held) × (q < states) ⌝ }
-    ensures { λ r. ⌜ r ≡ canRest (arena states symbols (now (classes .entry)) (now (accepting .entry)) (now (next .entry))) (heldFrom (now (buffer .entry)) held at) rounds q ⌝ }
+    requires { ⌜ Playable (arena n m (now classes) (now accepting) (now next)) (now buffer) held × (at ≤ held) × (q < n) ⌝ }
+    ensures { λ r. ⌜ r ≡ canRest (arena n m (now (classes .entry)) (now (accepting .entry)) (now (next .entry))) (heldFrom (now (buffer .entry)) held at) rounds q ⌝ }
 {
-    if may_rest(next, classes, accepting, buffer, states, symbols, held, at, q, rounds) {
+    if may_rest(next, classes, accepting, buffer, n, m, held, at, q, rounds) {
         return true;
     }
     if at == held {
@@ -72,5 +73,5 @@ pub fn can_rest<'a>(
     }
     let e = base::size(buffer[at]);
     let t = step(next, q, e);
-    can_rest(next, classes, accepting, buffer, states, symbols, held, at + 1, t, states)
+    can_rest(next, classes, accepting, buffer, n, m, held, at + 1, t, n)
 }

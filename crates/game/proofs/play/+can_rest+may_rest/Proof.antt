@@ -46,7 +46,7 @@ abbrev may-rest-below : ℕ → In 1 may-rest-kinds.ps
 may-rest-below t =
     and 1 may-rest-kinds.ps (falls 1 may-rest-kinds.ps _<_ μ-may-rest t) may-rest.Pre
 
--- src/play.rt:67:8
+-- src/play.rt:68:8
 can-rest-may-rest-requires : (t : ℕ) → can-rest-lts.Need-may-rest-requires (
   may-rest-below t,
   may-rest.Post,
@@ -59,7 +59,7 @@ can-rest-may-rest-requires : (t : ℕ) → can-rest-lts.Need-may-rest-requires (
 ) (can-rest-at t) can-rest.Post
 can-rest-may-rest-requires t c κs = search needs
 
--- src/play.rt:68:9
+-- src/play.rt:69:9
 can-rest-returns : (t : ℕ) → can-rest-lts.Need-returns (
   may-rest-below t,
   may-rest.Post,
@@ -72,7 +72,7 @@ can-rest-returns : (t : ℕ) → can-rest-lts.Need-returns (
 ) (can-rest-at t) can-rest.Post
 can-rest-returns t c = let a = c .before .before .args in sym (come-here _ (a .buffer .now) (a .held) (a .at) _ _ (sym (c .before .may-rest .ensures) ∙ c .if1 .taken))
 
--- src/play.rt:71:9
+-- src/play.rt:72:9
 can-rest-returns-2 : (t : ℕ) → can-rest-lts.Need-returns-2 (
   may-rest-below t,
   may-rest.Post,
@@ -85,7 +85,7 @@ can-rest-returns-2 : (t : ℕ) → can-rest-lts.Need-returns-2 (
 ) (can-rest-at t) can-rest.Post
 can-rest-returns-2 t c = let a = c .before .before .before .args in sym (come-none _ (a .buffer .now) (a .held) (a .at) _ _ (c .if2 .taken) (sym (c .before .before .may-rest .ensures) ∙ c .before .if1 .left))
 
--- src/play.rt:73:24
+-- src/play.rt:74:24
 can-rest-element-copy-out-size : (t : ℕ) → can-rest-lts.Need-element-copy-out-size (
   may-rest-below t,
   may-rest.Post,
@@ -98,7 +98,7 @@ can-rest-element-copy-out-size : (t : ℕ) → can-rest-lts.Need-element-copy-ou
 ) (can-rest-at t) can-rest.Post
 can-rest-element-copy-out-size t c = search needs
 
--- src/play.rt:73:9
+-- src/play.rt:74:9
 can-rest-size-requires : (t : ℕ) → can-rest-lts.Need-size-requires (
   may-rest-below t,
   may-rest.Post,
@@ -111,7 +111,7 @@ can-rest-size-requires : (t : ℕ) → can-rest-lts.Need-size-requires (
 ) (can-rest-at t) can-rest.Post
 can-rest-size-requires t c κs = search needs
 
--- src/play.rt:74:9
+-- src/play.rt:75:9
 can-rest-step-requires : (t : ℕ) → can-rest-lts.Need-step-requires (
   may-rest-below t,
   may-rest.Post,
@@ -124,7 +124,7 @@ can-rest-step-requires : (t : ℕ) → can-rest-lts.Need-step-requires (
 ) (can-rest-at t) can-rest.Post
 can-rest-step-requires t c κs = let s = c .before .before .before .before .before in let p = s .pre .1 .0 in (omega arith, omega (arith, p .events (s .args .at) (omega arith)))
 
--- src/play.rt:75:71
+-- src/play.rt:76:60
 can-rest-add-can-rest : (t : ℕ) → can-rest-lts.Need-add-can-rest (
   may-rest-below t,
   may-rest.Post,
@@ -137,7 +137,7 @@ can-rest-add-can-rest : (t : ℕ) → can-rest-lts.Need-add-can-rest (
 ) (can-rest-at t) can-rest.Post
 can-rest-add-can-rest t c = search needs
 
--- src/play.rt:75:5
+-- src/play.rt:76:5
 can-rest-can-rest-requires : (t : ℕ) → can-rest-lts.Need-can-rest-requires (
   may-rest-below t,
   may-rest.Post,
@@ -149,9 +149,9 @@ can-rest-can-rest-requires : (t : ℕ) → can-rest-lts.Need-can-rest-requires (
   can-rest.Post,
 ) (can-rest-at t) can-rest.Post
 unfolding step
-can-rest-can-rest-requires t c κs = let s = c .before .before .before .before .before .before in let p = s .pre .1 .0 in let e : c .before .size .result < s .args .symbols = omega (arith, p .events (s .args .at) (omega arith)) in (omega arith, (p, omega arith, rw (c .step .ensures) (p .steps (s .args .q) (c .before .size .result) (omega arith) e)))
+can-rest-can-rest-requires t c κs = let s = c .before .before .before .before .before .before in let p = s .pre .1 .0 in let e : c .before .size .result < s .args .m = omega (arith, p .events (s .args .at) (omega arith)) in (omega arith, (p, omega arith, rw (c .step .ensures) (p .steps (s .args .q) (c .before .size .result) (omega arith) e)))
 
--- src/play.rt:52:1
+-- src/play.rt:53:1
 can-rest-returns-3 : (t : ℕ) → can-rest-lts.Need-returns-3 (
   may-rest-below t,
   may-rest.Post,
@@ -166,10 +166,10 @@ unfolding step
 can-rest-returns-3 t c = let a = c .before .before .before .before .before .before .before .args in c .can-rest .ensures ∙ rw (c .before .step .ensures, c .before .before .size .ensures .0) (sym (come-released _ (a .buffer .now) (a .held) (a .at) _ _ (omega arith) (omega arith) (sym (c .before .before .before .before .before .before .may-rest .ensures) ∙ c .before .before .before .before .before .if1 .left)))
 
 abbrev may-rest-Inv-loop : may-rest-lts.InvT-loop
-may-rest-Inv-loop next classes accepting buffer states symbols held at q rounds e₀ e = (e ≤ symbols) × (each e (turn (arena states symbols classes accepting next) (heldFrom buffer held at) (rounds - 1) q) ≡ true)
+may-rest-Inv-loop next classes accepting buffer n m held at q rounds e₀ e = (e ≤ m) × (each e (turn (arena n m classes accepting next) (heldFrom buffer held at) (rounds - 1) q) ≡ true)
 
 abbrev may-rest-μ-loop : may-rest-lts.MeasureT-loop
-may-rest-μ-loop next classes accepting buffer states symbols held at q rounds e₀ e = symbols - e
+may-rest-μ-loop next classes accepting buffer n m held at q rounds e₀ e = m - e
 
 -- src/play.rt:32:8
 may-rest-element-copy-out-if1 : (t : ℕ) → may-rest-lts.Need-element-copy-out-if1 (
@@ -228,16 +228,16 @@ may-rest-step-requires : (t : ℕ) → may-rest-lts.Need-step-requires (
 ) (may-rest-at t) may-rest.Post may-rest-Inv-loop may-rest-μ-loop
 may-rest-step-requires t c κs = search needs
 
--- src/play.rt:42:90
-may-rest-sub-can-rest : (t : ℕ) → may-rest-lts.Need-sub-can-rest (
+-- src/play.rt:42:24
+may-rest-sub-left : (t : ℕ) → may-rest-lts.Need-sub-left (
   step-reads.Asked,
   step-reads.Learnt,
   can-rest-below t,
   can-rest.Post,
 ) (may-rest-at t) may-rest.Post may-rest-Inv-loop may-rest-μ-loop
-may-rest-sub-can-rest t c = search needs
+may-rest-sub-left t c = search needs
 
--- src/play.rt:42:17
+-- src/play.rt:43:17
 may-rest-can-rest-requires : (t : ℕ) → may-rest-lts.Need-can-rest-requires (
   step-reads.Asked,
   step-reads.Learnt,
@@ -247,7 +247,7 @@ may-rest-can-rest-requires : (t : ℕ) → may-rest-lts.Need-can-rest-requires (
 unfolding step
 may-rest-can-rest-requires t c κs = let s = c .before .before .before .before .before .before .before .before in let p = s .pre .1 .0 in (omega arith, (p, omega arith, rw (c .step .ensures) (p .steps (s .args .q) (c .before .before .before .before .loop .e) (omega arith) (omega arith))))
 
--- src/play.rt:43:17
+-- src/play.rt:44:17
 may-rest-returns-3 : (t : ℕ) → may-rest-lts.Need-returns-3 (
   step-reads.Asked,
   step-reads.Learnt,
@@ -257,7 +257,7 @@ may-rest-returns-3 : (t : ℕ) → may-rest-lts.Need-returns-3 (
 unfolding accepts controllable step
 may-rest-returns-3 t c = sym (rest-on _ _ _ _ (c .before .before .before .before .before .before .before .if2 .left) (eq-eqb _ _ (c .before .before .before .before .before .before .before .before .if1 .left)) ∙ each-false _ _ (c .before .before .before .before .before .before .loop .e) (c .before .before .before .before .before .loop-test .taken) (turn-out _ _ _ _ (c .before .before .before .before .before .before .loop .e) _ (c .before .before .step .ensures) (ne-eqb _ _ (c .before .before .before .if3 .taken)) (sym (c .before .can-rest .ensures) ∙ not-true _ (c .if4 .taken))))
 
--- src/play.rt:46:13
+-- src/play.rt:47:13
 may-rest-add-e : (t : ℕ) → may-rest-lts.Need-add-e (
   step-reads.Asked,
   step-reads.Learnt,
@@ -293,7 +293,7 @@ may-rest-returns-4 : (t : ℕ) → may-rest-lts.Need-returns-4 (
   can-rest.Post,
 ) (may-rest-at t) may-rest.Post may-rest-Inv-loop may-rest-μ-loop
 unfolding accepts
-may-rest-returns-4 t c = let e : c .before .loop .e ≡ c .before .before .before .before .before .args .symbols = omega arith in sym (rest-on _ _ _ _ (c .before .before .if2 .left) (eq-eqb _ _ (c .before .before .before .if1 .left)) ∙ (rw e at (c .before .loop .inv .1)))
+may-rest-returns-4 t c = let e : c .before .loop .e ≡ c .before .before .before .before .before .args .m = omega arith in sym (rest-on _ _ _ _ (c .before .before .if2 .left) (eq-eqb _ _ (c .before .before .before .if1 .left)) ∙ (rw e at (c .before .loop .inv .1)))
 
 pub +can-rest+may-rest-spec : {M : Type 1} → statement M
 +can-rest+may-rest-spec = close μ-can-rest μ-may-rest (λ t. can-rest-lts.spec (
@@ -329,7 +329,7 @@ pub +can-rest+may-rest-spec : {M : Type 1} → statement M
     (may-rest-loop-holds t)
     (may-rest-element-copy-out-if3 t)
     (may-rest-step-requires t)
-    (may-rest-sub-can-rest t)
+    (may-rest-sub-left t)
     (may-rest-can-rest-requires t)
     (may-rest-returns-3 t)
     (may-rest-add-e t)
