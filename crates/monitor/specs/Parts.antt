@@ -1,18 +1,22 @@
 -- What the monitor's inner functions hand back. They are lent arrays of the automaton instead of the whole of it.
 use Prim.Native.Nat.{ℕ, zero, suc, _+_, _*_, _^_, _<_, _≤_}
 use mathlib.Core.Path.{_≡_}
-use mathlib.Core.Bool.{Bool, cond}
+use mathlib.Core.Bool.{Bool, false, cond}
 use mathlib.Core.List.{List, [], _∷_, _++_}
-use lib.ListN.{length, getD, take, drop}
+use lib.ListN.{length, getD, take, drop, replicate}
 use lib.Dec.{eqb}
 use Rattle.base.specs.Masks.{has}
 use Rattle.base.specs.Pad.{pad}
 use Rattle.automaton.specs.declared.Automaton.{Automaton}
-use Rattle.automaton.specs.Automaton.{run}
+use Rattle.automaton.specs.Automaton.{run, valid}
 use Rattle.automaton.specs.Parts.{controllableIn}
+use Rattle.configuration.specs.declared.Configuration.{Configuration}
+use Rattle.configuration.specs.Carried.{configuration}
 use Rattle.monitor.specs.Step.{Rest, qualifies, release}
+use Rattle.monitor.specs.Answers.{Received, guardRefusal}
 pub use Rattle.monitor.specs.declared.Ranking.{Ranking}
 pub use Rattle.monitor.specs.declared.Front.{Front}
+pub use Rattle.monitor.specs.declared.Entry.{Entry}
 
 -- the rank of each symbol below m among the controllable ones, from 1; 0 for an uncontrollable one
 unfoldable pub ranksTo : List ℕ → ℕ → List ℕ
@@ -55,3 +59,27 @@ pub record Lent (next ranks : List ℕ) (k : ℕ) (t : List ℕ) (q : ℕ) (buff
   pub next-low : (i : ℕ) → getD next i 0 < 32
   pub symbol-low : (i : ℕ) → getD buffer i 0 < 16
   pub long : (i : ℕ) → i ≤ held → 2 * placeIn ranks k (drop i (take held buffer)) < length t
+
+-- rows 11 to 13, and the ranking of a valid automaton's symbols
+unfoldable pub entryOf : Automaton → List ℕ → Configuration → Entry
+entryOf a t c =
+    record {
+      refusal = guardRefusal a t c;
+      ranking = cond (valid a) (rankingOf (a .classes) (a .symbols)) (record { count = 0; ranks = replicate 16 0 });
+    }
+
+-- a refused event
+unfoldable pub refusedEvent : ℕ → Configuration → Received
+refusedEvent row c = record { refusal = row; configuration = c; emitted = replicate 7 0; count = 0; winning = false }
+
+-- the answer after the release, where some kinds are emitted already
+unfoldable pub releasedFrom : Rest → Automaton → ℕ → List ℕ → List ℕ → Received
+releasedFrom rest a q w emitted =
+    let k = release rest a q w in
+    record {
+      refusal = 0;
+      configuration = configuration (run a q (take k w)) (drop k w);
+      emitted = pad 7 (emitted ++ take k w);
+      count = length (emitted ++ take k w);
+      winning = qualifies rest a q w k;
+    }

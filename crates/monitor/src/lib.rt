@@ -1,5 +1,9 @@
 // The enforcement monitor: one event, and a whole day of them, over a lent table.
+mod checking;
+mod event;
 mod releasing;
+pub use checking::winning;
+pub use event::receive;
 use automaton::Automaton;
 use configuration::Configuration;
 
@@ -39,4 +43,10 @@ pub struct Front {
     pub winning: bool,
     pub count: usize,
     pub state: usize,
+}
+
+// The refusing row of 11 to 13 (0: none), and the ranking of the symbols of a valid record.
+pub struct Entry {
+    pub refusal: u8,
+    pub ranking: Ranking,
 }

@@ -29,7 +29,7 @@ pub fn ranking(classes: &[u8; 16], m: usize) -> Ranking
 }
 
 // State q is in the set at a place of the table.
-fn in_set(table: &[u32], place: u32, q: usize) -> bool
+pub fn in_set(table: &[u32], place: u32, q: usize) -> bool
     requires { ⌜ (2 * place < length (now table)) × (q < 32) ⌝ }
     ensures { λ r. ⌜ r ≡ has (getD (now (table .entry)) (2 * place) 0) q ⌝ }
 {
@@ -38,7 +38,7 @@ fn in_set(table: &[u32], place: u32, q: usize) -> bool
 }
 
 // The numbers of what is left of the buffer after each front part; 0 for the empty buffer, and in unused places.
-fn places(ranks: &[u8; 16], k: u32, buffer: [u8; 6], held: usize) -> [u32; 8]
+pub fn places(ranks: &[u8; 16], k: u32, buffer: [u8; 6], held: usize) -> [u32; 8]
     requires { ⌜ (held ≤ 6) × (k ≤ 8) × ((e : ℕ) → getD (now ranks) e 0 ≤ 8) × ((i : ℕ) → getD buffer i 0 < 16) ⌝ }
     ensures { λ r. ⌜ r ≡ pad 8 (placesOf (now (ranks .entry)) k (take held buffer)) ⌝ }
 {

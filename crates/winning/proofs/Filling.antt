@@ -16,7 +16,7 @@ use Rattle.base.specs.Masks.{has}
 use Rattle.base.proofs.Bools.{by, and-left}
 use Rattle.base.proofs.Ranges.{count-max}
 use Rattle.base.proofs.Masks.{mask-lt, mask-in, fewer-states}
-use Rattle.automaton.proofs.Storing.{sets-join}
+use Rattle.base.proofs.Stores.{sets-join}
 use Rattle.sets.specs.declared.Sets.{Sets}
 use Rattle.sets.specs.Table.{pairs, roundsSum}
 use Rattle.sets.proofs.Rounds.{settle-keeps}
