@@ -1,7 +1,7 @@
 -- Laws of `pad`.
 use Prim.Native.Nat.{ℕ, zero, suc, _+_, _-_, _<_, _≤_}
 use mathlib.Core.Path.{_≡_, refl, sym, _∙_, ap}
-use mathlib.Core.List.{List, [], _∷_, _++_}
+use mathlib.Core.List.{List, [], _∷_, _++_, append-nil, append-assoc}
 use native.Mathlib.Nat.{zero-add}
 use native.Mathlib.Omega.{arith}
 use lib.ListN.{length, getD, set, take, drop, replicate, length-append, length-replicate, getD-replicate, List·getD-append, List·getD-eq-default}
@@ -80,3 +80,13 @@ pad-zero n l h =
     sym (set-getD (pad n l) (length l) 0) ∙
     ap (λ x. set (pad n l) (length l) x) (pad-outside n l (length l) (omega arith)) ∙
     pad-set n l 0 h
+
+-- a run of stores behind a padded list
+pub pad-sets : (n : ℕ) (l v : List ℕ) → length l + length v ≤ n → sets (pad n l) (length l) v ≡ pad n (l ++ v)
+pad-sets n l [] h = ap (pad n) (sym (append-nil l))
+pad-sets n l (x ∷ v) h =
+    let e : suc (length l) ≡ length (l ++ x ∷ []) = simp length-append (omega arith) in
+    ap (λ y. sets y (suc (length l)) v) (pad-set n l x (omega arith)) ∙
+    ap (λ i. sets (pad n (l ++ x ∷ [])) i v) e ∙
+    pad-sets n (l ++ x ∷ []) v (simp length-append (omega arith)) ∙
+    ap (pad n) (append-assoc l (x ∷ []) v)

@@ -105,3 +105,12 @@ count-fewer (suc n) p r h k l a b =
     rw (a′, b′) (omega (arith, count-mono n p r (λ k l. h k (omega arith)))))
     (λ e. let c = count-fewer n p r (λ k l. h k (omega arith)) k (omega (arith, eqb-false k n e)) a b in
     by (p n) (λ f. rw (f, h n (omega arith) f) (omega arith)) (λ f. rw f (omega arith)))
+
+-- more numbers, no fewer of them
+pub count-longer : (n m : ℕ) (p : ℕ → Bool) → n ≤ m → count n p ≤ count m p
+unfolding count
+count-longer n zero p h = let e : n ≡ 0 = omega arith in rw e (omega arith)
+count-longer n (suc m) p h =
+    by (eqb n (suc m))
+    (λ t. rw (eqb-true n (suc m) t) (omega arith))
+    (λ t. omega (arith, count-longer n m p (omega (arith, eqb-false n (suc m) t))))

@@ -52,7 +52,9 @@ pub fn winning(a: Automaton, table: &[u32], c: Configuration) -> Guard
             winning: false,
         };
     }
-    let places = places(&entry.ranking.ranks, entry.ranking.count, c.buffer, size(c.held));
+    let ranking = entry.ranking;
+    let buffer = c.buffer;
+    let places = places(&ranking.ranks, ranking.count, buffer, size(c.held));
     Guard {
         refusal: 0,
         winning: in_set(table, places[0], size(c.state)),

@@ -1,3 +1,7 @@
+use mathlib.Core.Path.{refl}
+use Rattle.monitor.specs.Parts.{refusedEvent}
+use native.Mathlib.Omega.{arith}
+use borrow.Author.Needs.{needs}
 use Rattle.monitor.proofs.event.refused.Statement.{statement}
 use Rattle.monitor.proofs.event.refused.Tie as tie
 use Rattle.monitor.proofs.event.refused.Reads as reads
@@ -5,7 +9,8 @@ use Rattle.monitor.proofs.event.refused.Lts as lts
 
 -- src/event.rt:16:1
 returns : tie.Need-returns
-returns c = ?
+unfolding refusedEvent
+returns c = refl
 
 pub refused-spec : {M : Type 1} → statement M
 refused-spec = tie.close (tie.spec returns)

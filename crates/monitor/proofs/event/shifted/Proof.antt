@@ -1,3 +1,7 @@
+use lib.ListN.{length}
+use mathlib.Core.Path.{_∙_, _≡_}
+use Rattle.monitor.proofs.Answering.{kept}
+use native.Mathlib.Omega.{arith}
 use borrow.Author.Needs.{needs}
 use Rattle.monitor.proofs.event.shifted.Statement.{statement}
 use Rattle.monitor.proofs.event.shifted.Tie as tie
@@ -23,7 +27,7 @@ copy-requires c κs = search needs
 
 -- src/event.rt:29:1
 returns : tie.Need-returns
-returns c = ?
+returns c = let a = c .before .before .before .before .args in let n : length (a .t1) ≡ 6 = search needs in c .before .copy .ensures ∙ kept (a .t1) (a .held) (a .count) n (omega arith) (omega arith)
 
 pub shifted-spec : {M : Type 1} → statement M
 shifted-spec =
