@@ -60,7 +60,7 @@ module _ (a : Automaton) (q : ℕ) (w : List ℕ) (e : ℕ) where
       (λ c. rw c (record { state-below = t q e; buffer = remaining-buffer a e w (o .buffer) }))
 
   -- what is emitted leads from the state before to the one after
-  arrival-leads : run a q (arrival a q w e .emitted) ≡ arrival a q w e .state
+  pub arrival-leads : run a q (arrival a q w e .emitted) ≡ arrival a q w e .state
   unfolding arrival run
   arrival-leads = by (controllable a e) (λ c. rw c) (λ c. rw c)
 
@@ -73,7 +73,7 @@ module _ (a : Automaton) (q : ℕ) (w : List ℕ) (e : ℕ) where
       (λ c. rw c (omega (arith, remaining-length a e w)))
 
 -- after any front part
-released-occurs : (a : Automaton) → Total a → (q : ℕ) (w : List ℕ) → Occurs a q w → (k : ℕ) → Occurs a (run a q (take k w)) (drop k w)
+pub released-occurs : (a : Automaton) → Total a → (q : ℕ) (w : List ℕ) → Occurs a q w → (k : ℕ) → Occurs a (run a q (take k w)) (drop k w)
 released-occurs a t q w o k = record { state-below = run-below a t q (take k w) (o .state-below); buffer = buffer-drop a k w (o .buffer) }
 
 -- after the release
