@@ -123,7 +123,10 @@ module _ (a : Automaton) (t : List ℕ) (v : valid a ≡ true) (sv : Solved a t)
         (λ h. rw h (sym (append-nil (s .output))))
         (λ h. rw (h, take-append-seam put (drop (length put) out)) (store-since a es s))
 
-    feed-sound : (x : Call) → Sound a (feed a s (fedBy x))
+    pub reply-hands : (x : Call) → handedBack (reply a t c x) ≡ configurationOf a (feed a s (fedBy x))
+    reply-hands x = ap handedBack (reply-is x) ∙ feed-hands x
+
+    pub feed-sound : (x : Call) → Sound a (feed a s (fedBy x))
     unfolding feed fedBy storeAll
     feed-sound (one e) = store-sound a (total a v) (e ∷ []) s o
     feed-sound (day es out) = by (lacksRoom s es (length out)) (λ h. rw h o) (λ h. rw h (store-sound a (total a v) es s o))
@@ -142,7 +145,7 @@ module _ (a : Automaton) (t : List ℕ) (v : valid a ≡ true) (sv : Solved a t)
       let z = feed a s (fedBy x) in
       let k = together xs z (feed-sound s o x) in
       let r = reply-is s o x in
-      let next = ap handedBack r ∙ feed-hands s o x in
+      let next = reply-hands s o x in
       record {
         each-reply = ap₂ _∷_ r (ap (λ c. replies a t c xs) next ∙ k .each-reply);
         all-emitted = rw (next, r)

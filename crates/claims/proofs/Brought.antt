@@ -1,0 +1,113 @@
+-- The accepted events of the calls, one by one, are those that the published function accepts.
+use Prim.Native.Nat.{ℕ}
+use mathlib.Core.Path.{_≡_, refl, sym, _∙_, ap, ap₂}
+use mathlib.Core.Bool.{Bool, true, false, cond}
+use mathlib.Core.List.{List, [], _∷_, _++_, map, append-assoc, append-nil}
+use lib.Dec.{eqb}
+use lib.ListN.{length}
+use borrow.Author.Tests.{eqb-true, eqb-false}
+use Rattle.base.proofs.Bools.{by}
+use Rattle.automaton.specs.declared.Automaton.{Automaton}
+use Rattle.automaton.specs.Automaton.{run, valid}
+use Rattle.automaton.proofs.Facts.{valid-facts}
+use Rattle.sets.specs.Table.{Solved}
+use Rattle.sets.proofs.Total.{total}
+use Rattle.configuration.specs.Carried.{heldEvents, initialOf}
+use Rattle.monitor.specs.Step.{bySets, byTable, Effect, effect, eventRefusal}
+use Rattle.monitor.specs.Answers.{receiveRefusal, runRefusal}
+use Rattle.monitor.proofs.Effects.{effect-same, effect-occurs}
+use Rattle.monitor.proofs.Solved.{solved-agree}
+use Rattle.claims.specs.Store.{Store, empty, stateOf, store, storeAll, Feed, lacksRoom, feed, feedAll, acceptedOf, acceptedBy, acceptedAll}
+use Rattle.claims.specs.Calls.{Call, one, day, replies, emittedAll, fedBy, configurationOf, handedBack, reply}
+use Rattle.claims.specs.Moments.{Moment, effectAt, emittedAt, AllOf, within, broughtBy, broughtAll, moments}
+use Rattle.claims.specs.Claims.{Accounted, MomentsAccounted}
+use Rattle.claims.proofs.Stores.{Sound, initially, initial-sound, grown, byStore, store-accepts, store-refuses, store-state, store-sound}
+use Rattle.claims.proofs.Alone.{store-append, accepted-append}
+use Rattle.claims.proofs.Replies.{held, one-refusal, day-refusal, reply-hands, feed-sound, demand3}
+use Rattle.claims.proofs.Moments.{moments-all}
+
+module _ (a : Automaton) (t : List ℕ) (v : valid a ≡ true) (sv : Solved a t) where
+  -- of a list of events
+  record Within (s : Store) (es : List ℕ) (ms : List Moment) : Type 0 where
+    events : map (λ (m : Moment). m .event) ms ≡ acceptedOf a s es
+    emitted : storeAll a s es .output ≡ s .output ++ emittedAt a t ms
+
+  within-is : (es past : List ℕ) (s : Store) → Sound a s → Within s es (within a t past (s .output) (stateOf a s) (s .buffer) es)
+  unfolding within acceptedOf storeAll emittedAt effectAt
+  within-is [] past s o = record { events = refl; emitted = sym (append-nil (s .output)) }
+  within-is (e ∷ es) past s o =
+      let n = eventRefusal a (s .buffer) e in
+      let z = store a s e in
+      let sound = store-sound a (total a v) (e ∷ []) s o in
+      by (eqb n 0)
+      (λ h.
+      let f = byStore a s e in
+      let same = effect-same (byTable a t) a (stateOf a s) (s .buffer) e (bySets a) (solved-agree a t sv) (total a v) o (eqb-true n 0 h) in
+      let stored = store-accepts a s e (eqb-true n 0 h) in
+      let m : Moment = record { past = past; output = s .output; state = stateOf a s; buffer = s .buffer; event = e } in
+      let k = within-is es (past ++ e ∷ []) z sound in
+      let rest = within a t (past ++ e ∷ []) (z .output) (stateOf a z) (z .buffer) es in
+      let go : within a t past (s .output) (stateOf a s) (s .buffer) (e ∷ es) ≡ m ∷ rest = rw (h, same, stored, store-state a s e) in
+      rw go
+      (record {
+        events = rw h (ap (λ l. e ∷ l) (k .events));
+        emitted = rw same
+            (k .emitted ∙
+            ap (λ y. y .output ++ emittedAt a t rest) stored ∙
+            append-assoc (s .output) (f .emitted) (emittedAt a t rest));
+      }))
+      (λ h.
+      let k = within-is es past z sound in
+      let stays = store-refuses a s e (eqb-false n 0 h) in
+      let go : within a t past (s .output) (stateOf a s) (s .buffer) (e ∷ es) ≡ within a t past (z .output) (stateOf a z) (z .buffer) es = rw (h, stays) in
+      rw go (record { events = rw h (k .events); emitted = k .emitted ∙ ap (λ y. y .output ++ emittedAt a t (within a t past (z .output) (stateOf a z) (z .buffer) es)) stays }))
+
+  -- of the calls
+  module _ (s : Store) (o : Sound a s) where
+    record Brought (x : Call) (es : List ℕ) : Type 0 where
+      fed : feed a s (fedBy x) ≡ storeAll a s es
+      accepted : acceptedBy a s (fedBy x) ≡ acceptedOf a s es
+
+    brought-is : (x : Call) → Brought x (broughtBy a t (configurationOf a s) x)
+    unfolding broughtBy feed fedBy storeAll acceptedBy acceptedOf
+    brought-is (one e) =
+        let n = eventRefusal a (s .buffer) e in
+        by (eqb n 0)
+        (λ h. rw (one-refusal a t v sv s o e, h) (record { fed = refl; accepted = refl }))
+        (λ h. rw (one-refusal a t v sv s o e, h) (record { fed = store-refuses a s e (eqb-false n 0 h); accepted = rw h }))
+    brought-is (day es out) =
+        by (lacksRoom s es (length out))
+        (λ h. rw (day-refusal a t v sv s o es out, h) (record { fed = rw h; accepted = rw h }))
+        (λ h. rw (day-refusal a t v sv s o es out, h) (record { fed = rw h; accepted = rw h }))
+
+  record BroughtAll (s : Store) (xs : List Call) (es : List ℕ) : Type 0 where
+    fed : feedAll a s (map fedBy xs) ≡ storeAll a s es
+    accepted : acceptedAll a s (map fedBy xs) ≡ acceptedOf a s es
+
+  brought-all : (xs : List Call) (s : Store) → Sound a s → BroughtAll s xs (broughtAll a t (configurationOf a s) xs)
+  unfolding broughtAll feedAll acceptedAll storeAll acceptedOf
+  brought-all [] s o = record { fed = refl; accepted = refl }
+  brought-all (x ∷ xs) s o =
+      let z = feed a s (fedBy x) in
+      let b = brought-is s o x in
+      let es = broughtBy a t (configurationOf a s) x in
+      let fs = broughtAll a t (configurationOf a z) xs in
+      let k = brought-all xs z (feed-sound a t v sv s o x) in
+      rw (reply-hands a t v sv s o x)
+      (record {
+        fed = k .fed ∙ ap (λ y. storeAll a y fs) (b .fed) ∙ sym (store-append a es fs s);
+        accepted = ap₂ _++_ (b .accepted) (k .accepted ∙ ap (λ y. acceptedOf a y fs) (b .fed)) ∙ sym (accepted-append a es fs s);
+      })
+
+pub moments-accounted : MomentsAccounted
+unfolding moments configurationOf
+moments-accounted a t v sv calls =
+    let b = brought-all a t v sv calls empty (initial-sound a v) in
+    let es = broughtAll a t (configurationOf a empty) calls in
+    let w = within-is a t v sv es [] empty (initial-sound a v) in
+    let go : moments a t (initialOf a) calls ≡ within a t [] [] (stateOf a empty) [] es = rw (initially a, held a empty) in
+    record {
+      events = rw go (w .events ∙ sym (b .accepted));
+      emitted = rw go (sym (w .emitted) ∙ ap (λ s. s .output) (sym (b .fed)) ∙ sym (demand3 a t v sv calls .all-emitted));
+      leads = moments-all a t v (λ m. run a (a .initial) (m .output) ≡ m .state) (λ m k. k .leads) calls;
+    }
