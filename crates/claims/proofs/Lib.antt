@@ -3,3 +3,7 @@ pub mod Alone
 pub mod Replies
 pub mod Moments
 pub mod Brought
+pub mod Resting
+pub mod Driven
+pub mod Rivals
+pub mod Tables

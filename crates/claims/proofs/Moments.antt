@@ -16,7 +16,7 @@ use Rattle.automaton.proofs.Running.{run-append}
 use Rattle.sets.proofs.Total.{Total, total}
 use Rattle.configuration.specs.Carried.{heldEvents, initialOf}
 use Rattle.monitor.specs.Step.{byTable, eventRefusal}
-use Rattle.monitor.proofs.Effects.{Occurs, effect-occurs, effect-leads}
+use Rattle.monitor.proofs.Effects.{Occurs, initial-occurs, effect-occurs, effect-leads}
 use Rattle.claims.specs.Calls.{Call}
 use Rattle.claims.specs.Moments.{Moment, effectAt, AllOf, within, moments}
 use Rattle.claims.specs.Claims.{outputAfter}
@@ -74,12 +74,12 @@ module _ (a : Automaton) (t : List ℕ) where
         rw h (fact m es k i, within-each es (past ++ e ∷ []) (out ++ f .emitted) (f .state) (f .buffer) (effect-met total m k) (output-leads m k) (keep m k i)))
         (λ h. rw h (within-each es past out q w o l i))
 
-    pub moments-each : (calls : List Call) → a .initial < a .states → I (a .initial) [] → Suffixes Q (moments a t (initialOf a) calls)
+    pub moments-each : (calls : List Call) → Occurs a (a .initial) [] → I (a .initial) [] → Suffixes Q (moments a t (initialOf a) calls)
     unfolding moments initialOf heldEvents pad run
-    moments-each calls l i = within-each _ [] [] (a .initial) [] (record { state-below = l; buffer = (tt, omega arith) }) refl i
+    moments-each calls o i = within-each _ [] [] (a .initial) [] o refl i
 
 pub moments-all : (a : Automaton) (t : List ℕ) → valid a ≡ true → (P : Moment → Type 0) → ((m : Moment) → Met a t m → P m) → (calls : List Call)
     → AllOf P (moments a t (initialOf a) calls)
 moments-all a t v P h calls =
     all-of P (moments a t (initialOf a) calls)
-    (moments-each a t (total a v) (λ _ _. Unit {0}) (λ m _. P m) (λ m k i. tt) (λ m es k i. h m k) calls (valid-facts a v .initial-below) tt)
+    (moments-each a t (total a v) (λ _ _. Unit {0}) (λ m _. P m) (λ m k i. tt) (λ m es k i. h m k) calls (initial-occurs a v) tt)

@@ -17,7 +17,7 @@ use Rattle.automaton.proofs.Running.{run-append, run-end}
 use Rattle.sets.proofs.Total.{Total}
 use Rattle.configuration.specs.Carried.{initialOf}
 use Rattle.monitor.specs.Step.{bySets, release, Effect, remaining, arrival, effect, eventRefusal, Run, runOf}
-use Rattle.monitor.proofs.Effects.{Occurs, arrival-leads, effect-leads}
+use Rattle.monitor.proofs.Effects.{Occurs, initial-occurs, arrival-leads, effect-leads}
 use Rattle.monitor.proofs.Runs.{after, run-accepts, run-refuses, run-occurs, run-leads}
 use Rattle.claims.specs.Store.{Store, empty, stateOf, added, moved, store, storeAll, Feed, event, events, lacksRoom, feed, feedAll, refusedOf, acceptedOf, acceptedBy, acceptedAll}
 use Rattle.claims.specs.Calls.{configurationOf, since, fedBy}
@@ -35,7 +35,7 @@ module _ (a : Automaton) where
 
   pub initial-sound : valid a ≡ true → Sound a empty
   unfolding stateOf run
-  initial-sound v = record { state-below = valid-facts a v .initial-below; buffer = (tt, omega arith) }
+  initial-sound v = initial-occurs a v
 
 -- so much more put out, and this buffer
 abbrev pub grown : Store → List ℕ → List ℕ → Store

@@ -11,7 +11,8 @@ use borrow.Author.Tests.{ltb-true, leb-false}
 use Rattle.base.specs.Rows.{first}
 use Rattle.base.proofs.Bools.{by}
 use Rattle.automaton.specs.declared.Automaton.{Automaton}
-use Rattle.automaton.specs.Automaton.{controllable, step, run}
+use Rattle.automaton.specs.Automaton.{controllable, step, run, valid}
+use Rattle.automaton.proofs.Facts.{valid-facts}
 use Rattle.automaton.proofs.Running.{run-append}
 use Rattle.sets.specs.Table.{Buffer}
 use Rattle.sets.proofs.Total.{Total, run-below}
@@ -23,6 +24,9 @@ use Rattle.monitor.proofs.Release.{release-le, release-same}
 pub record Occurs (a : Automaton) (q : ℕ) (w : List ℕ) : Type 0 where
   pub state-below : q < a .states
   pub buffer : Buffer a w
+
+pub initial-occurs : (a : Automaton) → valid a ≡ true → Occurs a (a .initial) []
+initial-occurs a v = record { state-below = valid-facts a v .initial-below; buffer = (tt, omega arith) }
 
 -- two rest tests that answer alike wherever they may be asked
 abbrev pub Agree : Automaton → Rest → Rest → Type 0
