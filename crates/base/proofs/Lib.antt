@@ -5,3 +5,4 @@ pub mod Refusals
 pub mod Padding
 pub mod Every
 pub mod Picking
+pub mod Fronts

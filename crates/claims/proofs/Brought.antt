@@ -1,7 +1,7 @@
 -- The accepted events of the calls, one by one, are those that the published function accepts.
 use Prim.Native.Nat.{ℕ}
 use mathlib.Core.Path.{_≡_, refl, sym, _∙_, ap, ap₂}
-use mathlib.Core.Bool.{Bool, true, false, cond}
+use mathlib.Core.Bool.{true}
 use mathlib.Core.List.{List, [], _∷_, _++_, map, append-assoc, append-nil}
 use lib.Dec.{eqb}
 use lib.ListN.{length}
@@ -9,19 +9,17 @@ use borrow.Author.Tests.{eqb-true, eqb-false}
 use Rattle.base.proofs.Bools.{by}
 use Rattle.automaton.specs.declared.Automaton.{Automaton}
 use Rattle.automaton.specs.Automaton.{run, valid}
-use Rattle.automaton.proofs.Facts.{valid-facts}
 use Rattle.sets.specs.Table.{Solved}
 use Rattle.sets.proofs.Total.{total}
-use Rattle.configuration.specs.Carried.{heldEvents, initialOf}
-use Rattle.monitor.specs.Step.{bySets, byTable, Effect, effect, eventRefusal}
-use Rattle.monitor.specs.Answers.{receiveRefusal, runRefusal}
-use Rattle.monitor.proofs.Effects.{effect-same, effect-occurs}
+use Rattle.configuration.specs.Carried.{initialOf}
+use Rattle.monitor.specs.Step.{bySets, byTable, eventRefusal}
+use Rattle.monitor.proofs.Effects.{effect-same}
 use Rattle.monitor.proofs.Solved.{solved-agree}
-use Rattle.claims.specs.Store.{Store, empty, stateOf, store, storeAll, Feed, lacksRoom, feed, feedAll, acceptedOf, acceptedBy, acceptedAll}
-use Rattle.claims.specs.Calls.{Call, one, day, replies, emittedAll, fedBy, configurationOf, handedBack, reply}
-use Rattle.claims.specs.Moments.{Moment, effectAt, emittedAt, AllOf, within, broughtBy, broughtAll, moments}
-use Rattle.claims.specs.Claims.{Accounted, MomentsAccounted}
-use Rattle.claims.proofs.Stores.{Sound, initially, initial-sound, grown, byStore, store-accepts, store-refuses, store-state, store-sound}
+use Rattle.claims.specs.Store.{Store, empty, stateOf, store, storeAll, lacksRoom, feed, feedAll, acceptedOf, acceptedBy, acceptedAll}
+use Rattle.claims.specs.Calls.{Call, one, day, fedBy, configurationOf}
+use Rattle.claims.specs.Moments.{Moment, effectAt, emittedAt, within, broughtBy, broughtAll, moments}
+use Rattle.claims.specs.Claims.{MomentsAccounted}
+use Rattle.claims.proofs.Stores.{Sound, initially, initial-sound, byStore, store-accepts, store-refuses, store-state, store-sound}
 use Rattle.claims.proofs.Alone.{store-append, accepted-append}
 use Rattle.claims.proofs.Replies.{held, one-refusal, day-refusal, reply-hands, feed-sound, demand3}
 use Rattle.claims.proofs.Moments.{moments-all}

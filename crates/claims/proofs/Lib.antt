@@ -4,6 +4,7 @@ pub mod Replies
 pub mod Moments
 pub mod Brought
 pub mod Resting
+pub mod Staying
 pub mod Driven
 pub mod Rivals
 pub mod Tables

@@ -1,17 +1,14 @@
 -- The accepted events of a list of calls, one by one.
-use Prim.Native.Nat.{ℕ, suc, _+_, _<_}
-use mathlib.Core.Path.{_≡_, refl, sym, _∙_, ap, ap₂}
-use mathlib.Core.Bool.{Bool, true, false, cond}
-use mathlib.Core.List.{List, [], _∷_, _++_, map}
-use native.Mathlib.Omega.{arith}
+use Prim.Native.Nat.{ℕ}
+use mathlib.Core.Path.{_≡_, refl, _∙_, ap}
+use mathlib.Core.Bool.{true}
+use mathlib.Core.List.{List, [], _∷_, _++_}
 use lib.Dec.{eqb}
-use lib.ListN.{length}
 use borrow.Author.Tests.{eqb-true}
 use Rattle.base.specs.Pad.{pad}
 use Rattle.base.proofs.Bools.{by}
 use Rattle.automaton.specs.declared.Automaton.{Automaton}
 use Rattle.automaton.specs.Automaton.{run, valid}
-use Rattle.automaton.proofs.Facts.{valid-facts}
 use Rattle.automaton.proofs.Running.{run-append}
 use Rattle.sets.proofs.Total.{Total, total}
 use Rattle.configuration.specs.Carried.{heldEvents, initialOf}

@@ -1,11 +1,10 @@
 -- Demand 3: the calls' replies are the published function's.
-use Prim.Native.Nat.{ℕ, suc, _+_}
+use Prim.Native.Nat.{ℕ}
 use mathlib.Core.Path.{_≡_, refl, sym, _∙_, ap, ap₂}
-use mathlib.Core.Bool.{Bool, true, false, cond, _&&_}
+use mathlib.Core.Bool.{Bool, true, false, cond}
 use mathlib.Core.List.{List, [], _∷_, _++_, map, append-assoc, append-nil}
-use native.Mathlib.Omega.{arith}
 use lib.Dec.{eqb, ltb}
-use lib.ListN.{length, take, drop}
+use lib.ListN.{length, drop}
 use lib.Seq.{take-append-seam}
 use borrow.Author.Tests.{eqb-true, eqb-false, le-ltb}
 use Rattle.base.specs.Rows.{first}
@@ -16,22 +15,21 @@ use Rattle.automaton.specs.declared.Automaton.{Automaton}
 use Rattle.automaton.specs.Automaton.{valid}
 use Rattle.automaton.proofs.Facts.{valid-facts}
 use Rattle.sets.specs.Table.{short, Solved}
-use Rattle.sets.proofs.Total.{Total, total}
+use Rattle.sets.proofs.Total.{total}
 use Rattle.configuration.specs.declared.Configuration.{Configuration}
-use Rattle.configuration.specs.Carried.{heldEvents, configuration, consistent, initialOf}
+use Rattle.configuration.specs.Carried.{heldEvents, configuration, consistent}
 use Rattle.configuration.proofs.Facts.{configuration-consistent, consistent-of}
 use Rattle.monitor.specs.declared.Received.{Received}
-use Rattle.monitor.specs.declared.Ran.{Ran}
-use Rattle.monitor.specs.Step.{bySets, byTable, Effect, effect, eventRows, eventRefusal, Run, runOf}
+use Rattle.monitor.specs.Step.{bySets, byTable, effect, eventRows, eventRefusal, runOf}
 use Rattle.monitor.specs.Answers.{receiveRefusal, received, room, runRefusal, ran, ranBuffer}
-use Rattle.monitor.proofs.Effects.{Occurs, Agree, effect-occurs, effect-same}
-use Rattle.monitor.proofs.Runs.{run-occurs, run-same}
+use Rattle.monitor.proofs.Effects.{effect-occurs, effect-same}
+use Rattle.monitor.proofs.Runs.{run-same}
 use Rattle.monitor.proofs.Refusals.{rows-pass}
 use Rattle.monitor.proofs.Solved.{solved-agree}
-use Rattle.claims.specs.Store.{Store, empty, stateOf, store, storeAll, Feed, lacksRoom, feed, feedAll, refusedOf}
-use Rattle.claims.specs.Calls.{Call, one, day, Reply, receive, run, handedBack, emittedBy, reply, replies, configurationAfter, emittedAll, fedBy, configurationOf, since, expected, expectedAll}
-use Rattle.claims.specs.Claims.{Enforces, Demand3}
-use Rattle.claims.proofs.Stores.{Sound, initially, initial-sound, store-since, store-sound, grown, since-grown, since-same, byStore, runStore, grown-state, store-accepts, store-refuses, store-state, runs-state, store-runs}
+use Rattle.claims.specs.Store.{Store, empty, stateOf, store, storeAll, lacksRoom, feed, feedAll}
+use Rattle.claims.specs.Calls.{Call, one, day, handedBack, emittedBy, reply, replies, configurationAfter, emittedAll, fedBy, configurationOf, since, expected, expectedAll}
+use Rattle.claims.specs.Claims.{Demand3}
+use Rattle.claims.proofs.Stores.{Sound, initially, initial-sound, store-since, store-sound, since-grown, since-same, byStore, runStore, store-accepts, store-refuses, store-state, runs-state, store-runs}
 
 pub held : (a : Automaton) (s : Store) → heldEvents (configurationOf a s) ≡ s .buffer
 unfolding heldEvents configurationOf

@@ -1,13 +1,14 @@
 -- A rival that emits a longer front part than the monitor, at any accepted event, is lost.
-use Prim.Native.Nat.{ℕ, zero, suc, _+_, _<_, _≤_}
-use mathlib.Core.Path.{_≡_, refl, sym, _∙_, ap}
-use mathlib.Core.Bool.{Bool, true, false}
+use Prim.Native.Nat.{ℕ}
+use mathlib.Core.Path.{_≡_, sym, _∙_, ap}
+use mathlib.Core.Bool.{true}
 use mathlib.Core.List.{List, [], _∷_, _++_}
 use native.Mathlib.Omega.{arith}
 use lib.ListN.{length, take, drop}
 use lib.Seq.{length-take-le}
 use Rattle.base.specs.Masks.{has}
-use Rattle.base.proofs.Bools.{by}
+use Rattle.base.proofs.Bools.{refuted}
+use Rattle.base.proofs.Fronts.{part-length, take-part}
 use Rattle.automaton.specs.declared.Automaton.{Automaton}
 use Rattle.automaton.specs.Automaton.{run, valid}
 use Rattle.automaton.proofs.Running.{run-append}
@@ -21,18 +22,7 @@ use Rattle.monitor.proofs.Solved.{solved-agree}
 use Rattle.claims.specs.Moments.{Moment}
 use Rattle.claims.specs.Claims.{arrivalAt, rivalRelease, ourRelease, rivalOutput, rivalBuffer, LongerLoses, RivalsLose}
 use Rattle.claims.proofs.Moments.{Met, moments-all}
-use Rattle.claims.proofs.Driven.{driven}
-
--- a front part, by its own length
-part-length : (n : ℕ) (l : List ℕ) → length (take n l) ≤ length l
-part-length zero l = omega arith
-part-length (suc n) [] = omega arith
-part-length (suc n) (x ∷ l) = omega (arith, part-length n l)
-
-take-part : (n : ℕ) (l : List ℕ) → take (length (take n l)) l ≡ take n l
-take-part zero l = refl
-take-part (suc n) [] = refl
-take-part (suc n) (x ∷ l) = ap (λ k. x ∷ k) (take-part n l)
+use Rattle.claims.proofs.Driven.{driven-out}
 
 longer-loses : (a : Automaton) (t : List ℕ) → valid a ≡ true → Solved a t → (m : Moment) → Met a t m → LongerLoses a t m
 unfolding arrivalAt rivalRelease ourRelease rivalOutput rivalBuffer qualifies bySets
@@ -43,11 +33,10 @@ longer-loses a t v sv m k rule h =
     let p = run a (x .state) (take j (x .buffer)) in
     let at = released-occurs a (total a v) (x .state) (x .buffer) (arrival-occurs a (m .state) (m .buffer) (m .event) (total a v) (k .occurs) (k .accepted)) j in
     let ours = length-take-le (release (byTable a t) a (x .state) (x .buffer)) (x .buffer) (release-le (byTable a t) a (x .state) (x .buffer)) in
-    let out : has (sets a (drop j (x .buffer)) .winning) p ≡ false =
-        by (has (sets a (drop j (x .buffer)) .winning) p)
-        (λ y. absurd (let z = release-longest (byTable a t) a (x .state) (x .buffer) j (part-length n (x .buffer)) (solved-agree a t sv (drop j (x .buffer)) p at ∙ y) .1 in omega arith))
-        (λ y. y) in
-    driven a (total a v) (x .buffer) j p (at .state-below) out rule (m .past ++ m .event ∷ []) ((m .output ++ x .emitted) ++ take n (x .buffer))
+    let out = refuted (has (sets a (drop j (x .buffer)) .winning) p) (λ y.
+    let z = release-longest (byTable a t) a (x .state) (x .buffer) j (part-length n (x .buffer)) (solved-agree a t sv (drop j (x .buffer)) p at ∙ y) .1 in
+    omega arith) in
+    driven-out a (total a v) (drop j (x .buffer)) p (at .state-below) out rule (m .past ++ m .event ∷ []) ((m .output ++ x .emitted) ++ take n (x .buffer))
     (run-append a (a .initial) (m .output ++ x .emitted) (take n (x .buffer)) ∙
     ap (λ q. run a q (take n (x .buffer)))
     (run-append a (a .initial) (m .output) (x .emitted) ∙ ap (λ q. run a q (x .emitted)) (k .leads) ∙ arrival-leads a (m .state) (m .buffer) (m .event)) ∙

@@ -1,27 +1,24 @@
--- The published function beside the effects of events, and fed the accepted events alone.
-use Prim.Native.Nat.{ℕ, suc, _+_}
-use mathlib.Core.Path.{_≡_, refl, sym, _∙_, ap, ap₂}
-use mathlib.Core.Bool.{Bool, true, false, cond}
-use mathlib.Core.List.{List, [], _∷_, _++_, map, append-assoc, append-nil}
+-- The published function beside the effects of events.
+use Prim.Native.Nat.{ℕ}
+use mathlib.Core.Path.{_≡_, refl, sym, _∙_, ap}
+use mathlib.Core.Bool.{true}
+use mathlib.Core.List.{List, [], _∷_, _++_, append-assoc, append-nil}
 use native.Mathlib.Nat.{zero-add}
 use native.Mathlib.Omega.{arith}
 use lib.Dec.{eqb}
-use lib.ListN.{length, take, drop}
 use lib.Seq.{drop-length, drop-append-seam}
 use borrow.Author.Tests.{eqb-true, eqb-false, eq-eqb, ne-eqb}
 use Rattle.base.proofs.Bools.{by}
 use Rattle.automaton.specs.declared.Automaton.{Automaton}
 use Rattle.automaton.specs.Automaton.{controllable, run, valid}
-use Rattle.automaton.proofs.Facts.{valid-facts}
-use Rattle.automaton.proofs.Running.{run-append, run-end}
+use Rattle.automaton.proofs.Running.{run-append}
 use Rattle.sets.proofs.Total.{Total}
 use Rattle.configuration.specs.Carried.{initialOf}
-use Rattle.monitor.specs.Step.{bySets, release, Effect, remaining, arrival, effect, eventRefusal, Run, runOf}
+use Rattle.monitor.specs.Step.{bySets, Effect, arrival, effect, eventRefusal, Run, runOf}
 use Rattle.monitor.proofs.Effects.{Occurs, initial-occurs, arrival-leads, effect-leads}
 use Rattle.monitor.proofs.Runs.{after, run-accepts, run-refuses, run-occurs, run-leads}
-use Rattle.claims.specs.Store.{Store, empty, stateOf, added, moved, store, storeAll, Feed, event, events, lacksRoom, feed, feedAll, refusedOf, acceptedOf, acceptedBy, acceptedAll}
-use Rattle.claims.specs.Calls.{configurationOf, since, fedBy}
-use Rattle.claims.specs.Claims.{AcceptedAlone}
+use Rattle.claims.specs.Store.{Store, empty, stateOf, added, moved, store, storeAll, refusedOf}
+use Rattle.claims.specs.Calls.{configurationOf, since}
 
 -- the state and buffer of the function can occur
 abbrev pub Sound : Automaton → Store → Type 0
@@ -104,8 +101,8 @@ module _ (a : Automaton) where
       let z = grown s (f .emitted) (f .buffer) in
       let k = store-runs es z in
       let go : runStore s (e ∷ es) ≡ after f (runStore z es) =
-          run-accepts (bySets a) a (stateOf a s) (s .buffer) e es (eqb-true n 0 h) ∙
-          ap (λ q. after f (runOf (bySets a) a q (f .buffer) es)) (sym (store-state s e)) in
+      run-accepts (bySets a) a (stateOf a s) (s .buffer) e es (eqb-true n 0 h) ∙
+      ap (λ q. after f (runOf (bySets a) a q (f .buffer) es)) (sym (store-state s e)) in
       let stored = store-accepts s e (eqb-true n 0 h) in
       rw go
       (record {

@@ -1,8 +1,8 @@
 -- Laws of one event, over any rest test.
-use Prim.Native.Nat.{ℕ, suc, _+_, _<_, _≤_}
-use mathlib.Core.Path.{_≡_, refl, sym, _∙_, ap}
-use mathlib.Core.Bool.{Bool, true, false, cond, not, _&&_}
-use mathlib.Core.List.{List, [], _∷_, _++_}
+use Prim.Native.Nat.{ℕ, suc, _+_, _<_}
+use mathlib.Core.Path.{_≡_, refl, _∙_, ap}
+use mathlib.Core.Bool.{true}
+use mathlib.Core.List.{List, [], _∷_}
 use native.Mathlib.Omega.{arith}
 use lib.Dec.{leb, ltb}
 use lib.ListN.{length, take, drop, length-append, length-drop}
@@ -11,7 +11,7 @@ use borrow.Author.Tests.{ltb-true, leb-false}
 use Rattle.base.specs.Rows.{first}
 use Rattle.base.proofs.Bools.{by}
 use Rattle.automaton.specs.declared.Automaton.{Automaton}
-use Rattle.automaton.specs.Automaton.{controllable, step, run, valid}
+use Rattle.automaton.specs.Automaton.{controllable, run, valid}
 use Rattle.automaton.proofs.Facts.{valid-facts}
 use Rattle.automaton.proofs.Running.{run-append}
 use Rattle.sets.specs.Table.{Buffer}
