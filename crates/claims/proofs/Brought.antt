@@ -1,7 +1,7 @@
 -- The accepted events of the calls, one by one, are those that the published function accepts.
 use Prim.Native.Nat.{ℕ}
 use mathlib.Core.Path.{_≡_, refl, sym, _∙_, ap, ap₂}
-use mathlib.Core.Bool.{true}
+use mathlib.Core.Bool.{true, false}
 use mathlib.Core.List.{List, [], _∷_, _++_, map, append-assoc, append-nil}
 use lib.Dec.{eqb}
 use lib.ListN.{length}
@@ -19,7 +19,7 @@ use Rattle.claims.specs.Store.{Store, empty, stateOf, store, storeAll, l
 use Rattle.claims.specs.Calls.{Call, one, day, fedBy, configurationOf}
 use Rattle.claims.specs.Moments.{Moment, effectAt, emittedAt, within, broughtBy, broughtAll, moments}
 use Rattle.claims.specs.Claims.{MomentsAccounted}
-use Rattle.claims.proofs.Stores.{Sound, initially, initial-sound, byStore, store-accepts, store-refuses, store-state, store-sound}
+use Rattle.claims.proofs.Stores.{Sound, grown, initially, initial-sound, byStore, store-accepts, store-refuses, store-state, store-sound}
 use Rattle.claims.proofs.Alone.{store-append, accepted-append}
 use Rattle.claims.proofs.Replies.{held, one-refusal, day-refusal, reply-hands, feed-sound, demand3}
 use Rattle.claims.proofs.Moments.{moments-all}
@@ -30,35 +30,51 @@ module _ (a : Automaton) (t : List ℕ) (v : valid a ≡ true) (sv : Solved a t)
     events : map (λ (m : Moment). m .event) ms ≡ acceptedOf a s es
     emitted : storeAll a s es .output ≡ s .output ++ emittedAt a t ms
 
-  within-is : (es past : List ℕ) (s : Store) → Sound a s → Within s es (within a t past (s .output) (stateOf a s) (s .buffer) es)
-  unfolding within acceptedOf storeAll emittedAt effectAt
+  abbrev from : List ℕ → Store → List ℕ → List Moment
+  from past s es = within a t past (s .output) (stateOf a s) (s .buffer) es
+
+  module _ (past : List ℕ) (s : Store) (e : ℕ) where
+    abbrev m : Moment
+    m = record { past = past; output = s .output; state = stateOf a s; buffer = s .buffer; event = e }
+
+    module _ (o : Sound a s) (h : eqb (eventRefusal a (s .buffer) e) 0 ≡ true) where
+      effect-is : effectAt a t m ≡ byStore a s e
+      unfolding effectAt
+      effect-is =
+          effect-same (byTable a t) a (stateOf a s) (s .buffer) e (bySets a) (solved-agree a t sv) (total a v) o (eqb-true (eventRefusal a (s .buffer) e) 0 h)
+
+      stored : store a s e ≡ grown s (byStore a s e .emitted) (byStore a s e .buffer)
+      stored = store-accepts a s e (eqb-true (eventRefusal a (s .buffer) e) 0 h)
+
+      accepts-first : (es : List ℕ) → from past s (e ∷ es) ≡ m ∷ from (past ++ e ∷ []) (store a s e) es
+      unfolding within
+      accepts-first es = rw (h, effect-is, stored, store-state a s e)
+
+      accepts-then : (es : List ℕ) (ms : List Moment) → Within (store a s e) es ms → Within s (e ∷ es) (m ∷ ms)
+      unfolding acceptedOf storeAll emittedAt
+      accepts-then es ms k = record {
+        events = rw h (ap (λ l. e ∷ l) (k .events));
+        emitted = k .emitted ∙
+            ap (λ z. z .output ++ emittedAt a t ms) stored ∙
+            append-assoc (s .output) (byStore a s e .emitted) (emittedAt a t ms) ∙
+            ap (λ f. s .output ++ (f .emitted ++ emittedAt a t ms)) (sym effect-is);
+      }
+
+    refuses-then : (es : List ℕ) → eqb (eventRefusal a (s .buffer) e) 0 ≡ false → Within s es (from past s es) → Within s (e ∷ es) (from past s (e ∷ es))
+    unfolding within acceptedOf storeAll
+    refuses-then es h k =
+        let stays = store-refuses a s e (eqb-false (eventRefusal a (s .buffer) e) 0 h) in
+        rw h (record { events = rw (h, stays) (k .events); emitted = ap (λ z. storeAll a z es .output) stays ∙ k .emitted })
+
+  within-is : (es past : List ℕ) (s : Store) → Sound a s → Within s es (from past s es)
+  unfolding within acceptedOf storeAll emittedAt
   within-is [] past s o = record { events = refl; emitted = sym (append-nil (s .output)) }
   within-is (e ∷ es) past s o =
-      let n = eventRefusal a (s .buffer) e in
-      let z = store a s e in
-      let sound = store-sound a (total a v) (e ∷ []) s o in
-      by (eqb n 0)
+      by (eqb (eventRefusal a (s .buffer) e) 0)
       (λ h.
-      let f = byStore a s e in
-      let same = effect-same (byTable a t) a (stateOf a s) (s .buffer) e (bySets a) (solved-agree a t sv) (total a v) o (eqb-true n 0 h) in
-      let stored = store-accepts a s e (eqb-true n 0 h) in
-      let m : Moment = record { past = past; output = s .output; state = stateOf a s; buffer = s .buffer; event = e } in
-      let k = within-is es (past ++ e ∷ []) z sound in
-      let rest = within a t (past ++ e ∷ []) (z .output) (stateOf a z) (z .buffer) es in
-      let go : within a t past (s .output) (stateOf a s) (s .buffer) (e ∷ es) ≡ m ∷ rest = rw (h, same, stored, store-state a s e) in
-      rw go
-      (record {
-        events = rw h (ap (λ l. e ∷ l) (k .events));
-        emitted = rw same
-            (k .emitted ∙
-            ap (λ y. y .output ++ emittedAt a t rest) stored ∙
-            append-assoc (s .output) (f .emitted) (emittedAt a t rest));
-      }))
-      (λ h.
-      let k = within-is es past z sound in
-      let stays = store-refuses a s e (eqb-false n 0 h) in
-      let go : within a t past (s .output) (stateOf a s) (s .buffer) (e ∷ es) ≡ within a t past (z .output) (stateOf a z) (z .buffer) es = rw (h, stays) in
-      rw go (record { events = rw h (k .events); emitted = k .emitted ∙ ap (λ y. y .output ++ emittedAt a t (within a t past (z .output) (stateOf a z) (z .buffer) es)) stays }))
+      rw (accepts-first past s e o h es)
+      (accepts-then past s e o h es _ (within-is es (past ++ e ∷ []) (store a s e) (store-sound a (total a v) (e ∷ []) s o))))
+      (λ h. refuses-then past s e es h (within-is es past s o))
 
   -- of the calls
   module _ (s : Store) (o : Sound a s) where
