@@ -25,11 +25,12 @@ use Rattle.claims.proofs.Replies.{held, one-refusal, day-refusal, reply
 use Rattle.claims.proofs.Moments.{moments-all}
 
 module _ (a : Automaton) (t : List ℕ) (v : valid a ≡ true) (sv : Solved a t) where
-  -- of a list of events
+  -- what is shown of the accepted ones of a list of events
   record Within (s : Store) (es : List ℕ) (ms : List Moment) : Type 0 where
     events : map (λ (m : Moment). m .event) ms ≡ acceptedOf a s es
     emitted : storeAll a s es .output ≡ s .output ++ emittedAt a t ms
 
+  -- those met from the function's output, state and buffer on
   abbrev from : List ℕ → Store → List ℕ → List Moment
   from past s es = within a t past (s .output) (stateOf a s) (s .buffer) es
 
@@ -37,6 +38,7 @@ module _ (a : Automaton) (t : List ℕ) (v : valid a ≡ true) (sv : Solved a t)
     abbrev m : Moment
     m = record { past = past; output = s .output; state = stateOf a s; buffer = s .buffer; event = e }
 
+    -- an accepted event first
     module _ (o : Sound a s) (h : eqb (eventRefusal a (s .buffer) e) 0 ≡ true) where
       effect-is : effectAt a t m ≡ byStore a s e
       unfolding effectAt
@@ -60,6 +62,7 @@ module _ (a : Automaton) (t : List ℕ) (v : valid a ≡ true) (sv : Solved a t)
             ap (λ f. s .output ++ (f .emitted ++ emittedAt a t ms)) (sym effect-is);
       }
 
+    -- a refused one first
     refuses-then : (es : List ℕ) → eqb (eventRefusal a (s .buffer) e) 0 ≡ false → Within s es (from past s es) → Within s (e ∷ es) (from past s (e ∷ es))
     unfolding within acceptedOf storeAll
     refuses-then es h k =
@@ -76,7 +79,7 @@ module _ (a : Automaton) (t : List ℕ) (v : valid a ≡ true) (sv : Solved a t)
       (accepts-then past s e o h es _ (within-is es (past ++ e ∷ []) (store a s e) (store-sound a (total a v) (e ∷ []) s o))))
       (λ h. refuses-then past s e es h (within-is es past s o))
 
-  -- of the calls
+  -- the events that a call brings feed the function as the call does
   module _ (s : Store) (o : Sound a s) where
     record Brought (x : Call) (es : List ℕ) : Type 0 where
       fed : feed a s (fedBy x) ≡ storeAll a s es
@@ -94,6 +97,7 @@ module _ (a : Automaton) (t : List ℕ) (v : valid a ≡ true) (sv : Solved a t)
         (λ h. rw (day-refusal a t v sv s o es out, h) (record { fed = rw h; accepted = rw h }))
         (λ h. rw (day-refusal a t v sv s o es out, h) (record { fed = rw h; accepted = rw h }))
 
+  -- and so for all calls
   record BroughtAll (s : Store) (xs : List Call) (es : List ℕ) : Type 0 where
     fed : feedAll a s (map fedBy xs) ≡ storeAll a s es
     accepted : acceptedAll a s (map fedBy xs) ≡ acceptedOf a s es
