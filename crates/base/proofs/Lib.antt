@@ -6,3 +6,4 @@ pub mod Padding
 pub mod Every
 pub mod Picking
 pub mod Stores
+pub mod Fronts

@@ -1,8 +1,8 @@
 -- Laws of one event, over any rest test.
-use Prim.Native.Nat.{ℕ, suc, _+_, _<_, _≤_}
-use mathlib.Core.Path.{_≡_, refl, sym, _∙_, ap}
-use mathlib.Core.Bool.{Bool, true, false, cond, not, _&&_}
-use mathlib.Core.List.{List, [], _∷_, _++_}
+use Prim.Native.Nat.{ℕ, suc, _+_, _<_}
+use mathlib.Core.Path.{_≡_, refl, _∙_, ap}
+use mathlib.Core.Bool.{true}
+use mathlib.Core.List.{List, [], _∷_}
 use native.Mathlib.Omega.{arith}
 use lib.Dec.{leb, ltb}
 use lib.ListN.{length, take, drop, length-append, length-drop}
@@ -11,7 +11,8 @@ use borrow.Author.Tests.{ltb-true, leb-false}
 use Rattle.base.specs.Rows.{first}
 use Rattle.base.proofs.Bools.{by}
 use Rattle.automaton.specs.declared.Automaton.{Automaton}
-use Rattle.automaton.specs.Automaton.{controllable, step, run}
+use Rattle.automaton.specs.Automaton.{controllable, run, valid}
+use Rattle.automaton.proofs.Facts.{valid-facts}
 use Rattle.automaton.proofs.Running.{run-append}
 use Rattle.sets.specs.Table.{Buffer}
 use Rattle.sets.proofs.Total.{Total, run-below}
@@ -23,6 +24,9 @@ use Rattle.monitor.proofs.Release.{release-le, release-same}
 pub record Occurs (a : Automaton) (q : ℕ) (w : List ℕ) : Type 0 where
   pub state-below : q < a .states
   pub buffer : Buffer a w
+
+pub initial-occurs : (a : Automaton) → valid a ≡ true → Occurs a (a .initial) []
+initial-occurs a v = record { state-below = valid-facts a v .initial-below; buffer = (tt, omega arith) }
 
 -- two rest tests that answer alike wherever they may be asked
 abbrev pub Agree : Automaton → Rest → Rest → Type 0
@@ -60,7 +64,7 @@ module _ (a : Automaton) (q : ℕ) (w : List ℕ) (e : ℕ) where
       (λ c. rw c (record { state-below = t q e; buffer = remaining-buffer a e w (o .buffer) }))
 
   -- what is emitted leads from the state before to the one after
-  arrival-leads : run a q (arrival a q w e .emitted) ≡ arrival a q w e .state
+  pub arrival-leads : run a q (arrival a q w e .emitted) ≡ arrival a q w e .state
   unfolding arrival run
   arrival-leads = by (controllable a e) (λ c. rw c) (λ c. rw c)
 
@@ -73,7 +77,7 @@ module _ (a : Automaton) (q : ℕ) (w : List ℕ) (e : ℕ) where
       (λ c. rw c (omega (arith, remaining-length a e w)))
 
 -- after any front part
-released-occurs : (a : Automaton) → Total a → (q : ℕ) (w : List ℕ) → Occurs a q w → (k : ℕ) → Occurs a (run a q (take k w)) (drop k w)
+pub released-occurs : (a : Automaton) → Total a → (q : ℕ) (w : List ℕ) → Occurs a q w → (k : ℕ) → Occurs a (run a q (take k w)) (drop k w)
 released-occurs a t q w o k = record { state-below = run-below a t q (take k w) (o .state-below); buffer = buffer-drop a k w (o .buffer) }
 
 -- after the release
