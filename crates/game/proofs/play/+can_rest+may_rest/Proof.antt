@@ -24,6 +24,7 @@ use Rattle.game.proofs.play.step.Reads as step-reads
 use Rattle.game.proofs.play.+can_rest+may_rest.{statement}
 use Rattle.game.proofs.play.+can_rest+may_rest.Tie.{close}
 
+-- The number that falls at each call: a held event left weighs more than all rounds, and coming to rest one more than resting.
 abbrev μ-can-rest : Measures 1 can-rest-kinds.ps ℕ
 μ-can-rest κs a = 2 * ((a .1 .1 .1 .1 .1 .1 .0 - a .1 .1 .1 .1 .1 .1 .1 .0) * 33 + a .1 .1 .1 .1 .1 .1 .1 .1 .1 .0) + 1
 
