@@ -74,6 +74,16 @@ pub mask-more : (n : ℕ) (p : ℕ → Bool) → mask (n + 1) p ≡ mask n p + c
 unfolding mask
 mask-more n p = rw (add-one n)
 
+module _ (n : ℕ) (p : ℕ → Bool) (x : ℕ) (so-far : x ≡ mask n p) where
+  pub mask-adds : {b : ℕ} → b ≡ 2 ^ n → p n ≡ true → x + b ≡ mask (n + 1) p
+  mask-adds e h = sym (mask-more n p ∙ rw (h, e, so-far))
+
+  pub mask-passes : p n ≡ false → x ≡ mask (n + 1) p
+  mask-passes h = so-far ∙ sym (mask-more n p ∙ rw h (omega arith))
+
+  pub mask-room : {b : ℕ} (m : ℕ) → n < m → b ≡ 2 ^ n → x + b < 2 ^ m
+  mask-room {b} m l e = let k : suc n ≤ m = omega arith in omega (arith, mask-lt n p, pow-mono k)
+
 inside : (n : ℕ) (p : ℕ → Bool) (q : ℕ) → q < n → has (mask n p) q ≡ p q
 unfolding mask
 inside zero p q l = absurd (omega arith)

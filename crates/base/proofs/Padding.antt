@@ -4,8 +4,8 @@ use mathlib.Core.Path.{_≡_, refl, sym, _∙_, ap}
 use mathlib.Core.List.{List, [], _∷_, _++_}
 use native.Mathlib.Nat.{zero-add}
 use native.Mathlib.Omega.{arith}
-use lib.ListN.{length, getD, take, drop, replicate, length-append, length-replicate, getD-replicate, List·getD-append, List·getD-eq-default}
-use lib.Seq.{sets, sets-eq, ext-getD, getD-take, getD-append-add, length-take-le, take-append-seam}
+use lib.ListN.{length, getD, set, take, drop, replicate, length-append, length-replicate, getD-replicate, List·getD-append, List·getD-eq-default}
+use lib.Seq.{sets, sets-eq, ext-getD, getD-take, getD-append-add, length-take-le, take-append-seam, set-append-seam, append-snoc, set-getD}
 use lib.Dec.{ltb}
 use borrow.Author.Tests.{ltb-true, ltb-false}
 use Rattle.base.specs.Pad.{pad}
@@ -65,3 +65,18 @@ pad-every P n l z f i =
     by (ltb i (length l))
     (λ u. let h : i < length l = ltb-true i (length l) u in rw (pad-inside n l i h) (f i h))
     (λ u. rw (pad-outside n l i (ltb-false i (length l) u)) z)
+
+-- one more number behind the list
+pub pad-set : (n : ℕ) (l : List ℕ) (v : ℕ) → length l < n → set (pad n l) (length l) v ≡ pad n (l ++ v ∷ [])
+unfolding pad
+pad-set n l v h =
+    let e : n - length l ≡ suc (n - suc (length l)) = omega arith in
+    let f : length (l ++ v ∷ []) ≡ suc (length l) = length-append l (v ∷ []) ∙ omega arith in
+    rw (e, f) (set-append-seam l 0 (replicate (n - suc (length l)) 0) v ∙ sym (append-snoc l v (replicate (n - suc (length l)) 0)))
+
+-- a padded 0 may stand in the list
+pub pad-zero : (n : ℕ) (l : List ℕ) → length l < n → pad n l ≡ pad n (l ++ 0 ∷ [])
+pad-zero n l h =
+    sym (set-getD (pad n l) (length l) 0) ∙
+    ap (λ x. set (pad n l) (length l) x) (pad-outside n l (length l) (omega arith)) ∙
+    pad-set n l 0 h

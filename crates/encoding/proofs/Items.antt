@@ -12,6 +12,7 @@ use lib.Dec.{eqb, leb, ltb}
 use borrow.Author.Tests.{lt-ltb, le-ltb, le-leb, lt-leb, eq-eqb, ne-eqb, eqb-true, eqb-false, leb-true, ltb-true, ltb-false}
 use Rattle.base.specs.Rows.{first}
 use Rattle.base.proofs.Bools.{by, clash, and-left, and-right, and-both}
+use Rattle.base.proofs.Stores.{sets-more}
 use Rattle.varint.specs.declared.Number.{Number}
 use Rattle.varint.specs.Varint.{fault, read}
 use Rattle.encoding.specs.Reading.{checked, between, tally, classRow, Numbers, numbers}
@@ -139,13 +140,6 @@ module _ (from : ℕ → Number) (check : List ℕ → ℕ → ℕ) (k : ℕ) (b
       → numbers from check (suc k) before at ≡ numbers from check k (before ++ n .value ∷ []) (n .place)
   unfolding numbers
   run-passes n e z = rw (e, eq-eqb (n .refusal) 0 z)
-
--- a store after a run of stores
-pub sets-more : (out : List ℕ) (from i v : ℕ) (before : List ℕ) → length before ≡ i → set (sets out from before) (from + i) v ≡ sets out from (before ++ v ∷ [])
-sets-more out from i v [] h = let e : from + i ≡ from = omega arith in rw e
-sets-more out from i v (b ∷ before) h =
-    let e : from + i ≡ suc from + (i - 1) = omega arith in
-    rw e (sets-more (set out from b) (suc from) (i - 1) v before (omega arith))
 
 -- the loop of a run
 pub record Filling (s out₀ : List ℕ) (at from count limit row most : ℕ) (out : List ℕ) (place ones i : ℕ) : Type 0 where

@@ -10,21 +10,8 @@ use lib.Seq.{sets, length-sets, take-suc, getD-drop, length-take-le}
 use Rattle.automaton.specs.declared.Automaton.{Automaton}
 use Rattle.automaton.specs.Automaton.{valid}
 use Rattle.encoding.specs.Writing.{nextNumbers, sheetNumbers}
-use Rattle.encoding.proofs.Items.{sets-more}
+use Rattle.base.proofs.Stores.{sets-join}
 use Rattle.automaton.proofs.Facts.{Valid}
-
--- two runs of stores, one behind the other
-pub sets-join : (out : List ℕ) (at : ℕ) (p r : List ℕ) → sets (sets out at p) (at + length p) r ≡ sets out at (p ++ r)
-sets-join out at [] r = rw (add-zero at)
-sets-join out at (x ∷ p) r = let e : at + suc (length p) ≡ suc at + length p = omega arith in rw e (sets-join (set out at x) (suc at) p r)
-
--- one more byte of a copy
-pub copy-more : (out list : List ℕ) (at from i : ℕ) → from + i < length list
-    → set (sets out at (take i (drop from list))) (at + i) (getD list (from + i) 0) ≡ sets out at (take (i + 1) (drop from list))
-copy-more out list at from i h =
-    let l : i < length (drop from list) = rw (length-drop from list) (omega arith) in
-    sets-more out at i (getD list (from + i) 0) (take i (drop from list)) (length-take-le i (drop from list) (omega arith)) ∙
-    rw (add-one i, take-suc (drop from list) i 0 l, getD-drop from list i 0)
 
 -- the rows of some states
 module _ (next : List ℕ) (long : length next ≡ 512) (m : ℕ) (narrow : m ≤ 16) where

@@ -10,18 +10,6 @@ ghost use lib.Seq.{sets};
 ghost use Rattle.automaton.specs.Automaton.{valid};
 ghost use Rattle.encoding.specs.Writing.{nextNumbers, sheetNumbers, writeAnswer, writeBuffer};
 
-// Copies `count` bytes of a list to a place of `out`.
-fn copy(list: &[u8], from: usize, count: usize, out: &mut [u8], at: usize)
-    requires { ⌜ (from + count ≤ length (now list)) × (at + count ≤ length (now out)) ⌝ }
-    ensures { λ _. ⌜ now (out .exit) ≡ sets (now (out .entry)) at (take count (drop from (now (list .entry)))) ⌝ }
-{
-    let mut i: usize = 0;
-    while i < count {
-        out[at + i] = list[from + i];
-        i = i + 1;
-    }
-}
-
 // Stores four bytes at the front of `out`.
 fn store_four(out: &mut [u8], n: u8, m: u8, b: u8, q: u8)
     requires { ⌜ 4 ≤ length (now out) ⌝ }
@@ -40,7 +28,7 @@ fn store_rows(next: &[u8; 512], n: usize, m: usize, out: &mut [u8], at: usize)
 {
     let mut q: usize = 0;
     while q < n {
-        copy(next, q * 16, m, out, at + q * m);
+        base::copy(next, q * 16, m, out, at + q * m);
         q = q + 1;
     }
 }
@@ -53,8 +41,8 @@ fn store(a: Automaton, out: &mut [u8])
     let n = base::size(a.states);
     let m = base::size(a.symbols);
     store_four(out, a.states, a.symbols, a.capacity, a.initial);
-    copy(&a.classes, 0, m, out, 4);
-    copy(&a.accepting, 0, n, out, 4 + m);
+    base::copy(&a.classes, 0, m, out, 4);
+    base::copy(&a.accepting, 0, n, out, 4 + m);
     store_rows(&a.next, n, m, out, 4 + m + n);
 }
 

@@ -1,4 +1,9 @@
 // The enforcement monitor: one event, and a whole day of them, over a lent table.
+mod checking;
+mod event;
+mod releasing;
+pub use checking::winning;
+pub use event::receive;
 use automaton::Automaton;
 use configuration::Configuration;
 
@@ -25,4 +30,23 @@ pub struct Ran {
     pub configuration: Configuration,
     pub length: usize,
     pub refused: usize,
+}
+
+// The controllable symbols: how many there are, and the rank of each from 1 (0: uncontrollable).
+pub struct Ranking {
+    pub count: u32,
+    pub ranks: [u8; 16],
+}
+
+// The front part of a buffer that is released: its length, the state after it, and whether the monitor may rest there.
+pub struct Front {
+    pub winning: bool,
+    pub count: usize,
+    pub state: usize,
+}
+
+// The refusing row of 11 to 13 (0: none), and the ranking of the symbols of a valid record.
+pub struct Entry {
+    pub refusal: u8,
+    pub ranking: Ranking,
 }

@@ -8,6 +8,7 @@ use Rattle.base.specs.Masks.{has, mask}
 use Rattle.automaton.specs.declared.Automaton.{Automaton}
 use Rattle.automaton.specs.Automaton.{controllable, accepts, step}
 pub use Rattle.sets.specs.declared.Settled.{Settled}
+pub use Rattle.sets.specs.declared.Sets.{Sets}
 
 -- all accepting states
 unfoldable pub acceptingSet : Automaton → ℕ
@@ -36,13 +37,6 @@ unfoldable pub settle : (ℕ → ℕ) → ℕ → ℕ → Settled
 settle round zero x = record { set = x; rounds = 0 }
 settle round (suc fuel) x =
     cond (eqb (round x) x) (record { set = x; rounds = 0 }) (again (settle round fuel (round x)))
-
--- The two sets of a buffer (document 01's held list) and the rounds that found the first: `winning` is S, where the monitor may
--- rest; `intermediate` is I, where it must release its first held event.
-pub record Sets : Type 0 where
-  pub winning : ℕ
-  pub intermediate : ℕ
-  pub rounds : ℕ
 
 -- S where I is i, by rounds from all accepting states
 unfoldable pub settled : Automaton → ℕ → (ℕ → ℕ) → Settled

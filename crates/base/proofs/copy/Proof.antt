@@ -2,11 +2,11 @@ use lib.Seq.{sets}
 use lib.ListN.{length, take, drop, length-set}
 use mathlib.Core.Path.{_≡_, refl, _∙_, ap}
 use Prim.Native.Nat.{_≤_, _-_}
-use Rattle.encoding.proofs.Storing.{copy-more}
+use Rattle.base.proofs.Stores.{copy-more}
 use native.Mathlib.Omega.{arith}
 use borrow.Author.Needs.{needs}
-use Rattle.encoding.proofs.writing.copy.Statement.{statement}
-use Rattle.encoding.proofs.writing.copy.Tie as tie
+use Rattle.base.proofs.copy.Statement.{statement}
+use Rattle.base.proofs.copy.Tie as tie
 
 abbrev Inv-loop : tie.InvT-loop
 Inv-loop list from count out₀ at i₀ out i = (i ≤ count) × (length out ≡ length out₀) × (out ≡ sets out₀ at (take i (drop from list)))

@@ -1,0 +1,68 @@
+use borrow.Author.Needs.{needs}
+use Rattle.monitor.proofs.event.answer.Statement.{statement}
+use Rattle.monitor.proofs.event.answer.Tie as tie
+use Rattle.monitor.proofs.event.answer.Reads as reads
+use Rattle.monitor.proofs.event.answer.Lts as lts
+use Rattle.base.proofs.copy.Reads as copy-reads
+use Rattle.monitor.proofs.event.shifted.Reads as shifted-reads
+use Rattle.monitor.proofs.releasing.release.Reads as release-reads
+
+-- src/event.rt:53:9
+release-requires : tie.Need-release-requires
+release-requires c κs = search needs
+
+-- src/event.rt:55:10
+slice-aggregate-copy : tie.Need-slice-aggregate-copy
+slice-aggregate-copy c = search needs
+
+-- src/event.rt:55:35
+slice-aggregate-copy-2 : tie.Need-slice-aggregate-copy-2
+slice-aggregate-copy-2 c = search needs
+
+-- src/event.rt:55:5
+copy-requires : tie.Need-copy-requires
+copy-requires c κs = ?
+
+-- src/event.rt:56:9
+shifted-requires : tie.Need-shifted-requires
+shifted-requires c κs = ?
+
+-- src/event.rt:60:20
+cast-t20 : tie.Need-cast-t20
+cast-t20 c = ?
+
+-- src/event.rt:61:20
+sub-t21 : tie.Need-sub-t21
+sub-t21 c = ?
+
+-- src/event.rt:61:19
+cast-t22 : tie.Need-cast-t22
+cast-t22 c = search needs
+
+-- src/event.rt:65:17
+add-t25 : tie.Need-add-t25
+add-t25 c = ?
+
+-- src/event.rt:65:16
+cast-t26 : tie.Need-cast-t26
+cast-t26 c = ?
+
+-- src/event.rt:39:1
+returns : tie.Need-returns
+returns c = ?
+
+pub answer-spec : {M : Type 1} → statement M
+answer-spec =
+    tie.close
+    (tie.spec
+    release-requires
+    slice-aggregate-copy
+    slice-aggregate-copy-2
+    copy-requires
+    shifted-requires
+    cast-t20
+    sub-t21
+    cast-t22
+    add-t25
+    cast-t26
+    returns)
