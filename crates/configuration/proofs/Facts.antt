@@ -1,22 +1,21 @@
 -- What a consistent configuration is, as plain facts, and that `consistent` decides it.
 use Prim.Native.Nat.{ℕ, zero, suc, _<_, _≤_}
-use mathlib.Core.Path.{_≡_, refl, sym, _∙_, ap}
-use mathlib.Core.Bool.{Bool, true, false, cond, _&&_}
+use mathlib.Core.Path.{_≡_, sym, _∙_, ap}
+use mathlib.Core.Bool.{Bool, true, cond, _&&_}
 use mathlib.Core.List.{List, [], _∷_}
 use native.Mathlib.Omega.{arith}
 use lib.ListN.{length, getD, take, List·getD-eq-default}
 use lib.Seq.{getD-take, length-take-le}
 use lib.Dec.{eqb, leb, ltb}
 use borrow.Author.Tests.{ltb-true, ltb-false, leb-true, eqb-true, lt-ltb, le-ltb, le-leb, eq-eqb}
-use Rattle.base.specs.Each.{each}
 use Rattle.base.specs.Pad.{pad}
 use Rattle.base.proofs.Bools.{by, and-pair, and-both}
 use Rattle.base.proofs.Ranges.{each-at, each-all, each-same}
 use Rattle.base.proofs.Padding.{pad-length, pad-outside, pad-take, take-pad}
 use Rattle.base.proofs.Every.{Every}
 use Rattle.automaton.specs.declared.Automaton.{Automaton}
-use Rattle.automaton.specs.Automaton.{controllable, valid}
-use Rattle.automaton.proofs.Facts.{Valid, valid-facts}
+use Rattle.automaton.specs.Automaton.{controllable}
+use Rattle.automaton.proofs.Facts.{Valid}
 use Rattle.sets.specs.Table.{Controllable, Buffer}
 use Rattle.configuration.specs.Carried.{Configuration, heldEvents, configuration, holdable, consistent, initialOf}
 use Rattle.configuration.specs.Parts.{holdableIn, placeStands, bufferStands, consistentIn}

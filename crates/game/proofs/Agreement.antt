@@ -1,11 +1,9 @@
 -- With n rounds the two questions agree with the sets.
 use Prim.Native.Nat.{ℕ, zero, suc, _+_, _<_, _≤_}
-use mathlib.Core.Path.{_≡_, refl, sym, _∙_, ap, ap₂}
-use mathlib.Core.Bool.{Bool, true, false, not, _&&_, _||_}
+use mathlib.Core.Path.{_≡_, sym, _∙_, ap₂}
+use mathlib.Core.Bool.{Bool, true, false, _||_}
 use mathlib.Core.List.{List, [], _∷_}
 use native.Mathlib.Omega.{arith}
-use lib.Dec.{eqb}
-use Rattle.base.specs.Each.{each, count}
 use Rattle.base.specs.Masks.{has}
 use Rattle.base.specs.Rows.{first}
 use Rattle.base.proofs.Bools.{by, either, clash, and-both, and-right-false, or-some, or-left, or-right, same-test}
@@ -15,14 +13,14 @@ use Rattle.automaton.specs.Automaton.{controllable, uncontrollable, accepts, st
 use Rattle.automaton.proofs.Facts.{valid-facts}
 use Rattle.sets.specs.Sets.{sets}
 use Rattle.sets.specs.Definition6.{Uncontrollable}
-use Rattle.sets.specs.Claims.{Winning, Intermediate}
+use Rattle.sets.specs.Claims.{Winning}
 use Rattle.sets.proofs.Total.{Total, total}
 use Rattle.sets.proofs.Largest.{sets-are}
 use Rattle.sets.proofs.Growth.{none-intermediate, intermediate-first, first-intermediate}
 use Rattle.configuration.specs.declared.Configuration.{Configuration}
 use Rattle.configuration.specs.Carried.{heldEvents, consistent}
 use Rattle.configuration.proofs.Facts.{consistent-facts}
-use Rattle.game.specs.Game.{restsBy, releases, mayRest, canRest, tooLarge, gameRefusal, verdict}
+use Rattle.game.specs.Game.{restsBy, releases, mayRest, canRest, gameRefusal, verdict}
 use Rattle.game.specs.Claims.{Agrees, VerdictAgrees}
 
 -- resting, where what releasing comes to is the intermediate set

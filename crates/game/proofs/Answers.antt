@@ -1,6 +1,6 @@
 -- The call's answers, row by row, over what its functions hand back.
-use Prim.Native.Nat.{ℕ, _≤_, _<_}
-use mathlib.Core.Path.{_≡_, sym, _∙_, ap}
+use Prim.Native.Nat.{_≤_, _<_}
+use mathlib.Core.Path.{_≡_, sym, _∙_}
 use mathlib.Core.Bool.{Bool, true, false}
 use native.Mathlib.Omega.{arith}
 use Rattle.base.specs.Rows.{first}
@@ -11,7 +11,7 @@ use Rattle.configuration.specs.declared.Configuration.{Configuration}
 use Rattle.configuration.specs.Carried.{consistent, heldEvents}
 use Rattle.configuration.specs.Parts.{consistentIn}
 use Rattle.configuration.proofs.Facts.{consistent-facts, consistent-parts}
-use Rattle.game.specs.Game.{Verdict, mayRest, canRest, tooLarge, gameRefusal, refused, verdict}
+use Rattle.game.specs.Game.{Verdict, mayRest, canRest, gameRefusal, refused, verdict}
 use Rattle.game.specs.Parts.{heldFrom, Playable, tooLargeIn}
 use Rattle.game.proofs.Arena.{arenaOf, may-same, can-same, playable, too-large-parts, held-all}
 

@@ -1,7 +1,7 @@
 -- What is proved of the game.
 use Prim.Native.Nat.{ℕ, suc, _<_}
 use mathlib.Core.Path.{_≡_}
-use mathlib.Core.Bool.{Bool, true, false, _&&_, _||_}
+use mathlib.Core.Bool.{true, _&&_, _||_}
 use mathlib.Core.List.{List, [], _∷_}
 use Rattle.base.specs.Each.{each}
 use Rattle.base.specs.Masks.{has}

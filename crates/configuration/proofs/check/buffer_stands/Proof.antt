@@ -13,9 +13,6 @@ use native.Mathlib.Omega.{arith}
 use borrow.Author.Needs.{needs}
 use Rattle.configuration.proofs.check.buffer_stands.Statement.{statement}
 use Rattle.configuration.proofs.check.buffer_stands.Tie as tie
-use Rattle.configuration.proofs.check.buffer_stands.Reads as reads
-use Rattle.configuration.proofs.check.buffer_stands.Lts as lts
-use Rattle.configuration.proofs.check.place_stands.Reads as place-stands-reads
 
 abbrev place : ℕ → List ℕ → ℕ → List ℕ → ℕ → Bool
 place symbols classes held buffer i = placeStands symbols classes (ltb i held) (getD buffer i 0)
@@ -26,32 +23,25 @@ Inv-loop symbols classes held buffer fine₀ i₀ fine i = (i ≤ 6) × (fine �
 abbrev μ-loop : tie.MeasureT-loop
 μ-loop symbols classes held buffer fine₀ i₀ fine i = 6 - i
 
--- src/check.rt:33:5
 loop-holds : tie.Need-loop-holds Inv-loop μ-loop
 unfolding each
 loop-holds c = (omega arith, refl)
 
--- src/check.rt:34:54
 element-copy-out-place-stands : tie.Need-element-copy-out-place-stands Inv-loop μ-loop
 element-copy-out-place-stands c = search needs
 
--- src/check.rt:34:13
 place-stands-requires : tie.Need-place-stands-requires Inv-loop μ-loop
 place-stands-requires c κs = search needs
 
--- src/check.rt:37:13
 add-i : tie.Need-add-i Inv-loop μ-loop
 add-i c = search needs
 
--- src/check.rt:33:5
 loop-less : tie.Need-loop-less Inv-loop μ-loop
 loop-less c = search needs
 
--- src/check.rt:33:5
 loop-again : tie.Need-loop-again Inv-loop μ-loop
 loop-again c = let a = c .before .before .before .before .before .args in let l = c .before .before .before .before .loop in let p = place (a .symbols) (a .classes .now) (a .held) (a .buffer .now) in (omega arith, ⊎-elim (λ w. w .1 ∙ each-falls p (l .i) (l .fine) (l .inv .1) (sym (c .before .place-stands .ensures) ∙ not-true _ (w .0 .taken))) (λ w. w .1 ∙ each-keeps p (l .i) (l .fine) (l .inv .1) (sym (c .before .place-stands .ensures) ∙ not-false _ (w .0 .left))) (c .if1 .came))
 
--- src/check.rt:28:1
 returns : tie.Need-returns Inv-loop μ-loop
 unfolding bufferStands
 returns c = let e : c .before .loop .i ≡ 6 = omega arith in rw e at (c .before .loop .inv .1)

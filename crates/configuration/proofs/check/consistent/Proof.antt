@@ -6,30 +6,21 @@ use native.Mathlib.Omega.{arith}
 use borrow.Author.Needs.{needs}
 use Rattle.configuration.proofs.check.consistent.Statement.{statement}
 use Rattle.configuration.proofs.check.consistent.Tie as tie
-use Rattle.configuration.proofs.check.consistent.Reads as reads
-use Rattle.configuration.proofs.check.consistent.Lts as lts
-use Rattle.base.proofs.size.Reads as size-reads
-use Rattle.configuration.proofs.check.buffer_stands.Reads as buffer-stands-reads
 
--- src/check.rt:46:9
 returns : tie.Need-returns
 unfolding consistentIn
 returns c = let a = c .before .args in let long : length (a .t5 .buffer) ≡ 6 = search needs in rw (eq-eqb (length (a .t5 .buffer)) 6 long, le-ltb (a .t5 .state) (a .states) (omega arith))
 
--- src/check.rt:49:9
 returns-2 : tie.Need-returns-2
 unfolding consistentIn
 returns-2 c = let a = c .before .before .args in let long : length (a .t5 .buffer) ≡ 6 = search needs in rw (eq-eqb (length (a .t5 .buffer)) 6 long, lt-ltb (a .t5 .state) (a .states) (omega arith), lt-leb (a .t5 .held) (a .capacity) (omega arith))
 
--- src/check.rt:51:37
 size-requires : tie.Need-size-requires
 size-requires c κs = search needs
 
--- src/check.rt:51:5
 buffer-stands-requires : tie.Need-buffer-stands-requires
 buffer-stands-requires c κs = search needs
 
--- src/check.rt:42:1
 returns-3 : tie.Need-returns-3
 unfolding consistentIn
 returns-3 c = let a = c .before .before .before .before .before .before .args in let long : length (a .t5 .buffer) ≡ 6 = search needs in rw (eq-eqb (length (a .t5 .buffer)) 6 long, lt-ltb (a .t5 .state) (a .states) (omega arith), le-leb (a .t5 .held) (a .capacity) (omega arith)) (rw (c .before .before .before .size .ensures .0) at (c .buffer-stands .ensures))

@@ -4,29 +4,21 @@ use native.Mathlib.Omega.{arith}
 use borrow.Author.Needs.{needs}
 use Rattle.configuration.proofs.check.holdable.Statement.{statement}
 use Rattle.configuration.proofs.check.holdable.Tie as tie
-use Rattle.configuration.proofs.check.holdable.Reads as reads
-use Rattle.configuration.proofs.check.holdable.Lts as lts
-use Rattle.base.proofs.size.Reads as size-reads
 
--- src/check.rt:10:9
 returns : tie.Need-returns
 unfolding holdableIn
 returns c = rw (le-ltb (c .before .args .e) (c .before .args .symbols) (omega arith))
 
--- src/check.rt:13:9
 returns-2 : tie.Need-returns-2
 unfolding holdableIn
 returns-2 c = let a = c .before .before .args in rw (lt-ltb (a .e) (a .symbols) (omega arith), le-ltb (a .e) 16 (omega arith))
 
--- src/check.rt:15:13
 size-requires : tie.Need-size-requires
 size-requires c κs = search needs
 
--- src/check.rt:15:5
 element-copy-out-result : tie.Need-element-copy-out-result
 element-copy-out-result c = search needs
 
--- src/check.rt:6:1
 returns-3 : tie.Need-returns-3
 unfolding holdableIn
 returns-3 c = let a = c .before .before .before .before .args in rw (lt-ltb (a .e) (a .symbols) (omega arith), lt-ltb (a .e) 16 (omega arith), c .before .size .ensures .0)

@@ -1,22 +1,15 @@
 use Rattle.configuration.specs.Parts.{placeStands}
-use native.Mathlib.Omega.{arith}
 use borrow.Author.Needs.{needs}
 use Rattle.configuration.proofs.check.place_stands.Statement.{statement}
 use Rattle.configuration.proofs.check.place_stands.Tie as tie
-use Rattle.configuration.proofs.check.place_stands.Reads as reads
-use Rattle.configuration.proofs.check.place_stands.Lts as lts
-use Rattle.configuration.proofs.check.holdable.Reads as holdable-reads
 
--- src/check.rt:23:9
 holdable-requires : tie.Need-holdable-requires
 holdable-requires c κs = search needs
 
--- src/check.rt:23:9
 returns : tie.Need-returns
 unfolding placeStands
 returns c = rw (c .before .if1 .taken) (c .holdable .ensures)
 
--- src/check.rt:19:1
 returns-2 : tie.Need-returns-2
 unfolding placeStands
 returns-2 c = rw (c .if1 .left)

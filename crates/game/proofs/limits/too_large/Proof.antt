@@ -5,30 +5,21 @@ use native.Mathlib.Omega.{arith}
 use borrow.Author.Needs.{needs}
 use Rattle.game.proofs.limits.too_large.Statement.{statement}
 use Rattle.game.proofs.limits.too_large.Tie as tie
-use Rattle.game.proofs.limits.too_large.Reads as reads
-use Rattle.game.proofs.limits.too_large.Lts as lts
-use Rattle.base.proofs.size.Reads as size-reads
-use Rattle.game.proofs.limits.uncontrollable_in.Reads as uncontrollable-in-reads
 
--- src/limits.rt:26:9
 returns : tie.Need-returns
 unfolding tooLargeIn
 returns c = rw (lt-ltb 4 (c .before .args .states) (omega arith))
 
--- src/limits.rt:28:39
 size-requires : tie.Need-size-requires
 size-requires c κs = search needs
 
--- src/limits.rt:28:12
 uncontrollable-in-requires : tie.Need-uncontrollable-in-requires
 uncontrollable-in-requires c κs = search needs
 
--- src/limits.rt:29:9
 returns-2 : tie.Need-returns-2
 unfolding tooLargeIn
 returns-2 c = let a = c .before .before .before .before .args in let n = c .before .uncontrollable-in .result in let u : n ≡ uncontrollableIn (a .classes .now) (a .symbols) = rw (c .before .before .size .ensures .0) at (c .before .uncontrollable-in .ensures) in rw (le-ltb 4 (a .states) (omega arith), ← u, lt-ltb 2 n (omega arith))
 
--- src/limits.rt:21:1
 returns-3 : tie.Need-returns-3
 unfolding tooLargeIn
 returns-3 c = let a = c .before .before .before .before .args in let n = c .before .uncontrollable-in .result in let u : n ≡ uncontrollableIn (a .classes .now) (a .symbols) = rw (c .before .before .size .ensures .0) at (c .before .uncontrollable-in .ensures) in rw (le-ltb 4 (a .states) (omega arith), ← u, le-ltb 2 n (omega arith))

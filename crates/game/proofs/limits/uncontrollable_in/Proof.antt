@@ -13,8 +13,6 @@ use native.Mathlib.Omega.{arith}
 use borrow.Author.Needs.{needs}
 use Rattle.game.proofs.limits.uncontrollable_in.Statement.{statement}
 use Rattle.game.proofs.limits.uncontrollable_in.Tie as tie
-use Rattle.game.proofs.limits.uncontrollable_in.Reads as reads
-use Rattle.game.proofs.limits.uncontrollable_in.Lts as lts
 
 abbrev outside : List ℕ → ℕ → Bool
 outside classes e = not (eqb (getD classes e 0) 1)
@@ -25,33 +23,26 @@ Inv-loop classes m count₀ e₀ count e = (e ≤ m) × (count ≤ e) × (count 
 abbrev μ-loop : tie.MeasureT-loop
 μ-loop classes m count₀ e₀ count e = m - e
 
--- src/limits.rt:12:5
 loop-holds : tie.Need-loop-holds Inv-loop μ-loop
 unfolding uncontrollableIn count
 loop-holds c = (omega arith, omega arith, refl)
 
--- src/limits.rt:13:12
 element-copy-out-if1 : tie.Need-element-copy-out-if1 Inv-loop μ-loop
 element-copy-out-if1 c = search needs
 
--- src/limits.rt:14:21
 add-count : tie.Need-add-count Inv-loop μ-loop
 add-count c = search needs
 
--- src/limits.rt:16:13
 add-e : tie.Need-add-e Inv-loop μ-loop
 add-e c = search needs
 
--- src/limits.rt:12:5
 loop-less : tie.Need-loop-less Inv-loop μ-loop
 loop-less c = search needs
 
--- src/limits.rt:12:5
 loop-again : tie.Need-loop-again Inv-loop μ-loop
 unfolding uncontrollableIn
 loop-again c = let l = c .before .before .before .loop in let p = outside (c .before .before .before .before .args .classes .now) in (omega arith, ⊎-elim (λ w. omega arith) (λ w. omega arith) (c .if1 .came), ⊎-elim (λ w. w .1 ∙ count-adds p (l .e) (l .count) (l .inv .2) (ap not (ne-eqb _ 1 (w .0 .taken)))) (λ w. w .1 ∙ count-skips p (l .e) (l .count) (l .inv .2) (ap not (eq-eqb _ 1 (w .0 .left)))) (c .if1 .came))
 
--- src/limits.rt:6:1
 returns : tie.Need-returns Inv-loop μ-loop
 returns c = let e : c .before .loop .e ≡ c .before .before .args .m = omega arith in rw e at (c .before .loop .inv .2)
 

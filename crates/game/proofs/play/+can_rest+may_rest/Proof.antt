@@ -1,15 +1,13 @@
 use Rattle.game.proofs.Turns.{turn, turn-in, turn-out, rest-not, rest-last, rest-on, come-here, come-none, come-released}
 use Rattle.game.specs.Parts.{arena, heldFrom}
-use Rattle.game.specs.Game.{canRest}
 use Rattle.automaton.specs.Automaton.{controllable, accepts, step}
 use Rattle.base.proofs.Ranges.{each-more, each-false}
 use Rattle.base.proofs.Bools.{and-both, or-left}
 use Rattle.base.specs.Each.{each}
 use borrow.Author.Tests.{eq-eqb, ne-eqb, not-true, not-false}
-use lib.ListN.{getD}
 use mathlib.Core.Logic.{⊎-elim}
 use mathlib.Core.Bool.{true}
-use mathlib.Core.Path.{_≡_, refl, ap, _∙_, sym}
+use mathlib.Core.Path.{_≡_, refl, _∙_, sym}
 use borrow.Author.Needs.{needs}
 use native.Mathlib.Omega.{arith}
 use Prim.Native.Nat.{ℕ, _<_, _≤_, _*_, _+_, _-_}
@@ -26,6 +24,7 @@ use Rattle.game.proofs.play.step.Reads as step-reads
 use Rattle.game.proofs.play.+can_rest+may_rest.{statement}
 use Rattle.game.proofs.play.+can_rest+may_rest.Tie.{close}
 
+-- The number that falls at each call: a held event left weighs more than all rounds, and coming to rest one more than resting.
 abbrev μ-can-rest : Measures 1 can-rest-kinds.ps ℕ
 μ-can-rest κs a = 2 * ((a .1 .1 .1 .1 .1 .1 .0 - a .1 .1 .1 .1 .1 .1 .1 .0) * 33 + a .1 .1 .1 .1 .1 .1 .1 .1 .1 .0) + 1
 
@@ -46,7 +45,6 @@ abbrev may-rest-below : ℕ → In 1 may-rest-kinds.ps
 may-rest-below t =
     and 1 may-rest-kinds.ps (falls 1 may-rest-kinds.ps _<_ μ-may-rest t) may-rest.Pre
 
--- src/play.rt:68:8
 can-rest-may-rest-requires : (t : ℕ) → can-rest-lts.Need-may-rest-requires (
   may-rest-below t,
   may-rest.Post,
@@ -59,7 +57,6 @@ can-rest-may-rest-requires : (t : ℕ) → can-rest-lts.Need-may-rest-requires (
 ) (can-rest-at t) can-rest.Post
 can-rest-may-rest-requires t c κs = search needs
 
--- src/play.rt:69:9
 can-rest-returns : (t : ℕ) → can-rest-lts.Need-returns (
   may-rest-below t,
   may-rest.Post,
@@ -72,7 +69,6 @@ can-rest-returns : (t : ℕ) → can-rest-lts.Need-returns (
 ) (can-rest-at t) can-rest.Post
 can-rest-returns t c = let a = c .before .before .args in sym (come-here _ (a .buffer .now) (a .held) (a .at) _ _ (sym (c .before .may-rest .ensures) ∙ c .if1 .taken))
 
--- src/play.rt:72:9
 can-rest-returns-2 : (t : ℕ) → can-rest-lts.Need-returns-2 (
   may-rest-below t,
   may-rest.Post,
@@ -85,7 +81,6 @@ can-rest-returns-2 : (t : ℕ) → can-rest-lts.Need-returns-2 (
 ) (can-rest-at t) can-rest.Post
 can-rest-returns-2 t c = let a = c .before .before .before .args in sym (come-none _ (a .buffer .now) (a .held) (a .at) _ _ (c .if2 .taken) (sym (c .before .before .may-rest .ensures) ∙ c .before .if1 .left))
 
--- src/play.rt:74:24
 can-rest-element-copy-out-size : (t : ℕ) → can-rest-lts.Need-element-copy-out-size (
   may-rest-below t,
   may-rest.Post,
@@ -98,7 +93,6 @@ can-rest-element-copy-out-size : (t : ℕ) → can-rest-lts.Need-element-copy-ou
 ) (can-rest-at t) can-rest.Post
 can-rest-element-copy-out-size t c = search needs
 
--- src/play.rt:74:9
 can-rest-size-requires : (t : ℕ) → can-rest-lts.Need-size-requires (
   may-rest-below t,
   may-rest.Post,
@@ -111,7 +105,6 @@ can-rest-size-requires : (t : ℕ) → can-rest-lts.Need-size-requires (
 ) (can-rest-at t) can-rest.Post
 can-rest-size-requires t c κs = search needs
 
--- src/play.rt:75:9
 can-rest-step-requires : (t : ℕ) → can-rest-lts.Need-step-requires (
   may-rest-below t,
   may-rest.Post,
@@ -124,7 +117,6 @@ can-rest-step-requires : (t : ℕ) → can-rest-lts.Need-step-requires (
 ) (can-rest-at t) can-rest.Post
 can-rest-step-requires t c κs = let s = c .before .before .before .before .before in let p = s .pre .1 .0 in (omega arith, omega (arith, p .events (s .args .at) (omega arith)))
 
--- src/play.rt:76:60
 can-rest-add-can-rest : (t : ℕ) → can-rest-lts.Need-add-can-rest (
   may-rest-below t,
   may-rest.Post,
@@ -137,7 +129,6 @@ can-rest-add-can-rest : (t : ℕ) → can-rest-lts.Need-add-can-rest (
 ) (can-rest-at t) can-rest.Post
 can-rest-add-can-rest t c = search needs
 
--- src/play.rt:76:5
 can-rest-can-rest-requires : (t : ℕ) → can-rest-lts.Need-can-rest-requires (
   may-rest-below t,
   may-rest.Post,
@@ -151,7 +142,6 @@ can-rest-can-rest-requires : (t : ℕ) → can-rest-lts.Need-can-rest-requires (
 unfolding step
 can-rest-can-rest-requires t c κs = let s = c .before .before .before .before .before .before in let p = s .pre .1 .0 in let e : c .before .size .result < s .args .m = omega (arith, p .events (s .args .at) (omega arith)) in (omega arith, (p, omega arith, rw (c .step .ensures) (p .steps (s .args .q) (c .before .size .result) (omega arith) e)))
 
--- src/play.rt:53:1
 can-rest-returns-3 : (t : ℕ) → can-rest-lts.Need-returns-3 (
   may-rest-below t,
   may-rest.Post,
@@ -171,7 +161,6 @@ may-rest-Inv-loop next classes accepting buffer n m held at q rounds e₀ e = (e
 abbrev may-rest-μ-loop : may-rest-lts.MeasureT-loop
 may-rest-μ-loop next classes accepting buffer n m held at q rounds e₀ e = m - e
 
--- src/play.rt:32:8
 may-rest-element-copy-out-if1 : (t : ℕ) → may-rest-lts.Need-element-copy-out-if1 (
   step-reads.Asked,
   step-reads.Learnt,
@@ -180,7 +169,6 @@ may-rest-element-copy-out-if1 : (t : ℕ) → may-rest-lts.Need-element-copy-out
 ) (may-rest-at t) may-rest.Post may-rest-Inv-loop may-rest-μ-loop
 may-rest-element-copy-out-if1 t c = search needs
 
--- src/play.rt:33:9
 may-rest-returns : (t : ℕ) → may-rest-lts.Need-returns (
   step-reads.Asked,
   step-reads.Learnt,
@@ -190,7 +178,6 @@ may-rest-returns : (t : ℕ) → may-rest-lts.Need-returns (
 unfolding accepts
 may-rest-returns t c = sym (rest-not _ _ _ _ (ne-eqb _ _ (c .if1 .taken)))
 
--- src/play.rt:36:9
 may-rest-returns-2 : (t : ℕ) → may-rest-lts.Need-returns-2 (
   step-reads.Asked,
   step-reads.Learnt,
@@ -200,7 +187,6 @@ may-rest-returns-2 : (t : ℕ) → may-rest-lts.Need-returns-2 (
 unfolding accepts
 may-rest-returns-2 t c = sym (rest-last _ _ _ _ (c .if2 .taken) (eq-eqb _ _ (c .before .if1 .left)))
 
--- src/play.rt:39:5
 may-rest-loop-holds : (t : ℕ) → may-rest-lts.Need-loop-holds (
   step-reads.Asked,
   step-reads.Learnt,
@@ -210,7 +196,6 @@ may-rest-loop-holds : (t : ℕ) → may-rest-lts.Need-loop-holds (
 unfolding each
 may-rest-loop-holds t c = (search needs, refl)
 
--- src/play.rt:40:12
 may-rest-element-copy-out-if3 : (t : ℕ) → may-rest-lts.Need-element-copy-out-if3 (
   step-reads.Asked,
   step-reads.Learnt,
@@ -219,7 +204,6 @@ may-rest-element-copy-out-if3 : (t : ℕ) → may-rest-lts.Need-element-copy-out
 ) (may-rest-at t) may-rest.Post may-rest-Inv-loop may-rest-μ-loop
 may-rest-element-copy-out-if3 t c = search needs
 
--- src/play.rt:41:17
 may-rest-step-requires : (t : ℕ) → may-rest-lts.Need-step-requires (
   step-reads.Asked,
   step-reads.Learnt,
@@ -228,7 +212,6 @@ may-rest-step-requires : (t : ℕ) → may-rest-lts.Need-step-requires (
 ) (may-rest-at t) may-rest.Post may-rest-Inv-loop may-rest-μ-loop
 may-rest-step-requires t c κs = search needs
 
--- src/play.rt:42:24
 may-rest-sub-left : (t : ℕ) → may-rest-lts.Need-sub-left (
   step-reads.Asked,
   step-reads.Learnt,
@@ -237,7 +220,6 @@ may-rest-sub-left : (t : ℕ) → may-rest-lts.Need-sub-left (
 ) (may-rest-at t) may-rest.Post may-rest-Inv-loop may-rest-μ-loop
 may-rest-sub-left t c = search needs
 
--- src/play.rt:43:17
 may-rest-can-rest-requires : (t : ℕ) → may-rest-lts.Need-can-rest-requires (
   step-reads.Asked,
   step-reads.Learnt,
@@ -247,7 +229,6 @@ may-rest-can-rest-requires : (t : ℕ) → may-rest-lts.Need-can-rest-requires (
 unfolding step
 may-rest-can-rest-requires t c κs = let s = c .before .before .before .before .before .before .before .before in let p = s .pre .1 .0 in (omega arith, (p, omega arith, rw (c .step .ensures) (p .steps (s .args .q) (c .before .before .before .before .loop .e) (omega arith) (omega arith))))
 
--- src/play.rt:44:17
 may-rest-returns-3 : (t : ℕ) → may-rest-lts.Need-returns-3 (
   step-reads.Asked,
   step-reads.Learnt,
@@ -257,7 +238,6 @@ may-rest-returns-3 : (t : ℕ) → may-rest-lts.Need-returns-3 (
 unfolding accepts controllable step
 may-rest-returns-3 t c = sym (rest-on _ _ _ _ (c .before .before .before .before .before .before .before .if2 .left) (eq-eqb _ _ (c .before .before .before .before .before .before .before .before .if1 .left)) ∙ each-false _ _ (c .before .before .before .before .before .before .loop .e) (c .before .before .before .before .before .loop-test .taken) (turn-out _ _ _ _ (c .before .before .before .before .before .before .loop .e) _ (c .before .before .step .ensures) (ne-eqb _ _ (c .before .before .before .if3 .taken)) (sym (c .before .can-rest .ensures) ∙ not-true _ (c .if4 .taken))))
 
--- src/play.rt:47:13
 may-rest-add-e : (t : ℕ) → may-rest-lts.Need-add-e (
   step-reads.Asked,
   step-reads.Learnt,
@@ -266,7 +246,6 @@ may-rest-add-e : (t : ℕ) → may-rest-lts.Need-add-e (
 ) (may-rest-at t) may-rest.Post may-rest-Inv-loop may-rest-μ-loop
 may-rest-add-e t c = search needs
 
--- src/play.rt:39:5
 may-rest-loop-less : (t : ℕ) → may-rest-lts.Need-loop-less (
   step-reads.Asked,
   step-reads.Learnt,
@@ -275,7 +254,6 @@ may-rest-loop-less : (t : ℕ) → may-rest-lts.Need-loop-less (
 ) (may-rest-at t) may-rest.Post may-rest-Inv-loop may-rest-μ-loop
 may-rest-loop-less t c = search needs
 
--- src/play.rt:39:5
 may-rest-loop-again : (t : ℕ) → may-rest-lts.Need-loop-again (
   step-reads.Asked,
   step-reads.Learnt,
@@ -285,7 +263,6 @@ may-rest-loop-again : (t : ℕ) → may-rest-lts.Need-loop-again (
 unfolding controllable step
 may-rest-loop-again t c = (omega arith, each-more (c .before .before .before .loop .e) _ ∙ and-both (c .before .before .before .loop .inv .1) (⊎-elim (λ w. turn-in _ _ _ _ (c .before .before .before .loop .e) _ (w .1 .ensures) (sym (w .2 .ensures) ∙ not-false _ (w .3 .left))) (λ w. or-left _ (eq-eqb _ _ (w .left))) (c .if3 .came)))
 
--- src/play.rt:17:1
 may-rest-returns-4 : (t : ℕ) → may-rest-lts.Need-returns-4 (
   step-reads.Asked,
   step-reads.Learnt,
