@@ -97,6 +97,10 @@ module _ (a : Automaton) (v : Valid a) (t : List ℕ) (w : List ℕ) (b : Buffer
   abbrev ranking : Ranking
   ranking = rankingOf (a .classes) (a .symbols)
 
+  pub rest-tabled : restIn t (ranking .ranks) (ranking .count) w q ≡ byTable a t w q
+  unfolding restIn byTable
+  rest-tabled = rw (place-index a v w (b .0))
+
   asked : (k : ℕ) → qualifies (restIn t (ranking .ranks) (ranking .count)) (over (a .next)) q w k ≡ qualifies (byTable a t) a q w k
   unfolding qualifies restIn byTable
   asked k = rw (place-index a v (drop k w) (buffer-drop a k w b .0), run-over a (take k w) q)
