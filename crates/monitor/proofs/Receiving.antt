@@ -158,3 +158,7 @@ module _ (a : Automaton) (t : List ℕ) (c : Configuration) where
       let z = guard-clear a t c (k .record-valid) (k .table-long) (k .configuration-consistent) in
       let s = rest-tabled a (facts a t c k) t (take (c .held) (c .buffer)) (held-buffer a c (place a t c k)) (c .state) in
       rw (z, ← s, e)
+
+  pub held-long : Clear a t c → length (take (c .held) (c .buffer)) ≡ c .held
+  unfolding heldEvents
+  held-long k = place a t c k .held-length

@@ -1,3 +1,4 @@
+use Rattle.monitor.proofs.Receiving.{held-long}
 use lib.Seq.{length-take-le}
 use lib.ListN.{length, getD, take}
 use mathlib.Core.Path.{_≡_, _∙_, sym, ap}
@@ -40,11 +41,11 @@ size-requires-2 c κs = search needs
 
 -- src/checking.rt:60:18
 in-set-requires : tie.Need-in-set-requires
-in-set-requires c κs = let k = entered-clear _ _ _ _ (c .before .before .before .before .before .before .before .before .before .enter .ensures) (c .before .before .before .before .before .before .before .if1 .left) in let l = lent-here _ _ _ (k .0) in let n : length (c .before .before .before .before .before .before .before .before .before .before .before .args .c .buffer) ≡ 6 = search needs in let long = length-take-le (c .before .before .before .before .before .before .before .before .before .before .before .args .c .held) (c .before .before .before .before .before .before .before .before .before .before .before .args .c .buffer) (omega (arith, l .few)) in let p = rw (c .before .before .size .ensures .0, k .1) at (c .before .places .ensures) in (lent-below l long _ p 0 (omega arith), omega (arith, c .size2 .ensures .0, l .state-low))
+in-set-requires c κs = let k = entered-clear _ _ _ _ (c .before .before .before .before .before .before .before .before .before .enter .ensures) (c .before .before .before .before .before .before .before .if1 .left) in let l = lent-here _ _ _ (k .0) in let p = rw (c .before .before .size .ensures .0, k .1) at (c .before .places .ensures) in (lent-below l (held-long _ _ _ (k .0)) _ p 0 (omega arith), omega (arith, c .size2 .ensures .0, l .state-low))
 
 -- src/checking.rt:45:1
 returns-2 : tie.Need-returns-2
-returns-2 c = let k = entered-clear _ _ _ _ (c .before .before .before .before .before .before .before .before .before .before .enter .ensures) (c .before .before .before .before .before .before .before .before .if1 .left) in let l = lent-here _ _ _ (k .0) in let n : length (c .before .before .before .before .before .before .before .before .before .before .before .before .args .c .buffer) ≡ 6 = search needs in let long = length-take-le (c .before .before .before .before .before .before .before .before .before .before .before .before .args .c .held) (c .before .before .before .before .before .before .before .before .before .before .before .before .args .c .buffer) (omega (arith, l .few)) in let p = rw (c .before .before .before .size .ensures .0, k .1) at (c .before .before .places .ensures) in guard-answers _ _ _ (k .0) _ (lent-rest l long _ p 0 (omega arith) _ _ (rw (c .before .size2 .ensures .0) at (c .in-set .ensures)))
+returns-2 c = let k = entered-clear _ _ _ _ (c .before .before .before .before .before .before .before .before .before .before .enter .ensures) (c .before .before .before .before .before .before .before .before .if1 .left) in let l = lent-here _ _ _ (k .0) in let p = rw (c .before .before .before .size .ensures .0, k .1) at (c .before .before .places .ensures) in guard-answers _ _ _ (k .0) _ (lent-rest l (held-long _ _ _ (k .0)) _ p 0 (omega arith) _ _ (rw (c .before .size2 .ensures .0) at (c .in-set .ensures)))
 
 pub winning-spec : {M : Type 1} → statement M
 winning-spec =
