@@ -17,7 +17,7 @@ use Rattle.monitor.proofs.Effects.{effect-same}
 use Rattle.monitor.proofs.Solved.{solved-agree}
 use Rattle.claims.specs.Store.{Store, empty, stateOf, store, storeAll, lacksRoom, feed, feedAll, acceptedOf, acceptedBy, acceptedAll}
 use Rattle.claims.specs.Calls.{Call, one, day, fedBy, configurationOf}
-use Rattle.claims.specs.Moments.{Moment, effectAt, emittedAt, within, broughtBy, broughtAll, moments}
+use Rattle.claims.specs.Moments.{Moment, AllOf, effectAt, emittedAt, within, broughtBy, broughtAll, moments}
 use Rattle.claims.specs.Claims.{MomentsAccounted}
 use Rattle.claims.proofs.Stores.{Sound, grown, initially, initial-sound, byStore, store-accepts, store-refuses, store-state, store-sound}
 use Rattle.claims.proofs.Alone.{store-append, accepted-append}
@@ -79,6 +79,21 @@ module _ (a : Automaton) (t : List ℕ) (v : valid a ≡ true) (sv : Solved a t)
       (accepts-then past s e o h es _ (within-is es (past ++ e ∷ []) (store a s e) (store-sound a (total a v) (e ∷ []) s o))))
       (λ h. refuses-then past s e es h (within-is es past s o))
 
+  -- and fed the events before it, the function has the output and buffer that each meets
+  abbrev Fed : Moment → Type 0
+  Fed m = storeAll a empty (m .past) ≡ record { output = m .output; buffer = m .buffer }
+
+  within-fed : (es past : List ℕ) (s : Store) → Sound a s → storeAll a empty past ≡ s → AllOf Fed (from past s es)
+  unfolding within storeAll
+  within-fed [] past s o f = tt
+  within-fed (e ∷ es) past s o f =
+      by (eqb (eventRefusal a (s .buffer) e) 0)
+      (λ h.
+      let on = store-append a past (e ∷ []) empty ∙ ap (λ z. store a z e) f in
+      rw (accepts-first past s e o h es)
+      (f, within-fed es (past ++ e ∷ []) (store a s e) (store-sound a (total a v) (e ∷ []) s o) on))
+      (λ h. rw h (within-fed es past s o f))
+
   -- the events that a call brings feed the function as the call does
   module _ (s : Store) (o : Sound a s) where
     record Brought (x : Call) (es : List ℕ) : Type 0 where
@@ -118,7 +133,7 @@ module _ (a : Automaton) (t : List ℕ) (v : valid a ≡ true) (sv : Solved a t)
       })
 
 pub moments-accounted : MomentsAccounted
-unfolding moments configurationOf
+unfolding moments configurationOf storeAll
 moments-accounted a t v sv calls =
     let b = brought-all a t v sv calls empty (initial-sound a v) in
     let es = broughtAll a t (configurationOf a empty) calls in
@@ -128,4 +143,5 @@ moments-accounted a t v sv calls =
       events = rw go (w .events ∙ sym (b .accepted));
       emitted = rw go (sym (w .emitted) ∙ ap (λ s. s .output) (sym (b .fed)) ∙ sym (demand3 a t v sv calls .all-emitted));
       leads = moments-all a t v (λ m. run a (a .initial) (m .output) ≡ m .state) (λ m k. k .leads) calls;
+      fed = rw go (within-fed a t v sv es [] empty (initial-sound a v) refl);
     }

@@ -8,3 +8,4 @@ pub mod Staying
 pub mod Driven
 pub mod Rivals
 pub mod Tables
+pub mod Cases

@@ -41,11 +41,13 @@ unfoldable pub outputAfter : Automaton → List ℕ → Moment → List ℕ
 outputAfter a t m = m .output ++ effectAt a t m .emitted
 
 -- The accepted events of the calls, one by one, are those that the function accepts; what they emit, end to end, is all that is
--- emitted; and the state that each of them meets is where the output leads.
+-- emitted; the state that each of them meets is where the output leads; and fed the events before it, the function has the output and
+-- buffer that it meets.
 pub record Accounted (a : Automaton) (t : List ℕ) (calls : List Call) : Type 0 where
   pub events : map (λ (m : Moment). m .event) (moments a t (initialOf a) calls) ≡ acceptedAll a empty (map fedBy calls)
   pub emitted : emittedAt a t (moments a t (initialOf a) calls) ≡ emittedAll (replies a t (initialOf a) calls)
   pub leads : AllOf (λ m. run a (a .initial) (m .output) ≡ m .state) (moments a t (initialOf a) calls)
+  pub fed : AllOf (λ m. storeAll a empty (m .past) ≡ record { output = m .output; buffer = m .buffer }) (moments a t (initialOf a) calls)
 
 abbrev pub MomentsAccounted : Type 0
 MomentsAccounted = (a : Automaton) (t : List ℕ) → valid a ≡ true → Solved a t → (calls : List Call) → Accounted a t calls

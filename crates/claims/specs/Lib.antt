@@ -3,3 +3,4 @@ pub mod Calls
 pub mod Moments
 pub mod Rival
 pub mod Claims
+pub mod Cases

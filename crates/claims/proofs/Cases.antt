@@ -1,0 +1,38 @@
+-- The marked cases compute.
+use Prim.Native.Nat.{ℕ}
+use mathlib.Core.Path.{refl}
+use Rattle.base.specs.Each.{each, count, those, lastOr}
+use Rattle.base.specs.Rows.{first}
+use Rattle.base.specs.Pad.{pad}
+use Rattle.base.specs.Masks.{has, mask}
+use Rattle.varint.specs.Varint.{groups, read, encode, bytes}
+use Rattle.automaton.specs.Automaton.{controllable, controllables, accepts, step, run, stands, shaped, ranged, classesStand, flagsStand, nextStand, valid}
+use Rattle.encoding.specs.Reading.{checked, between, tally, classRow, numbers, runs, one, many, tables, sheet, parse}
+use Rattle.sets.specs.Sets.{acceptingSet, admits, stays, refine, settle, settled, setsOf, emptySets, into, sets}
+use Rattle.sets.specs.Table.{rank, value, shorter, index, buffersCount, short, controllableTo, extended, buffersAt, buffersTo, pairs, roundsSum, table, rounds}
+use Rattle.configuration.specs.Carried.{heldEvents, holdable, consistent, initialOf}
+use Rattle.winning.specs.Solving.{countAnswer}
+use Rattle.monitor.specs.Step.{byTable, qualifies, qualifying, release, remaining, arrival, effect, eventRows}
+use Rattle.monitor.specs.Answers.{callRows, isWinning, guardRefusal, guard, receiveRefusal, received}
+use Rattle.claims.specs.Calls.{handedBack, reply, replies}
+use Rattle.claims.specs.Cases.{sheetV, sheetW, sized, MarkedCases}
+
+-- the definitions of the rows
+unfoldable rules : ℕ
+unfolding
+    each count those lastOr first pad has mask
+    groups read encode bytes
+    controllable controllables accepts step run stands shaped ranged classesStand flagsStand nextStand valid
+    checked between tally classRow numbers runs one many tables sheet parse
+    acceptingSet admits stays refine settle settled setsOf emptySets into sets
+    rank value shorter index buffersCount short controllableTo extended buffersAt buffersTo pairs roundsSum table rounds
+    heldEvents holdable consistent initialOf countAnswer
+    byTable qualifies qualifying release remaining arrival effect eventRows
+    callRows isWinning guardRefusal guard receiveRefusal received handedBack reply replies
+    sheetV sheetW sized
+rules = 0
+
+pub marked-cases : MarkedCases
+unfolding rules
+marked-cases =
+    (refl, (refl, ((refl, refl), ((refl, refl), (refl, (refl, (refl, (refl, (refl, (refl, (refl, ((refl, refl), ((refl, refl), ((refl, refl), (refl, ((refl, refl), ((refl, refl), ((refl, refl), tt))))))))))))))))))
