@@ -1,6 +1,4 @@
 // The solver: the sets S and I of every buffer, written into a lent table.
-mod refinement;
-mod table;
 use automaton::{valid, Automaton};
 use base::size;
 use refinement::uncontrollable;

@@ -11,7 +11,7 @@ use Rattle.winning.proofs.buffers_count.Lts as lts
 use Rattle.automaton.proofs.valid.Reads as valid-reads
 use Rattle.base.proofs.size.Reads as size-reads
 use Rattle.winning.proofs.buffers_to.Reads as buffers-to-reads
-use Rattle.winning.proofs.refinement.uncontrollable.Reads as uncontrollable-reads
+use Rattle.refinement.proofs.uncontrollable.Reads as uncontrollable-reads
 
 -- src/lib.rt:44:9
 valid-requires : tie.Need-valid-requires

@@ -1,0 +1,198 @@
+-- A loop that writes the sets of the buffers length by length.
+use Prim.Native.Nat.{ℕ, zero, suc, _+_, _*_, _^_, _-_, _<_, _≤_}
+use mathlib.Core.Path.{_≡_, refl, sym, _∙_, ap, ap₂}
+use mathlib.Core.List.{List, [], _∷_, _++_, map, map-append}
+use mathlib.Core.Bool.{true}
+use native.Mathlib.Numerals.{add-one}
+use native.Mathlib.Nat.{zero-add, pow-zero, pow-suc}
+use native.Mathlib.Omega.{arith}
+use lib.ListN.{length, set, drop, length-append, length-map, length-set}
+use lib.Seq.{sets-eq, set-set, set-comm, drop-set-lt}
+use Rattle.automaton.specs.declared.Automaton.{Automaton}
+use Rattle.automaton.specs.Automaton.{controllables, valid}
+use Rattle.automaton.proofs.Facts.{Valid, valid-facts}
+use Rattle.sets.specs.declared.Sets.{Sets}
+use Rattle.sets.specs.declared.Settled.{Settled}
+use Rattle.sets.specs.Sets.{acceptingSet, settled, setsOf, emptySets, sets}
+use Rattle.sets.specs.Table.{shorter, buffersCount, buffersAt, buffersTo, pairs, roundsSum, table, rounds}
+use Rattle.sets.proofs.Numbering.{buffersAt-length, buffersTo-length}
+use Rattle.sets.proofs.Tables.{pairs-length, table-length}
+use Rattle.refinement.specs.declared.Symbols.{Symbols}
+use Rattle.refinement.specs.Parts.{Fits, flagged, freeOf, settledOn}
+use Rattle.table.specs.Parts.{setsFrom, levelOf, stored}
+use Rattle.table.proofs.Filling.{sum-append, stored-append}
+use Rattle.refinement.proofs.Agreeing.{flagged-is, lent-fits, accepting-below, settled-is}
+use Rattle.table.proofs.Buffers.{front, next-level}
+use Rattle.table.proofs.Bounds.{pow-small, shorter-small, shorter-mono, shorter-one, controllables-count, rounds-few}
+
+-- what the loop has of an automaton
+pub record Lent (a : Automaton) (n m b accepting : ℕ) (free : Symbols) : Type 0 where
+  pub facts : Valid a
+  pub fits : Fits (a .next) (free .list) n (free .count)
+  pub states : n ≡ a .states
+  pub symbols : m ≡ a .symbols
+  pub capacity : b ≡ a .capacity
+  pub start : accepting ≡ acceptingSet a
+  pub listed : free ≡ freeOf (a .classes) (a .symbols)
+
+pub lent-of : (a : Automaton) (n m b accepting : ℕ) (free : Symbols) → valid a ≡ true → n ≡ a .states → m ≡ a .symbols → b ≡ a .capacity
+    → accepting ≡ flagged (a .accepting) n → free ≡ freeOf (a .classes) m → Lent a n m b accepting free
+unfolding freeOf
+lent-of a n m b accepting free h p q r s t =
+    let l = t ∙ ap (freeOf (a .classes)) q in
+    record {
+      facts = valid-facts a h;
+      fits = rw (l, p) (lent-fits a h);
+      states = p;
+      symbols = q;
+      capacity = r;
+      start = s ∙ ap (flagged (a .accepting)) p ∙ flagged-is a;
+      listed = l;
+    }
+
+module _ (a : Automaton) (n m b accepting : ℕ) (free : Symbols) (lent : Lent a n m b accepting free) where
+  pub lent-small : accepting < 2 ^ n
+  lent-small = rw (lent .start, lent .states) (accepting-below a)
+
+  lent-front : setsFrom (a .next) (free .list) n (free .count) accepting ≡ front a
+  unfolding freeOf
+  lent-front = rw (lent .listed, lent .states, lent .start)
+
+  pub lent-settled : settledOn (a .next) (free .list) n (free .count) 0 accepting ≡ settled a 0 (λ x. x)
+  unfolding freeOf
+  lent-settled = rw (lent .listed, lent .states, lent .start) (settled-is a 0 (λ x. x))
+
+  lent-count : free .count + controllables a ≡ m
+  unfolding freeOf
+  lent-count = rw (lent .listed, lent .symbols) (controllables-count a)
+
+  pub lent-less : free .count ≤ m
+  lent-less = omega (arith, lent-count)
+
+  lent-rest : m - free .count ≡ controllables a
+  lent-rest = omega (arith, lent-count)
+
+  lent-level : (t : List ℕ) (from count : ℕ)
+      → levelOf (setsFrom (a .next) (free .list) n (free .count) accepting) (a .classes) m t from count ≡ levelOf (front a) (a .classes) (a .symbols) t from count
+  lent-level t from count = rw (lent-front, lent .symbols)
+
+-- the table has the sets of the buffers up to length l, and the last of these stand at the end
+pub record Lengthening (a : Automaton) (t₀ : List ℕ) (l : ℕ) (t : List ℕ) (from count sum : ℕ) : Type 0 where
+  pub same : length t ≡ length t₀
+  pub written : t ≡ stored t₀ 0 (map (sets a) (buffersTo a l))
+  pub place : from ≡ 2 * shorter (controllables a) l
+  pub counted : count ≡ controllables a ^ l
+  pub summed : sum ≡ roundsSum (map (sets a) (buffersTo a l))
+
+-- there is the empty buffer at least
+pub some-buffer : (a : Automaton) → 1 ≤ buffersCount a
+unfolding buffersCount
+some-buffer a = omega (arith, shorter-one (controllables a), shorter-mono (controllables a) 1 (suc (a .capacity)) (omega arith))
+
+module _ (a : Automaton) (t : List ℕ) (r : Settled) where
+  -- the table with the sets of the empty buffer
+  abbrev begun : List ℕ
+  begun = set (set t 0 (r .set)) 1 0
+
+  twice : set (set begun 0 (r .set)) 1 0 ≡ begun
+  twice = rw (set-comm (set t 0 (r .set)) 1 0 0 (r .set) (λ e. omega arith), set-set t 0 (r .set) (r .set)) (set-set (set t 0 (r .set)) 1 0 0)
+
+  pub length-none : r ≡ settled a 0 (λ x. x) → Lengthening a begun 0 begun 0 1 (r .rounds)
+  unfolding buffersTo buffersAt sets emptySets setsOf pairs roundsSum shorter
+  length-none h = record {
+    same = refl;
+    written = sym (rw (← h) twice);
+    place = refl;
+    counted = sym (pow-zero (controllables a));
+    summed = rw (← h) (omega arith);
+  }
+
+  pub begun-length : length begun ≡ length t
+  begun-length = simp length-set
+
+  pub begun-rest : drop (2 * buffersCount a) begun ≡ drop (2 * buffersCount a) t
+  begun-rest =
+      drop-set-lt (2 * buffersCount a) (set t 0 (r .set)) 1 0 (omega (arith, some-buffer a)) ∙
+      drop-set-lt (2 * buffersCount a) t 0 (r .set) (omega (arith, some-buffer a))
+
+module _ (a : Automaton) (n m b accepting : ℕ) (free : Symbols) (lent : Lent a n m b accepting free)
+  (t₀ : List ℕ) (room : 2 * buffersCount a ≤ length t₀) (l : ℕ) (t : List ℕ) (from count sum : ℕ) (s : Lengthening a t₀ l t from count sum)
+  where
+  abbrev k : ℕ
+  k = controllables a
+
+  -- any sum of rounds is small
+  pub length-fits : l ≤ b → sum ≤ 58720256
+  length-fits h =
+      let v = lent .facts in
+      omega (arith, lent .capacity, s .summed, rounds-few a v (buffersTo a l), buffersTo-length a l, shorter-small k (suc l) (v .controllables-high) (omega (arith, lent .capacity, v .capacity-high)))
+
+  pub length-all : l ≡ b → (t ≡ table a ++ drop (2 * buffersCount a) t₀) × (sum ≡ rounds a)
+  unfolding table rounds
+  length-all h =
+      let ss = map (sets a) (buffersTo a (a .capacity)) in
+      let e : length (pairs ss) ≡ 2 * buffersCount a = table-length a in
+      let g = h ∙ lent .capacity in
+      (
+        s .written ∙ ap (λ l. stored t₀ 0 (map (sets a) (buffersTo a l))) g ∙ sets-eq (pairs ss) t₀ 0 (omega arith) ∙ rw (zero-add (length (pairs ss)), e),
+        s .summed ∙ ap (λ l. roundsSum (map (sets a) (buffersTo a l))) g,
+      )
+
+  -- the next length is still within the capacity
+  module _ (h : l < b) where
+    longer-room : 2 * shorter k (suc (suc l)) ≤ length t₀
+    unfolding buffersCount
+    longer-room = omega (arith, lent .capacity, shorter-mono k (suc (suc l)) (suc (a .capacity)) (omega (arith, lent .capacity)))
+
+    pub length-small : count ≤ 262144
+    length-small =
+        let v = lent .facts in
+        omega (arith, s .counted, pow-small k l (v .controllables-high) (omega (arith, lent .capacity, v .capacity-high)))
+
+    pub length-place : from + 2 * count ≤ 3670016
+    unfolding shorter
+    length-place =
+        let v = lent .facts in
+        omega (arith, s .place, s .counted, lent .capacity, v .capacity-high, shorter-small k (suc l) (v .controllables-high) (omega (arith, lent .capacity, v .capacity-high)))
+
+    counted-next : count * (m - free .count) ≡ k ^ suc l
+    counted-next = rw (s .counted, lent-rest a n m b accepting free lent) (sym (pow-suc k l))
+
+    pub length-next : count * (m - free .count) ≤ 262144
+    length-next =
+        let v = lent .facts in
+        omega (arith, counted-next, pow-small k (suc l) (v .controllables-high) (omega (arith, lent .capacity, v .capacity-high)))
+
+    abbrev behind : List Sets
+    behind = levelOf (setsFrom (a .next) (free .list) n (free .count) accepting) (a .classes) m t from count
+
+    abbrev level : List Sets
+    level = map (sets a) (buffersAt a (suc l))
+
+    level-is : behind ≡ level
+    unfolding shorter
+    level-is =
+        lent-level a n m b accepting free lent t from count ∙
+        rw (s .written, s .place, s .counted) (next-level a t₀ l (omega (arith, longer-room)))
+
+    level-length : length level ≡ k ^ suc l
+    level-length = rw (length-map (buffersAt a (suc l)) (sets a)) (buffersAt-length a (suc l))
+
+    pub length-room : from + 2 * count + 2 * length behind ≤ length t
+    unfolding shorter
+    length-room = rw level-is (omega (arith, level-length, s .place, s .counted, s .same, longer-room))
+
+    pub length-more : (t′ : List ℕ) (more : ℕ) → length t′ ≡ length t → t′ ≡ stored t (from + 2 * count) behind → more ≡ roundsSum behind
+        → Lengthening a t₀ (l + 1) t′ (from + 2 * count) (count * (m - free .count)) (sum + more)
+    unfolding buffersTo shorter
+    length-more t′ more long put add =
+        let so-far = map (sets a) (buffersTo a l) in
+        let both = map-append (sets a) (buffersTo a l) (buffersAt a (suc l)) in
+        let at : from + 2 * count ≡ 0 + 2 * length so-far = rw (length-map (buffersTo a l) (sets a)) (omega (arith, s .place, s .counted, buffersTo-length a l)) in
+        rw (add-one l) (record {
+          same = long ∙ s .same;
+          written = rw (both, put, level-is, at, s .written) (stored-append t₀ 0 so-far level);
+          place = omega (arith, s .place, s .counted);
+          counted = counted-next;
+          summed = rw (both, sum-append so-far level) (omega (arith, s .summed, add, ap roundsSum level-is));
+        })
