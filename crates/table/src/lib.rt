@@ -1,16 +1,10 @@
 // The sets of every buffer, written into the table length by length: the buffers of one length stand side by side, and a symbol put
 // in front of each of them gives a row of the next length.
-use automaton::Automaton;
-use base::size;
-use refinement::{accepting_states, predecessors, settle, uncontrollable};
+use refinement::{predecessors, settle};
 use sets::Sets;
 ghost use mathlib.Core.Path.{_≡_};
-ghost use mathlib.Core.Bool.{true};
-ghost use mathlib.Core.List.{_++_};
 ghost use Prim.Native.Nat.{ℕ, _+_, _*_, _^_, _<_, _≤_};
-ghost use lib.ListN.{length, drop};
-ghost use Rattle.automaton.specs.Automaton.{valid};
-ghost use Rattle.sets.specs.Table.{buffersCount, table as tableOf, rounds as roundsOf};
+ghost use lib.ListN.{length};
 ghost use Rattle.refinement.specs.Parts.{Fits};
 ghost use Rattle.table.specs.Parts.{setsFrom, rowOf, levelOf, Filled};
 
@@ -68,7 +62,7 @@ fn fill_row<'a>(
 
 // Writes the sets of the buffers one longer than the `count` ones that stand from a place on, behind these: a row for each
 // controllable symbol.
-fn fill_level<'a>(
+pub fn fill_level<'a>(
     next: &'a [u8; 512],
     free: &'a [u8; 16],
     classes: &'a [u8; 16],
@@ -93,34 +87,6 @@ fn fill_level<'a>(
             at = at + 2 * count;
         }
         e = e + 1;
-    }
-    rounds
-}
-
-// Writes the sets of every buffer, from the empty one on.
-pub fn fill(a: Automaton, table: &mut [u32]) -> u32
-    requires { ⌜ (valid a ≡ true) × (2 * buffersCount a ≤ length (now table)) ⌝ }
-    ensures { λ r. ⌜ (now (table .exit) ≡ tableOf a ++ drop (2 * buffersCount a) (now (table .entry))) × (r ≡ roundsOf a) ⌝ }
-{
-    let n = size(a.states);
-    let m = size(a.symbols);
-    let capacity = size(a.capacity);
-    let accepting = accepting_states(&a.accepting, n);
-    let free = uncontrollable(&a.classes, m);
-    let u = free.count;
-    let empty = settle(&a.next, &free.list, n, u, 0, accepting);
-    table[0] = empty.set;
-    table[1] = 0;
-    let mut rounds = empty.rounds;
-    let mut from: usize = 0;
-    let mut count: usize = 1;
-    let mut length: usize = 0;
-    while length < capacity {
-        let more = fill_level(&a.next, &free.list, &a.classes, n, m, u, accepting, table, from, count);
-        rounds = rounds + more;
-        from = from + 2 * count;
-        count = count * (m - u);
-        length = length + 1;
     }
     rounds
 }

@@ -23,7 +23,7 @@ use Rattle.refinement.specs.declared.Symbols.{Symbols}
 use Rattle.refinement.specs.Parts.{freeOf}
 use Rattle.winning.specs.Solving.{short, solveRefusal, solution, solvedTable, countAnswer}
 use Rattle.winning.specs.Claims.{LeavesSolved}
-use Rattle.table.proofs.Bounds.{pow-small, shorter-small, shorter-one, controllables-count}
+use Rattle.winning.proofs.Bounds.{pow-small, shorter-small, shorter-one, controllables-count}
 
 -- a loop that counts the buffers length by length
 pub record Counting (k l count sum : ℕ) : Type 0 where

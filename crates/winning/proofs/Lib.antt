@@ -1,1 +1,4 @@
+pub mod Bounds
+pub mod Buffers
+pub mod Lengths
 pub mod Answers

@@ -10,7 +10,7 @@ use Rattle.winning.proofs.solve.Tie as tie
 use Rattle.winning.proofs.solve.Reads as reads
 use Rattle.winning.proofs.solve.Lts as lts
 use Rattle.winning.proofs.buffers_count.Reads as buffers-count-reads
-use Rattle.table.proofs.fill.Reads as fill-reads
+use Rattle.winning.proofs.fill.Reads as fill-reads
 
 -- src/lib.rt:62:9
 buffers-count-requires : tie.Need-buffers-count-requires

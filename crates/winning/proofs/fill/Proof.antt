@@ -1,5 +1,5 @@
 use Rattle.automaton.proofs.Facts.{valid-facts}
-use Rattle.table.proofs.Lengths.{Lent, lent-of, lent-small, lent-less, lent-settled, Lengthening, some-buffer, length-none, begun-length, begun-rest, length-small, length-place, length-next, length-room, length-more, length-fits, length-all}
+use Rattle.winning.proofs.Lengths.{Lent, lent-of, lent-small, lent-less, lent-settled, Lengthening, some-buffer, length-none, begun-length, begun-rest, length-small, length-place, length-next, length-room, length-more, length-fits, length-all}
 use Rattle.sets.specs.Table.{buffersCount, table as tableOf}
 use lib.ListN.{length as len, length-set, drop}
 use Prim.Native.Nat.{ℕ, _+_, _*_, _≤_, _-_}
@@ -7,15 +7,15 @@ use mathlib.Core.List.{_++_}
 use mathlib.Core.Path.{_≡_, refl, sym, _∙_, ap}
 use native.Mathlib.Omega.{arith}
 use borrow.Author.Needs.{needs}
-use Rattle.table.proofs.fill.Statement.{statement}
-use Rattle.table.proofs.fill.Tie as tie
-use Rattle.table.proofs.fill.Reads as reads
-use Rattle.table.proofs.fill.Lts as lts
+use Rattle.winning.proofs.fill.Statement.{statement}
+use Rattle.winning.proofs.fill.Tie as tie
+use Rattle.winning.proofs.fill.Reads as reads
+use Rattle.winning.proofs.fill.Lts as lts
 use Rattle.base.proofs.size.Reads as size-reads
 use Rattle.refinement.proofs.accepting_states.Reads as accepting-states-reads
 use Rattle.refinement.proofs.settle.Reads as settle-reads
 use Rattle.refinement.proofs.uncontrollable.Reads as uncontrollable-reads
 use Rattle.table.proofs.fill_level.Reads as fill-level-reads
 
 abbrev Inv-loop : tie.InvT-loop
 Inv-loop table₀ a n m capacity accepting free u rounds₀ from₀ count₀ length₀ table rounds from count length =

@@ -19,11 +19,11 @@ use Rattle.sets.proofs.Numbering.{buffersAt-length, buffersTo-length}
 use Rattle.sets.proofs.Tables.{pairs-length, table-length}
 use Rattle.refinement.specs.declared.Symbols.{Symbols}
 use Rattle.refinement.specs.Parts.{Fits, flagged, freeOf, settledOn}
 use Rattle.table.specs.Parts.{setsFrom, levelOf, stored}
 use Rattle.table.proofs.Filling.{sum-append, stored-append}
 use Rattle.refinement.proofs.Agreeing.{flagged-is, lent-fits, accepting-below, settled-is}
-use Rattle.table.proofs.Buffers.{front, next-level}
-use Rattle.table.proofs.Bounds.{pow-small, shorter-small, shorter-mono, shorter-one, controllables-count, rounds-few}
+use Rattle.winning.proofs.Buffers.{front, next-level}
+use Rattle.winning.proofs.Bounds.{pow-small, shorter-small, shorter-mono, shorter-one, controllables-count, rounds-few}
 
 -- what the loop has of an automaton
 pub record Lent (a : Automaton) (n m b accepting : ℕ) (free : Symbols) : Type 0 where
