@@ -8,7 +8,6 @@ use lib.Bits.{bitOr}
 use lib.Dec.{eqb}
 use lib.ListN.{length, getD, length-append, List·getD-append}
 use lib.Seq.{getD-append-seam}
-use borrow.Author.Tests.{eqb-true, eqb-false}
 use Rattle.base.specs.Each.{each}
 use Rattle.base.specs.Masks.{has}
 use Rattle.base.specs.Pad.{pad}

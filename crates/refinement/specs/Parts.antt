@@ -6,14 +6,11 @@ use mathlib.Core.List.{List, [], _∷_, _++_}
 use lib.Bits.{bitOr}
 use lib.Dec.{eqb}
 use lib.ListN.{length, getD}
-use lib.Seq.{sets as stores}
 use Rattle.base.specs.Each.{each}
 use Rattle.base.specs.Masks.{has, mask}
 use Rattle.base.specs.Pad.{pad}
 use Rattle.sets.specs.declared.Settled.{Settled}
-use Rattle.sets.specs.declared.Sets.{Sets}
 use Rattle.sets.specs.Sets.{settle}
-use Rattle.sets.specs.Table.{pairs}
 pub use Rattle.refinement.specs.declared.Symbols.{Symbols}
 
 -- every number of a list is below a limit

@@ -3,7 +3,7 @@
 use base::{bit, has, size};
 use sets::Settled;
 ghost use mathlib.Core.Path.{_≡_};
-ghost use Prim.Native.Nat.{ℕ, _<_, _≤_};
+ghost use Prim.Native.Nat.{_<_, _≤_};
 ghost use Rattle.refinement.specs.Parts.{Below, Fits, flagged, freeOf, leftOf, settledOn, predecessors};
 
 // Some of the symbols, rising.

@@ -5,7 +5,7 @@ use mathlib.Core.Bool.{cond}
 use mathlib.Core.List.{List, [], _∷_, _++_}
 use lib.Bits.{bitOr}
 use lib.Dec.{eqb}
-use lib.ListN.{length, getD}
+use lib.ListN.{getD}
 use lib.Seq.{sets as stores}
 use Rattle.sets.specs.declared.Sets.{Sets}
 use Rattle.sets.specs.Table.{pairs, roundsSum}

@@ -3,7 +3,7 @@
 use refinement::{predecessors, settle};
 use sets::Sets;
 ghost use mathlib.Core.Path.{_≡_};
-ghost use Prim.Native.Nat.{ℕ, _+_, _*_, _^_, _<_, _≤_};
+ghost use Prim.Native.Nat.{_+_, _*_, _^_, _<_, _≤_};
 ghost use lib.ListN.{length};
 ghost use Rattle.refinement.specs.Parts.{Fits};
 ghost use Rattle.table.specs.Parts.{setsFrom, rowOf, levelOf, Filled};

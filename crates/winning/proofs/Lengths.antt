@@ -1,12 +1,12 @@
 -- A loop that writes the sets of the buffers length by length.
-use Prim.Native.Nat.{ℕ, zero, suc, _+_, _*_, _^_, _-_, _<_, _≤_}
-use mathlib.Core.Path.{_≡_, refl, sym, _∙_, ap, ap₂}
-use mathlib.Core.List.{List, [], _∷_, _++_, map, map-append}
+use Prim.Native.Nat.{ℕ, suc, _+_, _*_, _^_, _-_, _<_, _≤_}
+use mathlib.Core.Path.{_≡_, refl, sym, _∙_, ap}
+use mathlib.Core.List.{List, _++_, map, map-append}
 use mathlib.Core.Bool.{true}
 use native.Mathlib.Numerals.{add-one}
 use native.Mathlib.Nat.{zero-add, pow-zero, pow-suc}
 use native.Mathlib.Omega.{arith}
-use lib.ListN.{length, set, drop, length-append, length-map, length-set}
+use lib.ListN.{length, set, drop, length-map, length-set}
 use lib.Seq.{sets-eq, set-set, set-comm, drop-set-lt}
 use Rattle.automaton.specs.declared.Automaton.{Automaton}
 use Rattle.automaton.specs.Automaton.{controllables, valid}
@@ -16,7 +16,7 @@ use Rattle.sets.specs.declared.Settled.{Settled}
 use Rattle.sets.specs.Sets.{acceptingSet, settled, setsOf, emptySets, sets}
 use Rattle.sets.specs.Table.{shorter, buffersCount, buffersAt, buffersTo, pairs, roundsSum, table, rounds}
 use Rattle.sets.proofs.Numbering.{buffersAt-length, buffersTo-length}
-use Rattle.sets.proofs.Tables.{pairs-length, table-length}
+use Rattle.sets.proofs.Tables.{table-length}
 use Rattle.refinement.specs.declared.Symbols.{Symbols}
 use Rattle.refinement.specs.Parts.{Fits, flagged, freeOf, settledOn}
 use Rattle.table.specs.Parts.{setsFrom, levelOf, stored}

@@ -3,7 +3,6 @@ use Rattle.refinement.specs.Parts.{goes, leads, leftOf}
 use Rattle.base.proofs.Masks.{mask-adds, mask-passes, mask-room}
 use Rattle.base.proofs.Bools.{and-both, and-left-false, and-right-false}
 use Rattle.base.specs.Masks.{has, mask}
-use lib.ListN.{getD}
 use lib.Bits.{bitOr}
 use borrow.Author.Tests.{not-true, not-false}
 use Prim.Native.Nat.{_≤_, _-_, _+_, _*_}

@@ -1,7 +1,6 @@
 use Rattle.refinement.proofs.Scanning.{left-le}
 use Rattle.refinement.specs.Parts.{leftOf, settledOn}
 use Rattle.sets.proofs.Rounds.{Striking, strike-none, strike-smaller, strike-more, strike-done}
-use Prim.Native.Nat.{ℕ, _≤_}
 use native.Mathlib.Omega.{arith}
 use borrow.Author.Needs.{needs}
 use Rattle.refinement.proofs.settle.Statement.{statement}

@@ -4,7 +4,7 @@ use Rattle.refinement.proofs.Free.{Listed, listed-room, listed-more, li
 use Rattle.base.specs.Pad.{pad}
 use Rattle.refinement.specs.Parts.{freeTo}
 use Prim.Native.Nat.{_≤_, _-_}
-use mathlib.Core.Path.{_≡_, refl, sym, _∙_, ap}
+use mathlib.Core.Path.{refl, sym, _∙_, ap}
 use mathlib.Core.Logic.{⊎-elim}
 use native.Mathlib.Omega.{arith}
 use borrow.Author.Needs.{needs}

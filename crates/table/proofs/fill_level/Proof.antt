@@ -1,8 +1,8 @@
 use Rattle.table.proofs.Levels.{Levelling, level-none, level-room, level-same, level-more, level-fits}
 use Rattle.table.proofs.Filling.{sets-few, row-few}
 use Rattle.table.specs.Parts.{setsFrom}
-use Prim.Native.Nat.{ℕ, _+_, _*_, _≤_, _-_}
-use mathlib.Core.Path.{_≡_, refl, sym, _∙_, ap}
+use Prim.Native.Nat.{_≤_, _-_}
+use mathlib.Core.Path.{_≡_}
 use mathlib.Core.Logic.{⊎-elim}
 use native.Mathlib.Omega.{arith}
 use borrow.Author.Needs.{needs}

@@ -1,8 +1,8 @@
 use Rattle.table.proofs.Filling.{Filling, fill-none, fill-more, fill-fits, sets-few}
 use Rattle.table.specs.Parts.{setsFrom}
-use lib.ListN.{length, length-set}
-use Prim.Native.Nat.{ℕ, _+_, _*_, _≤_, _-_}
-use mathlib.Core.Path.{_≡_, refl, sym, _∙_, ap}
+use lib.ListN.{length-set}
+use Prim.Native.Nat.{_≤_, _-_}
+use mathlib.Core.Path.{_≡_, sym, _∙_, ap}
 use mathlib.Core.Logic.{⊎-elim}
 use native.Mathlib.Omega.{arith}
 use borrow.Author.Needs.{needs}

@@ -1,7 +1,6 @@
 use Rattle.refinement.specs.Parts.{settledOn}
 use Rattle.table.specs.Parts.{setsFrom}
-use mathlib.Core.Path.{_≡_, _∙_, ap}
-use native.Mathlib.Omega.{arith}
+use mathlib.Core.Path.{_∙_, ap}
 use borrow.Author.Needs.{needs}
 use Rattle.table.proofs.sets_from.Statement.{statement}
 use Rattle.table.proofs.sets_from.Tie as tie

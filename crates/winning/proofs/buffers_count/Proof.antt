@@ -1,7 +1,7 @@
 use Rattle.winning.proofs.Answers.{count-refused, count-given, rest-within, rest-small, rest-fits, rest-count}
 use Rattle.automaton.proofs.Facts.{valid-facts}
 use borrow.Author.Tests.{not-true, not-false}
-use mathlib.Core.Path.{_≡_, sym, _∙_, ap}
+use mathlib.Core.Path.{sym, _∙_}
 use native.Mathlib.Omega.{arith}
 use borrow.Author.Needs.{needs}
 use Rattle.winning.proofs.buffers_count.Statement.{statement}

@@ -1,10 +1,10 @@
 use Rattle.automaton.proofs.Facts.{valid-facts}
 use Rattle.winning.proofs.Lengths.{Lent, lent-of, lent-small, lent-less, lent-settled, Lengthening, some-buffer, length-none, begun-length, begun-rest, length-small, length-place, length-next, length-room, length-more, length-fits, length-all}
 use Rattle.sets.specs.Table.{buffersCount, table as tableOf}
-use lib.ListN.{length as len, length-set, drop}
-use Prim.Native.Nat.{ℕ, _+_, _*_, _≤_, _-_}
+use lib.ListN.{length as len, length-set}
+use Prim.Native.Nat.{_+_, _*_, _≤_, _-_}
 use mathlib.Core.List.{_++_}
-use mathlib.Core.Path.{_≡_, refl, sym, _∙_, ap}
+use mathlib.Core.Path.{_∙_, ap}
 use native.Mathlib.Omega.{arith}
 use borrow.Author.Needs.{needs}
 use Rattle.winning.proofs.fill.Statement.{statement}

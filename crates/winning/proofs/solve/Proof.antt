@@ -1,8 +1,4 @@
 use Rattle.winning.proofs.Answers.{refused-count, given-count, solve-invalid, solve-short, solve-done}
-use Rattle.sets.specs.Table.{buffersCount}
-use lib.ListN.{length}
-use mathlib.Core.Path.{_≡_, refl, sym, _∙_, ap}
-use Prim.Native.Nat.{_≤_, _*_}
 use native.Mathlib.Omega.{arith}
 use borrow.Author.Needs.{needs}
 use Rattle.winning.proofs.solve.Statement.{statement}
