@@ -53,11 +53,11 @@ fn refine<'a>(next: &'a [u8; 512], free: &'a [u8; 16], n: usize, u: usize, must:
     requires { ⌜ Fits (now next) (now free) n u ⌝ }
     ensures { λ r. ⌜ r ≡ leftOf (now (next .entry)) (now (free .entry)) n u must set ⌝ }
 {
-    let safe = set | must;
     let mut kept: u32 = 0;
     let mut q: usize = 0;
     while q < n {
         if has(set, q) {
+            let safe = set | must;
             let mut k: usize = 0;
             'scan: while k < u {
                 if !has(safe, size(next[q * 16 + size(free[k])])) {

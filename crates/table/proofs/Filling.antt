@@ -63,6 +63,17 @@ row-few f few t from zero = omega arith
 row-few f few t from (suc j) =
     rw (sum-append (rowOf f t from j) (f (goalAt t from j) ∷ [])) (omega (arith, row-few f few t from j, few (goalAt t from j)))
 
+-- the sets that a loop goes on with: new ones, or those that it remembered
+pub record Known (f : ℕ → Sets) (goal known : ℕ) (sets : Sets) : Type 0 where
+  pub is : known ≡ goal
+  pub made : sets ≡ f known
+
+pub known-new : (f : ℕ → Sets) (goal known : ℕ) (sets r : Sets) → known ≡ goal → sets ≡ r → r ≡ f goal → Known f goal known sets
+known-new f goal known sets r h e g = record { is = h; made = e ∙ g ∙ ap f (sym h) }
+
+pub known-old : (f : ℕ → Sets) (goal known k : ℕ) (sets s : Sets) → goal ≡ k → s ≡ f k → known ≡ k → sets ≡ s → Known f goal known sets
+known-old f goal known k sets s g r h e = record { is = h ∙ sym g; made = e ∙ r ∙ ap f (sym h) }
+
 -- a loop that writes a row
 pub record Filling (f : ℕ → Sets) (t₀ : List ℕ) (from to j : ℕ) (t : List ℕ) (known : ℕ) (last : Sets) (rounds : ℕ) : Type 0 where
   pub same : length t ≡ length t₀
@@ -83,11 +94,11 @@ module _ (f : ℕ → Sets) (t₀ : List ℕ) (from to j : ℕ) (t : List ℕ) (
       (before-stores (pairs (rowOf f t₀ from j)) t₀ to (from + 2 * j) (omega arith))
       (before-stores (pairs (rowOf f t₀ from j)) t₀ to (from + 2 * j + 1) (omega arith)))
 
-  -- a buffer more, whose sets the loop now remembers
-  module _ (h : from + 2 * j + 1 < to) (goal : ℕ) (sets : Sets) (g : goal ≡ bitOr (getD t (from + 2 * j) 0) (getD t (from + 2 * j + 1) 0)) (e : sets ≡ f goal) where
+  -- a buffer more
+  module _ (h : from + 2 * j + 1 < to) (goal : ℕ) (sets : Sets) (k : Known f (bitOr (getD t (from + 2 * j) 0) (getD t (from + 2 * j + 1) 0)) goal sets) where
     row-more : rowOf f t₀ from (j + 1) ≡ rowOf f t₀ from j ++ sets ∷ []
     unfolding rowOf
-    row-more = rw (add-one j) (ap (λ x. rowOf f t₀ from j ++ x ∷ []) (sym (e ∙ ap f (g ∙ fill-goal h))))
+    row-more = rw (add-one j) (ap (λ x. rowOf f t₀ from j ++ x ∷ []) (sym (k .made ∙ ap f (k .is ∙ fill-goal h))))
 
     pub fill-more : Filling f t₀ from to (j + 1) (set (set t (to + 2 * j) (sets .winning)) (to + 2 * j + 1) (sets .intermediate)) goal sets (rounds + sets .rounds)
     unfolding pairs roundsSum
@@ -96,9 +107,9 @@ module _ (f : ℕ → Sets) (t₀ : List ℕ) (from to j : ℕ) (t : List ℕ) (
       written =
           rw (row-more, s .written, add-one (to + 2 * j))
           (rw (row-length f t₀ from j) at (stored-append t₀ to (rowOf f t₀ from j) (sets ∷ [])));
-      remembered = e;
+      remembered = k .made;
       summed = rw (row-more, sum-append (rowOf f t₀ from j) (sets ∷ [])) (omega (arith, s .summed));
     }
 
     pub fill-fits : ((goal : ℕ) → f goal .rounds ≤ 32) → rounds + sets .rounds ≤ 32 * (j + 1)
-    fill-fits few = omega (arith, s .summed, row-few f few t₀ from j, few goal, ap (λ x. x .rounds) e)
+    fill-fits few = omega (arith, s .summed, row-few f few t₀ from j, few goal, ap (λ x. x .rounds) (k .made))

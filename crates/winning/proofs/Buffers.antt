@@ -43,12 +43,12 @@ module _ (a : Automaton) where
       λ j. record { winning = r j .set; intermediate = i j; rounds = r j .rounds }
 
   -- the sets of the buffers ws stand from a place on
-  abbrev Holds : List ℕ → ℕ → List (List ℕ) → Type 0
-  Holds t from ws =
+  abbrev Stands : List ℕ → ℕ → List (List ℕ) → Type 0
+  Stands t from ws =
       (j : ℕ) → j < length ws
       → (getD t (from + 2 * j) 0 ≡ sets a (getD ws j []) .winning) × (getD t (from + 2 * j + 1) 0 ≡ sets a (getD ws j []) .intermediate)
 
-  module _ (t : List ℕ) (from : ℕ) (ws : List (List ℕ)) (h : Holds t from ws) where
+  module _ (t : List ℕ) (from : ℕ) (ws : List (List ℕ)) (h : Stands t from ws) where
     front-is : (e j : ℕ) → j < length ws → front e (goalAt t from j) ≡ sets a (e ∷ getD ws j [])
     unfolding goalAt
     front-is e j l =
@@ -93,9 +93,9 @@ module _ (a : Automaton) where
     set-at i h =
         List·getD-map (sets a) (buffersTo a l) (shorter (controllables a) l + i) [] ∙ ap (sets a) (level-at a l l i (omega arith) h)
 
-    pub holds-level : Holds (stored t₀ 0 ss) (2 * shorter (controllables a) l) (buffersAt a l)
+    level-stands : Stands (stored t₀ 0 ss) (2 * shorter (controllables a) l) (buffersAt a l)
     unfolding shorter
-    holds-level j h =
+    level-stands j h =
         let b : j < controllables a ^ l = omega (arith, buffersAt-length a l) in
         let i = shorter (controllables a) l + j in
         let e : 2 * shorter (controllables a) l + 2 * j ≡ 2 * i = omega arith in
@@ -109,4 +109,4 @@ module _ (a : Automaton) where
 
     pub next-level : levelOf front (a .classes) (a .symbols) (stored t₀ 0 ss) (2 * shorter (controllables a) l) (controllables a ^ l) ≡ map (sets a) (buffersAt a (suc l))
     unfolding buffersAt
-    next-level = rw (← buffersAt-length a l) (level-to (stored t₀ 0 ss) (2 * shorter (controllables a) l) (buffersAt a l) holds-level (a .symbols))
+    next-level = rw (← buffersAt-length a l) (level-to (stored t₀ 0 ss) (2 * shorter (controllables a) l) (buffersAt a l) level-stands (a .symbols))

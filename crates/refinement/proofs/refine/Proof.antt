@@ -20,16 +20,16 @@ use Rattle.base.proofs.has.Reads as has-reads
 use Rattle.base.proofs.size.Reads as size-reads
 
 abbrev Inv-scan : tie.InvT-scan
-Inv-scan next free n u must set safe kept q k₀ k = (k ≤ u) × (leads next free k (bitOr set must) q ≡ true)
+Inv-scan next free n u must set kept q safe k₀ k = (k ≤ u) × (leads next free k (bitOr set must) q ≡ true)
 
 abbrev μ-scan : tie.MeasureT-scan
-μ-scan next free n u must set safe kept q k₀ k = u - k
+μ-scan next free n u must set kept q safe k₀ k = u - k
 
 abbrev Inv-loop : tie.InvT-loop
-Inv-loop next free n u must set safe kept₀ q₀ kept q = (q ≤ n) × (kept ≡ mask q (λ q. has set q && leads next free u (bitOr set must) q))
+Inv-loop next free n u must set kept₀ q₀ kept q = (q ≤ n) × (kept ≡ mask q (λ q. has set q && leads next free u (bitOr set must) q))
 
 abbrev μ-loop : tie.MeasureT-loop
-μ-loop next free n u must set safe kept₀ q₀ kept q = n - q
+μ-loop next free n u must set kept₀ q₀ kept q = n - q
 
 -- src/lib.rt:59:5
 loop-holds : tie.Need-loop-holds Inv-scan μ-scan Inv-loop μ-loop

@@ -1,8 +1,8 @@
-use Rattle.table.proofs.Filling.{Filling, fill-none, fill-more, fill-fits, sets-few}
+use Rattle.table.proofs.Filling.{known-new, known-old, Filling, fill-none, fill-more, fill-fits, sets-few}
 use Rattle.table.specs.Parts.{setsFrom}
 use lib.ListN.{length-set}
 use Prim.Native.Nat.{_≤_, _-_}
-use mathlib.Core.Path.{_≡_, sym, _∙_, ap}
+use mathlib.Core.Path.{_≡_}
 use mathlib.Core.Logic.{⊎-elim}
 use native.Mathlib.Omega.{arith}
 use borrow.Author.Needs.{needs}
@@ -89,7 +89,7 @@ slice-write-table-2 c = simp length-set (omega arith)
 
 -- src/lib.rt:62:18
 add-rounds : tie.Need-add-rounds Inv-loop μ-loop
-add-rounds c = let a = c .before .before .before .before .before .before .before .before .args in let v = c .before .before .before .before .before .loop .inv .1 in let j = c .before .if1 in let p = c .before .before .before .before .before .before .before .before .pre in omega (arith, fill-fits _ _ _ _ _ _ _ _ _ v (omega arith) _ _ (⊎-elim (λ w. w .2) (λ w. w .1 ∙ sym (w .0 .left)) (j .came)) (⊎-elim (λ w. w .3 ∙ w .1 .ensures ∙ ap (setsFrom (a .next .now) (a .free .now) (a .n) (a .u) (a .accepting) (a .symbol)) (sym (w .2))) (λ w. w .2 ∙ v .remembered ∙ ap (setsFrom (a .next .now) (a .free .now) (a .n) (a .u) (a .accepting) (a .symbol)) (sym (w .1))) (j .came)) (sets-few _ _ _ _ _ (p .0 .states) (p .1) (a .symbol)))
+add-rounds c = let a = c .before .before .before .before .before .before .before .before .args in let v = c .before .before .before .before .before .loop .inv .1 in let p = c .before .before .before .before .before .before .before .before .pre in omega (arith, fill-fits _ _ _ _ _ _ _ _ _ v (omega arith) _ _ (⊎-elim (λ w. known-new _ _ _ _ _ (w .2) (w .3) (w .1 .ensures)) (λ w. known-old _ _ _ _ _ _ (w .0 .left) (v .remembered) (w .1) (w .2)) (c .before .if1 .came)) (sets-few _ _ _ _ _ (p .0 .states) (p .1) (a .symbol)))
 
 -- src/lib.rt:63:13
 add-j : tie.Need-add-j Inv-loop μ-loop
@@ -101,7 +101,7 @@ loop-less c = search needs
 
 -- src/lib.rt:51:5
 loop-again : tie.Need-loop-again Inv-loop μ-loop
-loop-again c = let a = c .before .before .before .before .before .before .before .before .args in let v = c .before .before .before .before .before .loop .inv .1 in let j = c .before .if1 in (omega arith, fill-more _ _ _ _ _ _ _ _ _ v (omega arith) _ _ (⊎-elim (λ w. w .2) (λ w. w .1 ∙ sym (w .0 .left)) (j .came)) (⊎-elim (λ w. w .3 ∙ w .1 .ensures ∙ ap (setsFrom (a .next .now) (a .free .now) (a .n) (a .u) (a .accepting) (a .symbol)) (sym (w .2))) (λ w. w .2 ∙ v .remembered ∙ ap (setsFrom (a .next .now) (a .free .now) (a .n) (a .u) (a .accepting) (a .symbol)) (sym (w .1))) (j .came)))
+loop-again c = let v = c .before .before .before .before .before .loop .inv .1 in (omega arith, fill-more _ _ _ _ _ _ _ _ _ v (omega arith) _ _ (⊎-elim (λ w. known-new _ _ _ _ _ (w .2) (w .3) (w .1 .ensures)) (λ w. known-old _ _ _ _ _ _ (w .0 .left) (v .remembered) (w .1) (w .2)) (c .before .if1 .came)))
 
 -- src/lib.rt:32:1
 same-length : tie.Need-same-length Inv-loop μ-loop
