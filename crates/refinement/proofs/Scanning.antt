@@ -56,6 +56,9 @@ module _ (next free : List ℕ) (n u i : ℕ) where
   pub settled-few : (x : ℕ) → x < 2 ^ n → settledOn next free n u i x .rounds ≤ n
   unfolding settledOn
   settled-few x small =
-      omega (arith, settle-keeps round (λ r y. (y < 2 ^ n) × (r + count n (has y) ≤ n))
-      (λ r y ne h. (left-lt y, omega (arith, h .1, fewer-states n y (round y) (h .0) (left-lt y) (left-in y) ne)))
-      x 0 x (small, omega (arith, count-max n (has x))) .1)
+      omega (
+        arith,
+        settle-keeps round (λ r y. (y < 2 ^ n) × (r + count n (has y) ≤ n))
+            (λ r y ne h. (left-lt y, omega (arith, h .1, fewer-states n y (round y) (h .0) (left-lt y) (left-in y) ne)))
+            x 0 x (small, omega (arith, count-max n (has x))) .1,
+      )

@@ -1,6 +1,8 @@
-// The sets of every buffer, written into the table length by length: the buffers of one length stand side by side, and a symbol put
-// in front of each of them gives a row of the next length.
-use refinement::{predecessors, settle};
+// The table from one length of buffers to the next. The buffers of one length stand side by side, two places each, and a symbol put in
+// front of each of them gives a row of the next length. `next`, `free`, n and u are as in crate refinement; 262,144 is 8 to the power
+// of 6, the most buffers of one length.
+use refinement::predecessors;
+use refinement::settle;
 use sets::Sets;
 ghost use mathlib.Core.Path.{_≡_};
 ghost use Prim.Native.Nat.{_+_, _*_, _^_, _<_, _≤_};
@@ -9,7 +11,15 @@ ghost use Rattle.refinement.specs.Parts.{Fits};
 ghost use Rattle.table.specs.Parts.{setsFrom, rowOf, levelOf, Filled};
 
 // The sets of a buffer that begins with a symbol, where `goal` has the states of either set of the rest.
-fn sets_from<'a>(next: &'a [u8; 512], free: &'a [u8; 16], n: usize, u: usize, accepting: u32, symbol: usize, goal: u32) -> Sets
+fn sets_from<'a>(
+    next: &'a [u8; 512],
+    free: &'a [u8; 16],
+    n: usize,
+    u: usize,
+    accepting: u32,
+    symbol: usize,
+    goal: u32,
+) -> Sets
     requires { ⌜ Fits (now next) (now free) n u × (symbol < 16) ⌝ }
     ensures { λ r. ⌜ r ≡ setsFrom (now (next .entry)) (now (free .entry)) n u accepting symbol goal ⌝ }
 {

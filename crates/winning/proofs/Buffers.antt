@@ -20,7 +20,6 @@ use Rattle.refinement.specs.Parts.{freeTo, settledOn}
 use Rattle.refinement.proofs.Agreeing.{settled-is, predecessors-is}
 use Rattle.table.specs.Parts.{setsFrom, goalAt, rowOf, levelOf, stored}
 
-
 extended-append : (xs ys : List ℕ) (ws : List (List ℕ)) → extended (xs ++ ys) ws ≡ extended xs ws ++ extended ys ws
 unfolding extended
 extended-append [] ys ws = refl

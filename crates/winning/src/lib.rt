@@ -1,7 +1,10 @@
 // The solver: the sets S and I of every buffer, written into a lent table.
-use automaton::{valid, Automaton};
+use automaton::Automaton;
+use automaton::valid;
 use base::size;
-use refinement::{accepting_states, settle, uncontrollable};
+use refinement::accepting_states;
+use refinement::settle;
+use refinement::uncontrollable;
 use table::fill_level;
 ghost use mathlib.Core.Path.{_≡_};
 ghost use mathlib.Core.Bool.{true};
@@ -77,7 +80,18 @@ fn fill(a: Automaton, table: &mut [u32]) -> u32
     let mut count: usize = 1;
     let mut length: usize = 0;
     while length < capacity {
-        let more = fill_level(&a.next, &free.list, &a.classes, n, m, u, accepting, table, from, count);
+        let more = fill_level(
+            &a.next,
+            &free.list,
+            &a.classes,
+            n,
+            m,
+            u,
+            accepting,
+            table,
+            from,
+            count,
+        );
         rounds = rounds + more;
         from = from + 2 * count;
         count = count * (m - u);
@@ -104,8 +118,5 @@ pub fn solve(a: Automaton, table: &mut [u32]) -> Solution
         };
     }
     let rounds = fill(a, table);
-    Solution {
-        refusal: 0,
-        rounds,
-    }
+    Solution { refusal: 0, rounds }
 }

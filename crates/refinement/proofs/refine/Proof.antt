@@ -20,16 +20,16 @@ use Rattle.base.proofs.has.Reads as has-reads
 use Rattle.base.proofs.size.Reads as size-reads
 
 abbrev Inv-scan : tie.InvT-scan
-Inv-scan next free n u must set kept q safe k₀ k = (k ≤ u) × (leads next free k (bitOr set must) q ≡ true)
+Inv-scan next free n u intermediate set kept q safe k₀ k = (k ≤ u) × (leads next free k (bitOr set intermediate) q ≡ true)
 
 abbrev μ-scan : tie.MeasureT-scan
-μ-scan next free n u must set kept q safe k₀ k = u - k
+μ-scan next free n u intermediate set kept q safe k₀ k = u - k
 
 abbrev Inv-loop : tie.InvT-loop
-Inv-loop next free n u must set kept₀ q₀ kept q = (q ≤ n) × (kept ≡ mask q (λ q. has set q && leads next free u (bitOr set must) q))
+Inv-loop next free n u intermediate set kept₀ q₀ kept q = (q ≤ n) × (kept ≡ mask q (λ q. has set q && leads next free u (bitOr set intermediate) q))
 
 abbrev μ-loop : tie.MeasureT-loop
-μ-loop next free n u must set kept₀ q₀ kept q = n - q
+μ-loop next free n u intermediate set kept₀ q₀ kept q = n - q
 
 -- src/lib.rt:59:5
 loop-holds : tie.Need-loop-holds Inv-scan μ-scan Inv-loop μ-loop
@@ -102,7 +102,7 @@ loop-less c = search needs
 
 -- src/lib.rt:59:5
 loop-again : tie.Need-loop-again Inv-scan μ-scan Inv-loop μ-loop
-loop-again c = let a = c .before .before .before .before .args in let q = c .before .before .before .loop .q in let so-far = c .before .before .before .loop .inv .1 in (omega arith, ⊎-elim (λ w. w .5 ∙ mask-adds _ _ _ so-far (w .4 .ensures) (and-both (sym (c .before .has .ensures) ∙ w .0 .taken) (ap (λ k. leads _ _ k _ _) (sym (w .3 .taken)) ∙ w .1 .inv .1))) (⊎-elim (λ w. w .4 ∙ mask-passes _ _ _ so-far (and-right-false (has (a .set) q) (⊎-elim (λ x. absurd {A = leads (a .next .now) (a .free .now) (a .u) (bitOr (a .set) (a .must)) q ≡ false} (w .3 .left (omega arith))) (λ x. let state = x .4 .ensures .0 ∙ ap (λ e. goes (a .next .now) q e) (x .2 .ensures .0) in scan-fails _ _ _ _ (w .1 .k) _ (x .0 .taken) (sym (x .5 .ensures ∙ ap (has _) state) ∙ not-true _ (x .6 .taken))) (w .2 .came)))) (λ w. w .1 ∙ mask-passes _ _ _ so-far (and-left-false _ (sym (c .before .has .ensures) ∙ w .0 .left)))) (c .if1 .came))
+loop-again c = let a = c .before .before .before .before .args in let q = c .before .before .before .loop .q in let so-far = c .before .before .before .loop .inv .1 in (omega arith, ⊎-elim (λ w. w .5 ∙ mask-adds _ _ _ so-far (w .4 .ensures) (and-both (sym (c .before .has .ensures) ∙ w .0 .taken) (ap (λ k. leads _ _ k _ _) (sym (w .3 .taken)) ∙ w .1 .inv .1))) (⊎-elim (λ w. w .4 ∙ mask-passes _ _ _ so-far (and-right-false (has (a .set) q) (⊎-elim (λ x. absurd {A = leads (a .next .now) (a .free .now) (a .u) (bitOr (a .set) (a .intermediate)) q ≡ false} (w .3 .left (omega arith))) (λ x. let state = x .4 .ensures .0 ∙ ap (λ e. goes (a .next .now) q e) (x .2 .ensures .0) in scan-fails _ _ _ _ (w .1 .k) _ (x .0 .taken) (sym (x .5 .ensures ∙ ap (has _) state) ∙ not-true _ (x .6 .taken))) (w .2 .came)))) (λ w. w .1 ∙ mask-passes _ _ _ so-far (and-left-false _ (sym (c .before .has .ensures) ∙ w .0 .left)))) (c .if1 .came))
 
 -- src/lib.rt:52:1
 returns : tie.Need-returns Inv-scan μ-scan Inv-loop μ-loop

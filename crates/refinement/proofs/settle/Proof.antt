@@ -10,10 +10,10 @@ use Rattle.refinement.proofs.settle.Lts as lts
 use Rattle.refinement.proofs.refine.Reads as refine-reads
 
 abbrev Inv-loop : tie.InvT-loop
-Inv-loop next free n u must from set₀ rounds₀ set rounds = Striking (leftOf next free n u must) from set rounds
+Inv-loop next free n u intermediate from set₀ rounds₀ set rounds = Striking (leftOf next free n u intermediate) from set rounds
 
 abbrev μ-loop : tie.MeasureT-loop
-μ-loop next free n u must from set₀ rounds₀ set rounds = set
+μ-loop next free n u intermediate from set₀ rounds₀ set rounds = set
 
 -- src/lib.rt:84:5
 loop-holds : tie.Need-loop-holds Inv-loop μ-loop
