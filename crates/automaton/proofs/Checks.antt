@@ -1,7 +1,7 @@
 -- Laws of the record's check.
 use Prim.Native.Nat.{ℕ, zero, suc, _+_, _-_, _*_, _<_, _≤_}
 use mathlib.Core.Path.{_≡_, refl, sym, _∙_, ap, ap₂}
-use mathlib.Core.Bool.{Bool, true, false, cond, _&&_, not, and-true}
+use mathlib.Core.Bool.{Bool, true, false, cond, not}
 use mathlib.Core.List.{List, [], _∷_, _++_, append-assoc}
 use native.Mathlib.Numerals.{add-one}
 use native.Mathlib.Omega.{arith}
@@ -10,26 +10,17 @@ use lib.Seq.{set-at, getD-append-add}
 use lib.Dec.{eqb, leb, ltb}
 use borrow.Author.Tests.{lt-ltb, le-ltb, le-leb, lt-leb, eq-eqb, ne-eqb}
 use Rattle.base.specs.Each.{each, count}
-use Rattle.base.proofs.Bools.{by, and-both, and-right-false}
-use Rattle.base.proofs.Ranges.{each-more, count-more}
+use Rattle.base.proofs.Ranges.{each-falls, each-keeps, count-adds, count-skips}
 use Rattle.automaton.specs.Parts.{rangesHold, belowFrom, limitsOf, rowBelow, rowsBelow, controllableIn, tablesHold}
-
--- a flag that falls once a test fails
-module _ (p : ℕ → Bool) (i : ℕ) (fine : Bool) (so-far : fine ≡ each i p) where
-  falls : p i ≡ false → false ≡ each (i + 1) p
-  falls h = sym (each-more i p ∙ and-right-false (each i p) h)
-
-  keeps : p i ≡ true → fine ≡ each (i + 1) p
-  keeps h = so-far ∙ sym (each-more i p ∙ ap (λ b. each i p && b) h ∙ and-true (each i p))
 
 module _ (l : List ℕ) (from i limit : ℕ) (fine : Bool) (so-far : fine ≡ belowFrom l from i limit) where
   pub below-falls : limit ≤ getD l (from + i) 0 → false ≡ belowFrom l from (i + 1) limit
   unfolding belowFrom
-  below-falls h = falls (λ i. ltb (getD l (from + i) 0) limit) i fine so-far (le-ltb (getD l (from + i) 0) limit h)
+  below-falls h = each-falls (λ i. ltb (getD l (from + i) 0) limit) i fine so-far (le-ltb (getD l (from + i) 0) limit h)
 
   pub below-keeps : getD l (from + i) 0 < limit → fine ≡ belowFrom l from (i + 1) limit
   unfolding belowFrom
-  below-keeps h = keeps (λ i. ltb (getD l (from + i) 0) limit) i fine so-far (lt-ltb (getD l (from + i) 0) limit h)
+  below-keeps h = each-keeps (λ i. ltb (getD l (from + i) 0) limit) i fine so-far (lt-ltb (getD l (from + i) 0) limit h)
 
 module _ (next : List ℕ) (q e : ℕ) (limits : List ℕ) where
   -- the first e symbols of a row
@@ -40,33 +31,31 @@ module _ (next : List ℕ) (q e : ℕ) (limits : List ℕ) (fine : Bool) (so-far
   pub row-falls : getD limits e 0 ≤ getD next (q * 16 + e) 0 → false ≡ rowBelowTo next q (e + 1) limits
   unfolding rowBelowTo
   row-falls h =
-      falls (λ i. ltb (getD next (q * 16 + i) 0) (getD limits i 0)) e fine so-far (le-ltb (getD next (q * 16 + e) 0) (getD limits e 0) h)
+      each-falls (λ i. ltb (getD next (q * 16 + i) 0) (getD limits i 0)) e fine so-far (le-ltb (getD next (q * 16 + e) 0) (getD limits e 0) h)
 
   pub row-keeps : getD next (q * 16 + e) 0 < getD limits e 0 → fine ≡ rowBelowTo next q (e + 1) limits
   unfolding rowBelowTo
   row-keeps h =
-      keeps (λ i. ltb (getD next (q * 16 + i) 0) (getD limits i 0)) e fine so-far (lt-ltb (getD next (q * 16 + e) 0) (getD limits e 0) h)
+      each-keeps (λ i. ltb (getD next (q * 16 + i) 0) (getD limits i 0)) e fine so-far (lt-ltb (getD next (q * 16 + e) 0) (getD limits e 0) h)
 
 module _ (next : List ℕ) (from q : ℕ) (limits : List ℕ) (fine : Bool) (so-far : fine ≡ rowsBelow next from q limits) where
   pub rows-fall : rowBelow next (from + q) limits ≡ false → false ≡ rowsBelow next from (q + 1) limits
   unfolding rowsBelow
-  rows-fall h = falls (λ q. rowBelow next (from + q) limits) q fine so-far h
+  rows-fall h = each-falls (λ q. rowBelow next (from + q) limits) q fine so-far h
 
   pub rows-keep : rowBelow next (from + q) limits ≡ true → fine ≡ rowsBelow next from (q + 1) limits
   unfolding rowsBelow
-  rows-keep h = keeps (λ q. rowBelow next (from + q) limits) q fine so-far h
+  rows-keep h = each-keeps (λ q. rowBelow next (from + q) limits) q fine so-far h
 
 -- one more class
 module _ (classes : List ℕ) (e n : ℕ) (so-far : n ≡ controllableIn classes e) where
   pub counted : getD classes e 0 ≡ 1 → n + 1 ≡ controllableIn classes (e + 1)
   unfolding controllableIn
-  counted h = let t : eqb (getD classes e 0) 1 ≡ true = eq-eqb (getD classes e 0) 1 h in
-      sym (count-more e (λ e. eqb (getD classes e 0) 1) ∙ rw (t, ← so-far))
+  counted h = count-adds (λ e. eqb (getD classes e 0) 1) e n so-far (eq-eqb (getD classes e 0) 1 h)
 
   pub passed : (getD classes e 0 ≡ 1 → ⊥) → n ≡ controllableIn classes (e + 1)
   unfolding controllableIn
-  passed h = let t : eqb (getD classes e 0) 1 ≡ false = ne-eqb (getD classes e 0) 1 h in
-      sym (count-more e (λ e. eqb (getD classes e 0) 1) ∙ rw (t, ← so-far) (omega arith))
+  passed h = count-skips (λ e. eqb (getD classes e 0) 1) e n so-far (ne-eqb (getD classes e 0) 1 h)
 
 -- one more limit
 repeat-end : (k n : ℕ) (rest : List ℕ) → replicate k n ++ n ∷ rest ≡ replicate (suc k) n ++ rest

@@ -85,8 +85,7 @@ module _ (a : Automaton) where
   ranged-small h =
       let n = leb 1 (a .states) && leb (a .states) 32 in
       let m = leb 1 (a .symbols) && leb (a .symbols) 16 in
-      let rest = (leb 1 (a .capacity) && leb (a .capacity) 6) && ltb (a .initial) (a .states) in
-      (
+      let rest = (leb 1 (a .capacity) && leb (a .capacity) 6) && ltb (a .initial) (a .states) in (
         leb-true (a .states) 32 (and-right (leb 1 (a .states)) (leb (a .states) 32) (and-left n (m && rest) h)),
         leb-true (a .symbols) 16 (and-right (leb 1 (a .symbols)) (leb (a .symbols) 16) (and-left m rest (and-right n (m && rest) h))),
       )

@@ -1,5 +1,2 @@
 pub mod Automaton
-pub mod Reading
-pub mod Writing
 pub mod Parts
-pub mod Claims

@@ -1,13 +1,10 @@
--- What the inner functions of the record's check, the reader and the writer hand back.
+-- What the inner functions of the record's check hand back.
 use Prim.Native.Nat.{ℕ, _+_, _*_, _-_}
-use mathlib.Core.Bool.{Bool, cond, not, _&&_}
-use mathlib.Core.List.{List, [], _∷_, _++_}
-use lib.ListN.{length, getD, replicate}
+use mathlib.Core.Bool.{Bool, _&&_}
+use mathlib.Core.List.{List, _++_}
+use lib.ListN.{getD, replicate}
 use lib.Dec.{eqb, leb, ltb}
 use Rattle.base.specs.Each.{each, count}
-use Rattle.base.specs.Rows.{first}
-use Rattle.varint.specs.declared.Number.{Number}
-use Rattle.automaton.specs.Reading.{tally, Numbers}
 
 -- rows 3 to 6 over the four numbers
 unfoldable pub rangesHold : ℕ → ℕ → ℕ → ℕ → Bool
@@ -43,15 +40,3 @@ tablesHold n m classes accepting next =
     (belowFrom accepting n (32 - n) 1 &&
     (rowsBelow next 0 n (limitsOf n m) &&
     rowsBelow next n (32 - n) (replicate 16 1))))))
-
--- the row of the next number of a run: `row` from the limit on, 8 for a 1 too many
-unfoldable pub itemRow : ℕ → ℕ → ℕ → List ℕ → ℕ → ℕ
-itemRow limit row most before v = first ((row, not (ltb v limit)) ∷ (8, ltb most (tally (before ++ v ∷ []))) ∷ [])
-
--- a run of numbers without its values
-unfoldable pub outcome : Numbers → Number
-outcome ns = record { refusal = ns .refusal; value = 0; place = ns .place }
-
--- one more, where v is 1
-unfoldable pub oneMore : ℕ → ℕ → ℕ
-oneMore ones v = ones + cond (eqb v 1) 1 0

@@ -103,7 +103,13 @@ fn controllable_in(classes: &[u8; 16], m: usize) -> usize
     count
 }
 
-fn tables_hold<'a>(n: u8, m: usize, classes: &'a [u8; 16], accepting: &'a [u8; 32], next: &'a [u8; 512]) -> bool
+fn tables_hold<'a>(
+    n: u8,
+    m: usize,
+    classes: &'a [u8; 16],
+    accepting: &'a [u8; 32],
+    next: &'a [u8; 512],
+) -> bool
     requires { ⌜ (n ≤ 32) × (m ≤ 16) ⌝ }
     ensures { λ r. ⌜ r ≡ tablesHold n m (now (classes .entry)) (now (accepting .entry)) (now (next .entry)) ⌝ }
 {

@@ -17,6 +17,9 @@ either (inr b) f g = g b
 pub clash : {b : Bool} → b ≡ true → b ≡ false → ⊥
 clash {b} p q = let z : _≡_ {A = ℕ} 0 1 = cc in omega arith
 
+pub refuted : (b : Bool) → (b ≡ true → ⊥) → b ≡ false
+refuted b f = by b (λ p. absurd (f p)) (λ p. p)
+
 pub and-left : (a b : Bool) → (a && b) ≡ true → a ≡ true
 and-left true b h = refl
 and-left false b h = h

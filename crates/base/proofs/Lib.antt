@@ -4,3 +4,6 @@ pub mod Masks
 pub mod Refusals
 pub mod Padding
 pub mod Every
+pub mod Picking
+pub mod Stores
+pub mod Fronts

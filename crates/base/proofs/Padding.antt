@@ -1,11 +1,11 @@
 -- Laws of `pad`.
 use Prim.Native.Nat.{ℕ, zero, suc, _+_, _-_, _<_, _≤_}
 use mathlib.Core.Path.{_≡_, refl, sym, _∙_, ap}
-use mathlib.Core.List.{List, [], _∷_, _++_}
+use mathlib.Core.List.{List, [], _∷_, _++_, append-nil, append-assoc}
 use native.Mathlib.Nat.{zero-add}
 use native.Mathlib.Omega.{arith}
 use lib.ListN.{length, getD, set, take, drop, replicate, length-append, length-replicate, getD-replicate, List·getD-append, List·getD-eq-default}
-use lib.Seq.{sets, sets-eq, ext-getD, getD-take, getD-append-add, length-take-le, take-append-seam, set-append-seam, append-snoc}
+use lib.Seq.{sets, sets-eq, ext-getD, getD-take, getD-append-add, length-take-le, take-append-seam, set-append-seam, append-snoc, set-getD}
 use lib.Dec.{ltb}
 use borrow.Author.Tests.{ltb-true, ltb-false}
 use Rattle.base.specs.Pad.{pad}
@@ -73,3 +73,20 @@ pad-set n l v h =
     let e : n - length l ≡ suc (n - suc (length l)) = omega arith in
     let f : length (l ++ v ∷ []) ≡ suc (length l) = length-append l (v ∷ []) ∙ omega arith in
     rw (e, f) (set-append-seam l 0 (replicate (n - suc (length l)) 0) v ∙ sym (append-snoc l v (replicate (n - suc (length l)) 0)))
+
+-- a padded 0 may stand in the list
+pub pad-zero : (n : ℕ) (l : List ℕ) → length l < n → pad n l ≡ pad n (l ++ 0 ∷ [])
+pad-zero n l h =
+    sym (set-getD (pad n l) (length l) 0) ∙
+    ap (λ x. set (pad n l) (length l) x) (pad-outside n l (length l) (omega arith)) ∙
+    pad-set n l 0 h
+
+-- a run of stores behind a padded list
+pub pad-sets : (n : ℕ) (l v : List ℕ) → length l + length v ≤ n → sets (pad n l) (length l) v ≡ pad n (l ++ v)
+pad-sets n l [] h = ap (pad n) (sym (append-nil l))
+pad-sets n l (x ∷ v) h =
+    let e : suc (length l) ≡ length (l ++ x ∷ []) = simp length-append (omega arith) in
+    ap (λ y. sets y (suc (length l)) v) (pad-set n l x (omega arith)) ∙
+    ap (λ i. sets (pad n (l ++ x ∷ [])) i v) e ∙
+    pad-sets n (l ++ x ∷ []) v (simp length-append (omega arith)) ∙
+    ap (pad n) (append-assoc l (x ∷ []) v)

@@ -8,7 +8,7 @@ use native.Mathlib.Omega.{arith}
 use lib.Dec.{eqb}
 use borrow.Author.Tests.{eqb-true, eqb-false}
 use Rattle.base.specs.Each.{each, count}
-use Rattle.base.proofs.Bools.{by, either, clash, and-left, and-right, and-both, and-none}
+use Rattle.base.proofs.Bools.{by, either, clash, and-left, and-right, and-both, and-none, and-right-false}
 
 -- the test at one number
 pub each-at : (n : ℕ) (p : ℕ → Bool) → each n p ≡ true → (k : ℕ) → k < n → p k ≡ true
@@ -41,6 +41,14 @@ pub each-more : (n : ℕ) (p : ℕ → Bool) → each (n + 1) p ≡ (each n p &&
 unfolding each
 each-more n p = rw (add-one n)
 
+-- a flag that falls once a test fails
+module _ (p : ℕ → Bool) (i : ℕ) (fine : Bool) (so-far : fine ≡ each i p) where
+  pub each-falls : p i ≡ false → false ≡ each (i + 1) p
+  each-falls h = sym (each-more i p ∙ and-right-false (each i p) h)
+
+  pub each-keeps : p i ≡ true → fine ≡ each (i + 1) p
+  each-keeps h = so-far ∙ sym (each-more i p ∙ ap (λ b. each i p && b) h ∙ and-true (each i p))
+
 -- the same test below n
 pub each-same : (n : ℕ) (p r : ℕ → Bool) → ((k : ℕ) → k < n → p k ≡ r k) → each n p ≡ each n r
 unfolding each
@@ -57,6 +65,14 @@ each-split n (suc m) p =
 pub count-more : (n : ℕ) (p : ℕ → Bool) → count (n + 1) p ≡ count n p + cond (p n) 1 0
 unfolding count
 count-more n p = rw (add-one n)
+
+-- a count that grows where a test holds
+module _ (p : ℕ → Bool) (i n : ℕ) (so-far : n ≡ count i p) where
+  pub count-adds : p i ≡ true → n + 1 ≡ count (i + 1) p
+  count-adds h = sym (count-more i p ∙ rw (h, ← so-far))
+
+  pub count-skips : p i ≡ false → n ≡ count (i + 1) p
+  count-skips h = sym (count-more i p ∙ rw (h, ← so-far) (omega arith))
 
 pub count-max : (n : ℕ) (p : ℕ → Bool) → count n p ≤ n
 unfolding count
@@ -89,3 +105,12 @@ count-fewer (suc n) p r h k l a b =
     rw (a′, b′) (omega (arith, count-mono n p r (λ k l. h k (omega arith)))))
     (λ e. let c = count-fewer n p r (λ k l. h k (omega arith)) k (omega (arith, eqb-false k n e)) a b in
     by (p n) (λ f. rw (f, h n (omega arith) f) (omega arith)) (λ f. rw f (omega arith)))
+
+-- more numbers, no fewer of them
+pub count-longer : (n m : ℕ) (p : ℕ → Bool) → n ≤ m → count n p ≤ count m p
+unfolding count
+count-longer n zero p h = let e : n ≡ 0 = omega arith in rw e (omega arith)
+count-longer n (suc m) p h =
+    by (eqb n (suc m))
+    (λ t. rw (eqb-true n (suc m) t) (omega arith))
+    (λ t. omega (arith, count-longer n m p (omega (arith, eqb-false n (suc m) t))))

@@ -2,14 +2,14 @@
 use Prim.Native.Nat.{ℕ}
 use mathlib.Core.Bool.{Bool, cond, _&&_}
 use mathlib.Core.List.{List, []}
-use lib.ListN.{length, getD, take, replicate}
+use lib.ListN.{length, getD, take}
 use lib.Dec.{eqb, leb, ltb}
 use Rattle.base.specs.Each.{each}
 use Rattle.base.specs.Pad.{pad}
 use Rattle.automaton.specs.declared.Automaton.{Automaton}
 use Rattle.automaton.specs.Automaton.{controllable, valid}
 pub use Rattle.configuration.specs.declared.Configuration.{Configuration}
-pub use Rattle.configuration.specs.declared.Initial.{Initial}
+pub use Rattle.configuration.specs.declared.Start.{Start}
 
 -- the held events, first in first
 unfoldable pub heldEvents : Configuration → List ℕ
@@ -37,7 +37,7 @@ unfoldable pub initialOf : Automaton → Configuration
 initialOf a = configuration (a .initial) []
 
 -- asked of a record: row 11, with zeros
-unfoldable pub initialAnswer : Automaton → Initial
+unfoldable pub initialAnswer : Automaton → Start
 initialAnswer a =
     cond (valid a)
     (record { refusal = 0; configuration = initialOf a })

@@ -1,7 +1,12 @@
 // The configuration of a monitor: its state and the events that it holds back.
 use automaton::Automaton;
+
+mod check;
+
+pub use check::consistent;
 ghost use mathlib.Core.Path.{_≡_};
-ghost use Rattle.configuration.specs.Carried.{consistent, initialAnswer};
+ghost use mathlib.Core.List.{[]};
+ghost use Rattle.configuration.specs.Carried.{configuration, initialAnswer};
 
 // Document 01's carried state: a state, how many events are held, and those events in order; unused places are 0.
 pub struct Configuration {
@@ -10,8 +15,34 @@ pub struct Configuration {
     pub buffer: [u8; 6],
 }
 
-// The initial configuration (refusal 0), or the refusing row with zeros.
-pub struct Initial {
+// What `initial` gives: the initial configuration (refusal 0), or the refusing row with zeros.
+pub struct Start {
     pub refusal: u8,
     pub configuration: Configuration,
+}
+
+// A state with nothing held.
+fn empty(state: u8) -> Configuration
+    ensures { λ r. ⌜ r ≡ configuration state [] ⌝ }
+{
+    Configuration {
+        state,
+        held: 0,
+        buffer: [0u8; 6],
+    }
+}
+
+pub fn initial(a: Automaton) -> Start
+    ensures { λ r. ⌜ r ≡ initialAnswer a ⌝ }
+{
+    if automaton::valid(a) {
+        return Start {
+            refusal: 0,
+            configuration: empty(a.initial),
+        };
+    }
+    Start {
+        refusal: 11,
+        configuration: empty(0),
+    }
 }

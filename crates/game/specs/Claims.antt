@@ -1,7 +1,7 @@
 -- What is proved of the game.
 use Prim.Native.Nat.{ℕ, suc, _<_}
 use mathlib.Core.Path.{_≡_}
-use mathlib.Core.Bool.{Bool, true, false, _&&_, _||_}
+use mathlib.Core.Bool.{true, _&&_, _||_}
 use mathlib.Core.List.{List, [], _∷_}
 use Rattle.base.specs.Each.{each}
 use Rattle.base.specs.Masks.{has}
@@ -34,5 +34,5 @@ Agrees =
 abbrev pub VerdictAgrees : Type 0
 VerdictAgrees =
     (a : Automaton) (c : Configuration) → gameRefusal a c ≡ 0
-    → (verdict a c .may_rest ≡ has (sets a (heldEvents c) .winning) (c .state))
-    × (verdict a c .can_rest ≡ (has (sets a (heldEvents c) .winning) (c .state) || has (sets a (heldEvents c) .intermediate) (c .state)))
+    → (verdict a c .«may_rest» ≡ has (sets a (heldEvents c) .winning) (c .state))
+    × (verdict a c .«can_rest» ≡ (has (sets a (heldEvents c) .winning) (c .state) || has (sets a (heldEvents c) .intermediate) (c .state)))

@@ -1,6 +1,6 @@
 -- The game (document 01's second judge): two questions that put each other.
 use Prim.Native.Nat.{ℕ, zero, suc}
-use mathlib.Core.Bool.{Bool, true, false, cond, not, _&&_, _||_}
+use mathlib.Core.Bool.{Bool, false, cond, not, _&&_, _||_}
 use mathlib.Core.List.{List, [], _∷_}
 use lib.Dec.{eqb, ltb}
 use Rattle.base.specs.Each.{each, count}
@@ -39,9 +39,17 @@ tooLarge a c = ltb 4 (a .states) || (ltb 2 (count (a .symbols) (uncontrollable a
 unfoldable pub gameRefusal : Automaton → Configuration → ℕ
 gameRefusal a c = first ((11, not (valid a)) ∷ (13, not (consistent a c)) ∷ (17, tooLarge a c) ∷ [])
 
+-- a refused call answers no to both
+abbrev pub refused : ℕ → Verdict
+refused row = record { refusal = row; «may_rest» = false; «can_rest» = false }
+
 -- both questions, asked with n rounds
 unfoldable pub verdict : Automaton → Configuration → Verdict
 verdict a c =
     cond (eqb (gameRefusal a c) 0)
-    (record { refusal = 0; may_rest = mayRest a (heldEvents c) (a .states) (c .state); can_rest = canRest a (heldEvents c) (a .states) (c .state) })
-    (record { refusal = gameRefusal a c; may_rest = false; can_rest = false })
+    (record {
+      refusal = 0;
+      «may_rest» = mayRest a (heldEvents c) (a .states) (c .state);
+      «can_rest» = canRest a (heldEvents c) (a .states) (c .state);
+    })
+    (refused (gameRefusal a c))

@@ -6,3 +6,4 @@ pub mod Growth
 pub mod Paper
 pub mod Numbering
 pub mod Tables
+pub mod Buffers

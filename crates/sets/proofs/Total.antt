@@ -2,10 +2,11 @@
 use Prim.Native.Nat.{ℕ, _+_, _*_, _/_, _%_, _<_}
 use mathlib.Core.Path.{_≡_, ap}
 use mathlib.Core.Bool.{true}
+use mathlib.Core.List.{List, [], _∷_}
 use native.Mathlib.Omega.{arith}
 use lib.ListN.{getD}
 use Rattle.automaton.specs.declared.Automaton.{Automaton}
-use Rattle.automaton.specs.Automaton.{step, valid}
+use Rattle.automaton.specs.Automaton.{step, run, valid}
 use Rattle.automaton.proofs.Facts.{valid-facts, step-high}
 
 abbrev pub Total : Automaton → Type 0
@@ -18,3 +19,8 @@ wraps a q e = let h : q * 16 + e ≡ (q + e / 16) * 16 + e % 16 = omega arith in
 
 pub total : (a : Automaton) → valid a ≡ true → Total a
 total a h q e = rw (wraps a q e) (step-high (valid-facts a h) (q + e / 16) (e % 16) (omega arith))
+
+pub run-below : (a : Automaton) → Total a → (q : ℕ) (w : List ℕ) → q < a .states → run a q w < a .states
+unfolding run
+run-below a t q [] l = l
+run-below a t q (e ∷ w) l = run-below a t (step a q e) w (t q e)

@@ -4,6 +4,7 @@ use mathlib.Core.Path.{_≡_}
 use mathlib.Core.Bool.{Bool, true, cond}
 use mathlib.Core.List.{List, [], _∷_, _++_, map}
 use lib.ListN.{length, getD}
+use lib.Dec.{ltb}
 use Rattle.base.specs.Each.{count}
 use Rattle.base.specs.Masks.{has}
 use Rattle.automaton.specs.declared.Automaton.{Automaton}
@@ -31,6 +32,10 @@ index a w = shorter (controllables a) (length w) + value a w
 -- T, the number of buffers up to the capacity
 unfoldable pub buffersCount : Automaton → ℕ
 buffersCount a = shorter (controllables a) (suc (a .capacity))
+
+-- row 12: a lent table is shorter than 2T
+unfoldable pub short : Automaton → List ℕ → Bool
+short a t = ltb (length t) (2 * buffersCount a)
 
 -- a list of controllable symbols
 abbrev pub Controllable : Automaton → List ℕ → Type 0

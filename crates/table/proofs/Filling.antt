@@ -8,7 +8,7 @@ use native.Mathlib.Omega.{arith}
 use lib.Bits.{bitOr}
 use lib.ListN.{length, getD, set, length-append, length-set}
 use lib.Seq.{sets as stores, getD-set-other}
-use Rattle.automaton.proofs.Storing.{sets-join}
+use Rattle.base.proofs.Stores.{sets-join}
 use Rattle.sets.specs.declared.Sets.{Sets}
 use Rattle.sets.specs.Table.{pairs, roundsSum}
 use Rattle.sets.proofs.Tables.{pairs-length}

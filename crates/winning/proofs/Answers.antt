@@ -14,12 +14,12 @@ use Rattle.base.specs.Rows.{first}
 use Rattle.automaton.specs.declared.Automaton.{Automaton}
 use Rattle.automaton.specs.Automaton.{valid, controllables}
 use Rattle.automaton.proofs.Facts.{valid-facts}
-use Rattle.sets.specs.Table.{shorter, buffersCount, table, rounds}
+use Rattle.sets.specs.Table.{shorter, buffersCount, table, rounds, short}
 use Rattle.sets.proofs.Tables.{table-is-solved}
 use Rattle.winning.specs.declared.Count.{Count}
 use Rattle.refinement.specs.declared.Symbols.{Symbols}
 use Rattle.refinement.specs.Parts.{freeOf}
-use Rattle.winning.specs.Solving.{short, solveRefusal, solution, solvedTable, countAnswer}
+use Rattle.winning.specs.Solving.{solveRefusal, solution, solvedTable, countAnswer}
 use Rattle.winning.specs.Claims.{LeavesSolved}
 use Rattle.winning.proofs.Bounds.{pow-small, shorter-small, shorter-one, controllables-count}
 

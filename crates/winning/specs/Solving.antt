@@ -2,18 +2,14 @@
 use Prim.Native.Nat.{ℕ, _+_, _*_}
 use mathlib.Core.Bool.{Bool, cond, not}
 use mathlib.Core.List.{List, [], _∷_, _++_}
-use lib.ListN.{length, drop}
-use lib.Dec.{eqb, ltb}
+use lib.ListN.{drop}
+use lib.Dec.{eqb}
 use Rattle.base.specs.Rows.{first}
 use Rattle.automaton.specs.declared.Automaton.{Automaton}
 use Rattle.automaton.specs.Automaton.{valid}
-use Rattle.sets.specs.Table.{buffersCount, table, rounds}
+use Rattle.sets.specs.Table.{buffersCount, short, table, rounds}
 pub use Rattle.winning.specs.declared.Solution.{Solution}
 pub use Rattle.winning.specs.declared.Count.{Count}
-
--- row 12: the lent table is shorter than 2T
-unfoldable pub short : Automaton → List ℕ → Bool
-short a t = ltb (length t) (2 * buffersCount a)
 
 -- the rows that solving checks
 unfoldable pub solveRefusal : Automaton → List ℕ → ℕ

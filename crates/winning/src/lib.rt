@@ -28,7 +28,7 @@ pub struct Count {
 }
 
 // How many buffers there are of at most `capacity` events, for k symbols.
-fn buffers_to(k: usize, capacity: usize) -> usize
+pub fn buffers_to(k: usize, capacity: usize) -> usize
     requires { ⌜ (k ≤ 8) × (capacity ≤ 6) ⌝ }
     ensures { λ r. ⌜ r ≡ shorter k (capacity + 1) ⌝ }
 {

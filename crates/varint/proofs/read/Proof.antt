@@ -4,128 +4,94 @@ use native.Mathlib.Omega.{arith}
 use borrow.Author.Needs.{needs}
 use Rattle.varint.proofs.read.Statement.{statement}
 use Rattle.varint.proofs.read.Tie as tie
-use Rattle.varint.proofs.read.Reads as reads
-use Rattle.varint.proofs.read.Lts as lts
-use Rattle.base.proofs.wide.Reads as wide-reads
-use Rattle.varint.proofs.fault.Reads as fault-reads
 
--- src/lib.rt:28:9
 fault-requires : tie.Need-fault-requires
 fault-requires c κs = search needs
 
--- src/lib.rt:28:9
 returns : tie.Need-returns
 returns c = c .fault .ensures ∙ ended-at _ _ (omega arith)
 
--- src/lib.rt:30:24
 shared-slice-read-wide : tie.Need-shared-slice-read-wide
 shared-slice-read-wide c = search needs
 
--- src/lib.rt:30:9
 wide-requires : tie.Need-wide-requires
 wide-requires c κs = search needs
 
--- src/lib.rt:35:20
 add-t10 : tie.Need-add-t10
 add-t10 c = search needs
 
--- src/lib.rt:32:9
 returns-2 : tie.Need-returns-2
 returns-2 c = one-byte _ _ _ (omega arith) (c .before .wide .ensures .0) (omega arith)
 
--- src/lib.rt:38:8
 sub-if3 : tie.Need-sub-if3
 sub-if3 c = search needs
 
--- src/lib.rt:39:9
 fault-requires-2 : tie.Need-fault-requires-2
 fault-requires-2 c κs = search needs
 
--- src/lib.rt:39:9
 returns-3 : tie.Need-returns-3
 returns-3 c = c .fault2 .ensures ∙ ended-second _ _ _ (omega arith) (c .before .before .before .wide .ensures .0) (omega arith) (omega arith)
 
--- src/lib.rt:41:26
 add-wide : tie.Need-add-wide
 add-wide c = search needs
 
--- src/lib.rt:41:24
 shared-slice-read-wide-2 : tie.Need-shared-slice-read-wide-2
 shared-slice-read-wide-2 c = search needs
 
--- src/lib.rt:41:9
 wide-requires-2 : tie.Need-wide-requires-2
 wide-requires-2 c κs = search needs
 
--- src/lib.rt:45:30
 mul-t14 : tie.Need-mul-t14
 mul-t14 c = search needs
 
--- src/lib.rt:45:20
 add-t15 : tie.Need-add-t15
 add-t15 c = search needs
 
--- src/lib.rt:46:20
 add-t16 : tie.Need-add-t16
 add-t16 c = search needs
 
--- src/lib.rt:43:9
 returns-4 : tie.Need-returns-4
 returns-4 c = two-bytes _ _ _ (omega arith) (c .before .before .before .before .before .wide .ensures .0) (omega arith) _ (omega arith) (c .before .wide2 .ensures .0) (omega arith)
 
--- src/lib.rt:49:8
 sub-if5 : tie.Need-sub-if5
 sub-if5 c = search needs
 
--- src/lib.rt:50:9
 fault-requires-3 : tie.Need-fault-requires-3
 fault-requires-3 c κs = search needs
 
--- src/lib.rt:50:9
 returns-5 : tie.Need-returns-5
 returns-5 c = c .fault3 .ensures ∙ ended-third _ _ _ (omega arith) (c .before .before .before .before .before .before .before .wide .ensures .0) (omega arith) _ (omega arith) (c .before .before .before .wide2 .ensures .0) (omega arith) (omega arith)
 
--- src/lib.rt:52:26
 add-wide-2 : tie.Need-add-wide-2
 add-wide-2 c = search needs
 
--- src/lib.rt:52:24
 shared-slice-read-wide-3 : tie.Need-shared-slice-read-wide-3
 shared-slice-read-wide-3 c = search needs
 
--- src/lib.rt:52:9
 wide-requires-3 : tie.Need-wide-requires-3
 wide-requires-3 c κs = search needs
 
--- src/lib.rt:56:30
 mul-t20 : tie.Need-mul-t20
 mul-t20 c = search needs
 
--- src/lib.rt:56:20
 add-t21 : tie.Need-add-t21
 add-t21 c = search needs
 
--- src/lib.rt:56:48
 mul-t22 : tie.Need-mul-t22
 mul-t22 c = search needs
 
--- src/lib.rt:56:20
 add-t23 : tie.Need-add-t23
 add-t23 c = search needs
 
--- src/lib.rt:57:20
 add-t24 : tie.Need-add-t24
 add-t24 c = search needs
 
--- src/lib.rt:54:9
 returns-6 : tie.Need-returns-6
 returns-6 c = three-bytes _ _ _ (omega arith) (c .before .before .before .before .before .before .before .before .before .wide .ensures .0) (omega arith) _ (omega arith) (c .before .before .before .before .before .wide2 .ensures .0) (omega arith) _ (omega arith) (c .before .wide3 .ensures .0) (omega arith)
 
--- src/lib.rt:60:5
 fault-requires-4 : tie.Need-fault-requires-4
 fault-requires-4 c κs = search needs
 
--- src/lib.rt:24:1
 returns-7 : tie.Need-returns-7
 returns-7 c = c .fault4 .ensures ∙ too-long _ _ _ (omega arith) (c .before .before .before .before .before .before .before .before .before .before .wide .ensures .0) (omega arith) _ (omega arith) (c .before .before .before .before .before .before .wide2 .ensures .0) (omega arith) _ (omega arith) (c .before .before .wide3 .ensures .0) (omega arith)
 

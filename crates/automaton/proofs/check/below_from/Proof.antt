@@ -9,8 +9,6 @@ use native.Mathlib.Omega.{arith}
 use borrow.Author.Needs.{needs}
 use Rattle.automaton.proofs.check.below_from.Statement.{statement}
 use Rattle.automaton.proofs.check.below_from.Tie as tie
-use Rattle.automaton.proofs.check.below_from.Reads as reads
-use Rattle.automaton.proofs.check.below_from.Lts as lts
 
 abbrev Inv-loop : tie.InvT-loop
 Inv-loop list from count limit fine₀ i₀ fine i = (i ≤ count) × (fine ≡ belowFrom list from i limit)
@@ -18,32 +16,25 @@ Inv-loop list from count limit fine₀ i₀ fine i = (i ≤ count) × (fine ≡ 
 abbrev μ-loop : tie.MeasureT-loop
 μ-loop list from count limit fine₀ i₀ fine i = count - i
 
--- src/check.rt:39:5
 loop-holds : tie.Need-loop-holds Inv-loop μ-loop
 unfolding belowFrom each
 loop-holds c = (omega arith, refl)
 
--- src/check.rt:40:26
 add-if1 : tie.Need-add-if1 Inv-loop μ-loop
 add-if1 c = omega arith
 
--- src/check.rt:40:21
 shared-slice-read-if1 : tie.Need-shared-slice-read-if1 Inv-loop μ-loop
 shared-slice-read-if1 c = search needs
 
--- src/check.rt:43:13
 add-i : tie.Need-add-i Inv-loop μ-loop
 add-i c = omega arith
 
--- src/check.rt:39:5
 loop-less : tie.Need-loop-less Inv-loop μ-loop
 loop-less c = search needs
 
--- src/check.rt:39:5
 loop-again : tie.Need-loop-again Inv-loop μ-loop
 loop-again c = (omega arith, ⊎-elim (λ w. w .1 ∙ below-falls _ _ _ _ _ (c .before .before .before .loop .inv .1) (w .0 .taken)) (λ w. w .1 ∙ below-keeps _ _ _ _ _ (c .before .before .before .loop .inv .1) (w .0 .left)) (c .if1 .came))
 
--- src/check.rt:33:1
 returns : tie.Need-returns Inv-loop μ-loop
 returns c = let e : c .before .loop .i ≡ c .before .before .args .count = omega arith in rw e at (c .before .loop .inv .1)
 

@@ -8,8 +8,6 @@ use native.Mathlib.Omega.{arith}
 use borrow.Author.Needs.{needs}
 use Rattle.automaton.proofs.check.controllable_in.Statement.{statement}
 use Rattle.automaton.proofs.check.controllable_in.Tie as tie
-use Rattle.automaton.proofs.check.controllable_in.Reads as reads
-use Rattle.automaton.proofs.check.controllable_in.Lts as lts
 
 abbrev Inv-loop : tie.InvT-loop
 Inv-loop classes m count₀ e₀ count e = (e ≤ m) × (count ≤ e) × (count ≡ controllableIn classes e)
@@ -17,32 +15,25 @@ Inv-loop classes m count₀ e₀ count e = (e ≤ m) × (count ≤ e) × (count 
 abbrev μ-loop : tie.MeasureT-loop
 μ-loop classes m count₀ e₀ count e = m - e
 
--- src/check.rt:97:5
 loop-holds : tie.Need-loop-holds Inv-loop μ-loop
 unfolding controllableIn count
 loop-holds c = (omega arith, omega arith, refl)
 
--- src/check.rt:98:12
 element-copy-out-if1 : tie.Need-element-copy-out-if1 Inv-loop μ-loop
 element-copy-out-if1 c = search needs
 
--- src/check.rt:99:21
 add-count : tie.Need-add-count Inv-loop μ-loop
 add-count c = search needs
 
--- src/check.rt:101:13
 add-e : tie.Need-add-e Inv-loop μ-loop
 add-e c = search needs
 
--- src/check.rt:97:5
 loop-less : tie.Need-loop-less Inv-loop μ-loop
 loop-less c = search needs
 
--- src/check.rt:97:5
 loop-again : tie.Need-loop-again Inv-loop μ-loop
 loop-again c = (omega arith, ⊎-elim (λ w. omega arith) (λ w. omega arith) (c .if1 .came), ⊎-elim (λ w. w .1 ∙ counted _ _ _ (c .before .before .before .loop .inv .2) (w .0 .taken)) (λ w. w .1 ∙ passed _ _ _ (c .before .before .before .loop .inv .2) (w .0 .left)) (c .if1 .came))
 
--- src/check.rt:91:1
 returns : tie.Need-returns Inv-loop μ-loop
 returns c = let e : c .before .loop .e ≡ c .before .before .args .m = omega arith in rw e at (c .before .loop .inv .2)
 

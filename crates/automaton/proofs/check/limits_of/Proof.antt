@@ -8,8 +8,6 @@ use native.Mathlib.Omega.{arith}
 use borrow.Author.Needs.{needs}
 use Rattle.automaton.proofs.check.limits_of.Statement.{statement}
 use Rattle.automaton.proofs.check.limits_of.Tie as tie
-use Rattle.automaton.proofs.check.limits_of.Reads as reads
-use Rattle.automaton.proofs.check.limits_of.Lts as lts
 
 abbrev Inv-loop : tie.InvT-loop
 Inv-loop n m limits₀ e₀ limits e = (e ≤ m) × (limits ≡ replicate e n ++ replicate (16 - e) 1)
@@ -17,27 +15,21 @@ Inv-loop n m limits₀ e₀ limits e = (e ≤ m) × (limits ≡ replicate e n ++
 abbrev μ-loop : tie.MeasureT-loop
 μ-loop n m limits₀ e₀ limits e = m - e
 
--- src/check.rt:54:5
 loop-holds : tie.Need-loop-holds Inv-loop μ-loop
 loop-holds c = (omega arith, refl)
 
--- src/check.rt:55:9
 array-write-limits : tie.Need-array-write-limits Inv-loop μ-loop
 array-write-limits c = search needs
 
--- src/check.rt:56:13
 add-e : tie.Need-add-e Inv-loop μ-loop
 add-e c = search needs
 
--- src/check.rt:54:5
 loop-less : tie.Need-loop-less Inv-loop μ-loop
 loop-less c = search needs
 
--- src/check.rt:54:5
 loop-again : tie.Need-loop-again Inv-loop μ-loop
 loop-again c = (omega arith, rw (c .before .loop .inv .1) (limits-more (c .before .loop .e) _ (omega arith)))
 
--- src/check.rt:48:1
 returns : tie.Need-returns Inv-loop μ-loop
 unfolding limitsOf
 returns c = let e : c .before .loop .e ≡ c .before .before .args .m = omega arith in rw e at (c .before .loop .inv .1)

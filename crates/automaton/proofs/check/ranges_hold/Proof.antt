@@ -4,40 +4,31 @@ use native.Mathlib.Omega.{arith}
 use borrow.Author.Needs.{needs}
 use Rattle.automaton.proofs.check.ranges_hold.Statement.{statement}
 use Rattle.automaton.proofs.check.ranges_hold.Tie as tie
-use Rattle.automaton.proofs.check.ranges_hold.Reads as reads
-use Rattle.automaton.proofs.check.ranges_hold.Lts as lts
 
--- src/check.rt:13:9
 returns : tie.Need-returns
 unfolding rangesHold
 returns c = rw (lt-leb 1 (c .before .args .states) (omega arith))
 
--- src/check.rt:16:9
 returns-2 : tie.Need-returns-2
 unfolding rangesHold
 returns-2 c = rw (le-leb 1 (c .before .before .args .states) (omega arith), lt-leb (c .before .before .args .states) 32 (omega arith))
 
--- src/check.rt:19:9
 returns-3 : tie.Need-returns-3
 unfolding rangesHold
 returns-3 c = rw (le-leb 1 (c .before .before .before .args .states) (omega arith), le-leb (c .before .before .before .args .states) 32 (omega arith), lt-leb 1 (c .before .before .before .args .symbols) (omega arith))
 
--- src/check.rt:22:9
 returns-4 : tie.Need-returns-4
 unfolding rangesHold
 returns-4 c = rw (le-leb 1 (c .before .before .before .before .args .states) (omega arith), le-leb (c .before .before .before .before .args .states) 32 (omega arith), le-leb 1 (c .before .before .before .before .args .symbols) (omega arith), lt-leb (c .before .before .before .before .args .symbols) 16 (omega arith))
 
--- src/check.rt:25:9
 returns-5 : tie.Need-returns-5
 unfolding rangesHold
 returns-5 c = rw (le-leb 1 (c .before .before .before .before .before .args .states) (omega arith), le-leb (c .before .before .before .before .before .args .states) 32 (omega arith), le-leb 1 (c .before .before .before .before .before .args .symbols) (omega arith), le-leb (c .before .before .before .before .before .args .symbols) 16 (omega arith), lt-leb 1 (c .before .before .before .before .before .args .capacity) (omega arith))
 
--- src/check.rt:28:9
 returns-6 : tie.Need-returns-6
 unfolding rangesHold
 returns-6 c = rw (le-leb 1 (c .before .before .before .before .before .before .args .states) (omega arith), le-leb (c .before .before .before .before .before .before .args .states) 32 (omega arith), le-leb 1 (c .before .before .before .before .before .before .args .symbols) (omega arith), le-leb (c .before .before .before .before .before .before .args .symbols) 16 (omega arith), le-leb 1 (c .before .before .before .before .before .before .args .capacity) (omega arith), lt-leb (c .before .before .before .before .before .before .args .capacity) 6 (omega arith))
 
--- src/check.rt:9:1
 returns-7 : tie.Need-returns-7
 unfolding rangesHold
 returns-7 c = rw (le-leb 1 (c .before .before .before .before .before .before .args .states) (omega arith), le-leb (c .before .before .before .before .before .before .args .states) 32 (omega arith), le-leb 1 (c .before .before .before .before .before .before .args .symbols) (omega arith), le-leb (c .before .before .before .before .before .before .args .symbols) 16 (omega arith), le-leb 1 (c .before .before .before .before .before .before .args .capacity) (omega arith), le-leb (c .before .before .before .before .before .before .args .capacity) 6 (omega arith))

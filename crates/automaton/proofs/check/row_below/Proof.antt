@@ -8,8 +8,6 @@ use native.Mathlib.Omega.{arith}
 use borrow.Author.Needs.{needs}
 use Rattle.automaton.proofs.check.row_below.Statement.{statement}
 use Rattle.automaton.proofs.check.row_below.Tie as tie
-use Rattle.automaton.proofs.check.row_below.Reads as reads
-use Rattle.automaton.proofs.check.row_below.Lts as lts
 
 abbrev Inv-loop : tie.InvT-loop
 Inv-loop next q limits fine₀ e₀ fine e = (e ≤ 16) × (fine ≡ rowBelowTo next q e limits)
@@ -17,40 +15,31 @@ Inv-loop next q limits fine₀ e₀ fine e = (e ≤ 16) × (fine ≡ rowBelowTo 
 abbrev μ-loop : tie.MeasureT-loop
 μ-loop next q limits fine₀ e₀ fine e = 16 - e
 
--- src/check.rt:67:5
 loop-holds : tie.Need-loop-holds Inv-loop μ-loop
 unfolding rowBelowTo each
 loop-holds c = (omega arith, refl)
 
--- src/check.rt:68:12
 element-copy-out-if1 : tie.Need-element-copy-out-if1 Inv-loop μ-loop
 element-copy-out-if1 c = search needs
 
--- src/check.rt:68:30
 mul-if1 : tie.Need-mul-if1 Inv-loop μ-loop
 mul-if1 c = search needs
 
--- src/check.rt:68:30
 add-if1 : tie.Need-add-if1 Inv-loop μ-loop
 add-if1 c = search needs
 
--- src/check.rt:68:25
 element-copy-out-if1-2 : tie.Need-element-copy-out-if1-2 Inv-loop μ-loop
 element-copy-out-if1-2 c = search needs
 
--- src/check.rt:71:13
 add-e : tie.Need-add-e Inv-loop μ-loop
 add-e c = search needs
 
--- src/check.rt:67:5
 loop-less : tie.Need-loop-less Inv-loop μ-loop
 loop-less c = search needs
 
--- src/check.rt:67:5
 loop-again : tie.Need-loop-again Inv-loop μ-loop
 loop-again c = (omega arith, ⊎-elim (λ w. w .1 ∙ row-falls _ _ _ _ _ (c .before .before .before .before .loop .inv .1) (w .0 .taken)) (λ w. w .1 ∙ row-keeps _ _ _ _ _ (c .before .before .before .before .loop .inv .1) (w .0 .left)) (c .if1 .came))
 
--- src/check.rt:61:1
 returns : tie.Need-returns Inv-loop μ-loop
 unfolding rowBelow rowBelowTo
 returns c = let e : c .before .loop .e ≡ 16 = omega arith in rw e at (c .before .loop .inv .1)

@@ -9,9 +9,6 @@ use native.Mathlib.Omega.{arith}
 use borrow.Author.Needs.{needs}
 use Rattle.automaton.proofs.check.rows_below.Statement.{statement}
 use Rattle.automaton.proofs.check.rows_below.Tie as tie
-use Rattle.automaton.proofs.check.rows_below.Reads as reads
-use Rattle.automaton.proofs.check.rows_below.Lts as lts
-use Rattle.automaton.proofs.check.row_below.Reads as row-below-reads
 
 abbrev Inv-loop : tie.InvT-loop
 Inv-loop next from count limits fine₀ q₀ fine q = (q ≤ count) × (fine ≡ rowsBelow next from q limits)
@@ -19,32 +16,25 @@ Inv-loop next from count limits fine₀ q₀ fine q = (q ≤ count) × (fine ≡
 abbrev μ-loop : tie.MeasureT-loop
 μ-loop next from count limits fine₀ q₀ fine q = count - q
 
--- src/check.rt:82:5
 loop-holds : tie.Need-loop-holds Inv-loop μ-loop
 unfolding rowsBelow each
 loop-holds c = (omega arith, refl)
 
--- src/check.rt:83:29
 add-row-below : tie.Need-add-row-below Inv-loop μ-loop
 add-row-below c = search needs
 
--- src/check.rt:83:13
 row-below-requires : tie.Need-row-below-requires Inv-loop μ-loop
 row-below-requires c κs = search needs
 
--- src/check.rt:86:13
 add-q : tie.Need-add-q Inv-loop μ-loop
 add-q c = search needs
 
--- src/check.rt:82:5
 loop-less : tie.Need-loop-less Inv-loop μ-loop
 loop-less c = search needs
 
--- src/check.rt:82:5
 loop-again : tie.Need-loop-again Inv-loop μ-loop
 loop-again c = (omega arith, ⊎-elim (λ w. w .1 ∙ rows-fall _ _ _ _ _ (c .before .before .before .loop .inv .1) (sym (c .before .row-below .ensures) ∙ not-true _ (w .0 .taken))) (λ w. w .1 ∙ rows-keep _ _ _ _ _ (c .before .before .before .loop .inv .1) (sym (c .before .row-below .ensures) ∙ not-false _ (w .0 .left))) (c .if1 .came))
 
--- src/check.rt:76:1
 returns : tie.Need-returns Inv-loop μ-loop
 returns c = let e : c .before .loop .q ≡ c .before .before .args .count = omega arith in rw e at (c .before .loop .inv .1)
 

@@ -6,93 +6,67 @@ use native.Mathlib.Omega.{arith}
 use borrow.Author.Needs.{needs}
 use Rattle.automaton.proofs.check.tables_hold.Statement.{statement}
 use Rattle.automaton.proofs.check.tables_hold.Tie as tie
-use Rattle.automaton.proofs.check.tables_hold.Reads as reads
-use Rattle.automaton.proofs.check.tables_hold.Lts as lts
-use Rattle.automaton.proofs.check.below_from.Reads as below-from-reads
-use Rattle.automaton.proofs.check.controllable_in.Reads as controllable-in-reads
-use Rattle.automaton.proofs.check.limits_of.Reads as limits-of-reads
-use Rattle.automaton.proofs.check.rows_below.Reads as rows-below-reads
-use Rattle.base.proofs.size.Reads as size-reads
 
--- src/check.rt:110:9
 size-requires : tie.Need-size-requires
 size-requires c κs = search needs
 
--- src/check.rt:111:9
 below-from-requires : tie.Need-below-from-requires
 below-from-requires c κs = search needs
 
--- src/check.rt:112:9
 returns : tie.Need-returns
 unfolding tablesHold
 returns c = rw ((sym (c .before .below-from .ensures) ∙ not-true _ (c .if1 .taken)))
 
--- src/check.rt:114:32
 sub-below-from : tie.Need-sub-below-from
 sub-below-from c = search needs
 
--- src/check.rt:114:9
 below-from-requires-2 : tie.Need-below-from-requires-2
 below-from-requires-2 c κs = search needs
 
--- src/check.rt:115:9
 returns-2 : tie.Need-returns-2
 unfolding tablesHold
 returns-2 c = rw ((sym (c .before .before .before .before .below-from .ensures) ∙ not-false _ (c .before .before .before .if1 .left)), (sym (c .before .below-from2 .ensures) ∙ not-true _ (c .if2 .taken)))
 
--- src/check.rt:117:12
 controllable-in-requires : tie.Need-controllable-in-requires
 controllable-in-requires c κs = search needs
 
--- src/check.rt:118:9
 returns-3 : tie.Need-returns-3
 unfolding tablesHold
 returns-3 c = rw ((sym (c .before .before .before .before .before .before .below-from .ensures) ∙ not-false _ (c .before .before .before .before .before .if1 .left)), (sym (c .before .before .before .below-from2 .ensures) ∙ not-false _ (c .before .before .if2 .left)), (ap (λ k. leb k 8) (sym (c .before .controllable-in .ensures)) ∙ lt-leb (c .before .controllable-in .result) 8 (omega arith)))
 
--- src/check.rt:120:9
 below-from-requires-3 : tie.Need-below-from-requires-3
 below-from-requires-3 c κs = search needs
 
--- src/check.rt:121:9
 returns-4 : tie.Need-returns-4
 unfolding tablesHold
 returns-4 c = rw ((sym (c .before .before .before .before .before .before .before .before .before .below-from .ensures) ∙ not-false _ (c .before .before .before .before .before .before .before .before .if1 .left)), (sym (c .before .before .before .before .before .before .below-from2 .ensures) ∙ not-false _ (c .before .before .before .before .before .if2 .left)), (ap (λ k. leb k 8) (sym (c .before .before .before .before .controllable-in .ensures)) ∙ le-leb (c .before .before .before .before .controllable-in .result) 8 (omega arith)), (rw (c .before .before .before .before .before .before .before .before .before .before .before .size .ensures .0) at (sym (c .before .below-from3 .ensures) ∙ not-true _ (c .if4 .taken))))
 
--- src/check.rt:123:39
 sub-below-from-2 : tie.Need-sub-below-from-2
 sub-below-from-2 c = search needs
 
--- src/check.rt:123:9
 below-from-requires-4 : tie.Need-below-from-requires-4
 below-from-requires-4 c κs = search needs
 
--- src/check.rt:124:9
 returns-5 : tie.Need-returns-5
 unfolding tablesHold
 returns-5 c = rw ((sym (c .before .before .before .before .before .before .before .before .before .before .before .before .below-from .ensures) ∙ not-false _ (c .before .before .before .before .before .before .before .before .before .before .before .if1 .left)), (sym (c .before .before .before .before .before .before .before .before .before .below-from2 .ensures) ∙ not-false _ (c .before .before .before .before .before .before .before .before .if2 .left)), (ap (λ k. leb k 8) (sym (c .before .before .before .before .before .before .before .controllable-in .ensures)) ∙ le-leb (c .before .before .before .before .before .before .before .controllable-in .result) 8 (omega arith)), (rw (c .before .before .before .before .before .before .before .before .before .before .before .before .before .before .size .ensures .0) at (sym (c .before .before .before .before .below-from3 .ensures) ∙ not-false _ (c .before .before .before .if4 .left))), (rw (c .before .before .before .before .before .before .before .before .before .before .before .before .before .before .size .ensures .0) at (sym (c .before .below-from4 .ensures) ∙ not-true _ (c .if5 .taken))))
 
--- src/check.rt:126:18
 limits-of-requires : tie.Need-limits-of-requires
 limits-of-requires c κs = search needs
 
--- src/check.rt:127:9
 rows-below-requires : tie.Need-rows-below-requires
 rows-below-requires c κs = search needs
 
--- src/check.rt:128:9
 returns-6 : tie.Need-returns-6
 unfolding tablesHold
 returns-6 c = rw ((sym (c .before .before .before .before .before .before .before .before .before .before .before .before .before .before .before .before .below-from .ensures) ∙ not-false _ (c .before .before .before .before .before .before .before .before .before .before .before .before .before .before .before .if1 .left)), (sym (c .before .before .before .before .before .before .before .before .before .before .before .before .before .below-from2 .ensures) ∙ not-false _ (c .before .before .before .before .before .before .before .before .before .before .before .before .if2 .left)), (ap (λ k. leb k 8) (sym (c .before .before .before .before .before .before .before .before .before .before .before .controllable-in .ensures)) ∙ le-leb (c .before .before .before .before .before .before .before .before .before .before .before .controllable-in .result) 8 (omega arith)), (rw (c .before .before .before .before .before .before .before .before .before .before .before .before .before .before .before .before .before .before .size .ensures .0) at (sym (c .before .before .before .before .before .before .before .before .below-from3 .ensures) ∙ not-false _ (c .before .before .before .before .before .before .before .if4 .left))), (rw (c .before .before .before .before .before .before .before .before .before .before .before .before .before .before .before .before .before .before .size .ensures .0) at (sym (c .before .before .before .before .before .below-from4 .ensures) ∙ not-false _ (c .before .before .before .before .if5 .left))), (rw (c .before .before .before .before .before .before .before .before .before .before .before .before .before .before .before .before .before .before .size .ensures .0, c .before .before .before .limits-of .ensures) at (sym (c .before .rows-below .ensures) ∙ not-true _ (c .if6 .taken))))
 
--- src/check.rt:131:30
 sub-rows-below : tie.Need-sub-rows-below
 sub-rows-below c = search needs
 
--- src/check.rt:131:5
 rows-below-requires-2 : tie.Need-rows-below-requires-2
 rows-below-requires-2 c κs = search needs
 
--- src/check.rt:106:1
 returns-7 : tie.Need-returns-7
 unfolding tablesHold
 returns-7 c = rw ((sym (c .before .before .before .before .before .before .before .before .before .before .before .before .before .before .before .before .before .before .below-from .ensures) ∙ not-false _ (c .before .before .before .before .before .before .before .before .before .before .before .before .before .before .before .before .before .if1 .left)), (sym (c .before .before .before .before .before .before .before .before .before .before .before .before .before .before .before .below-from2 .ensures) ∙ not-false _ (c .before .before .before .before .before .before .before .before .before .before .before .before .before .before .if2 .left)), (ap (λ k. leb k 8) (sym (c .before .before .before .before .before .before .before .before .before .before .before .before .before .controllable-in .ensures)) ∙ le-leb (c .before .before .before .before .before .before .before .before .before .before .before .before .before .controllable-in .result) 8 (omega arith)), (rw (c .before .before .before .before .before .before .before .before .before .before .before .before .before .before .before .before .before .before .before .before .size .ensures .0) at (sym (c .before .before .before .before .before .before .before .before .before .before .below-from3 .ensures) ∙ not-false _ (c .before .before .before .before .before .before .before .before .before .if4 .left))), (rw (c .before .before .before .before .before .before .before .before .before .before .before .before .before .before .before .before .before .before .before .before .size .ensures .0) at (sym (c .before .before .before .before .before .before .before .below-from4 .ensures) ∙ not-false _ (c .before .before .before .before .before .before .if5 .left))), (rw (c .before .before .before .before .before .before .before .before .before .before .before .before .before .before .before .before .before .before .before .before .size .ensures .0, c .before .before .before .before .before .limits-of .ensures) at (sym (c .before .before .before .rows-below .ensures) ∙ not-false _ (c .before .before .if6 .left)))) (rw (c .before .before .before .before .before .before .before .before .before .before .before .before .before .before .before .before .before .before .before .before .size .ensures .0) at (c .rows-below2 .ensures))

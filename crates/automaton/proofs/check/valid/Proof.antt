@@ -6,29 +6,19 @@ use native.Mathlib.Omega.{arith}
 use borrow.Author.Needs.{needs}
 use Rattle.automaton.proofs.check.valid.Statement.{statement}
 use Rattle.automaton.proofs.check.valid.Tie as tie
-use Rattle.automaton.proofs.check.valid.Reads as reads
-use Rattle.automaton.proofs.check.valid.Lts as lts
-use Rattle.automaton.proofs.check.ranges_hold.Reads as ranges-hold-reads
-use Rattle.automaton.proofs.check.tables_hold.Reads as tables-hold-reads
-use Rattle.base.proofs.size.Reads as size-reads
 
--- src/check.rt:137:8
 ranges-hold-requires : tie.Need-ranges-hold-requires
 ranges-hold-requires c κs = search needs
 
--- src/check.rt:139:13
 size-requires : tie.Need-size-requires
 size-requires c κs = search needs
 
--- src/check.rt:140:9
 tables-hold-requires : tie.Need-tables-hold-requires
 tables-hold-requires c κs = let h = ranges-small (c .before .before .before .before .before .before .before .args .t1) (sym (c .before .before .before .before .before .before .ranges-hold .ensures) ∙ c .before .before .before .before .before .if1 .taken) in let s = c .before .before .before .before .size .ensures .0 in (h .0, omega arith)
 
--- src/check.rt:140:9
 returns : tie.Need-returns
 returns c = let a = c .before .before .before .before .before .before .before .before .args .t1 in let x : length (a .classes) ≡ 16 = search needs in let y : length (a .accepting) ≡ 32 = search needs in let z : length (a .next) ≡ 512 = search needs in (rw (c .before .before .before .before .before .size .ensures .0) at (c .tables-hold .ensures)) ∙ passes a x y z (sym (c .before .before .before .before .before .before .before .ranges-hold .ensures) ∙ c .before .before .before .before .before .before .if1 .taken)
 
--- src/check.rt:134:1
 returns-2 : tie.Need-returns-2
 returns-2 c = refuses _ (sym (c .before .ranges-hold .ensures) ∙ c .if1 .left)
 

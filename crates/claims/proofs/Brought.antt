@@ -1,0 +1,131 @@
+-- The accepted events of the calls, one by one, are those that the published function accepts.
+use Prim.Native.Nat.{ℕ}
+use mathlib.Core.Path.{_≡_, refl, sym, _∙_, ap, ap₂}
+use mathlib.Core.Bool.{true, false}
+use mathlib.Core.List.{List, [], _∷_, _++_, map, append-assoc, append-nil}
+use lib.Dec.{eqb}
+use lib.ListN.{length}
+use borrow.Author.Tests.{eqb-true, eqb-false}
+use Rattle.base.proofs.Bools.{by}
+use Rattle.automaton.specs.declared.Automaton.{Automaton}
+use Rattle.automaton.specs.Automaton.{run, valid}
+use Rattle.sets.specs.Table.{Solved}
+use Rattle.sets.proofs.Total.{total}
+use Rattle.configuration.specs.Carried.{initialOf}
+use Rattle.monitor.specs.Step.{bySets, byTable, eventRefusal}
+use Rattle.monitor.proofs.Effects.{effect-same}
+use Rattle.monitor.proofs.Solved.{solved-agree}
+use Rattle.claims.specs.Store.{Store, empty, stateOf, store, storeAll, lacksRoom, feed, feedAll, acceptedOf, acceptedBy, acceptedAll}
+use Rattle.claims.specs.Calls.{Call, one, day, fedBy, configurationOf}
+use Rattle.claims.specs.Moments.{Moment, effectAt, emittedAt, within, broughtBy, broughtAll, moments}
+use Rattle.claims.specs.Claims.{MomentsAccounted}
+use Rattle.claims.proofs.Stores.{Sound, grown, initially, initial-sound, byStore, store-accepts, store-refuses, store-state, store-sound}
+use Rattle.claims.proofs.Alone.{store-append, accepted-append}
+use Rattle.claims.proofs.Replies.{held, one-refusal, day-refusal, reply-hands, feed-sound, demand3}
+use Rattle.claims.proofs.Moments.{moments-all}
+
+module _ (a : Automaton) (t : List ℕ) (v : valid a ≡ true) (sv : Solved a t) where
+  -- what is shown of the accepted ones of a list of events
+  record Within (s : Store) (es : List ℕ) (ms : List Moment) : Type 0 where
+    events : map (λ (m : Moment). m .event) ms ≡ acceptedOf a s es
+    emitted : storeAll a s es .output ≡ s .output ++ emittedAt a t ms
+
+  -- those met from the function's output, state and buffer on
+  abbrev from : List ℕ → Store → List ℕ → List Moment
+  from past s es = within a t past (s .output) (stateOf a s) (s .buffer) es
+
+  module _ (past : List ℕ) (s : Store) (e : ℕ) where
+    abbrev m : Moment
+    m = record { past = past; output = s .output; state = stateOf a s; buffer = s .buffer; event = e }
+
+    -- an accepted event first
+    module _ (o : Sound a s) (h : eqb (eventRefusal a (s .buffer) e) 0 ≡ true) where
+      effect-is : effectAt a t m ≡ byStore a s e
+      unfolding effectAt
+      effect-is =
+          effect-same (byTable a t) a (stateOf a s) (s .buffer) e (bySets a) (solved-agree a t sv) (total a v) o (eqb-true (eventRefusal a (s .buffer) e) 0 h)
+
+      stored : store a s e ≡ grown s (byStore a s e .emitted) (byStore a s e .buffer)
+      stored = store-accepts a s e (eqb-true (eventRefusal a (s .buffer) e) 0 h)
+
+      accepts-first : (es : List ℕ) → from past s (e ∷ es) ≡ m ∷ from (past ++ e ∷ []) (store a s e) es
+      unfolding within
+      accepts-first es = rw (h, effect-is, stored, store-state a s e)
+
+      accepts-then : (es : List ℕ) (ms : List Moment) → Within (store a s e) es ms → Within s (e ∷ es) (m ∷ ms)
+      unfolding acceptedOf storeAll emittedAt
+      accepts-then es ms k = record {
+        events = rw h (ap (λ l. e ∷ l) (k .events));
+        emitted = k .emitted ∙
+            ap (λ z. z .output ++ emittedAt a t ms) stored ∙
+            append-assoc (s .output) (byStore a s e .emitted) (emittedAt a t ms) ∙
+            ap (λ f. s .output ++ (f .emitted ++ emittedAt a t ms)) (sym effect-is);
+      }
+
+    -- a refused one first
+    refuses-then : (es : List ℕ) → eqb (eventRefusal a (s .buffer) e) 0 ≡ false → Within s es (from past s es) → Within s (e ∷ es) (from past s (e ∷ es))
+    unfolding within acceptedOf storeAll
+    refuses-then es h k =
+        let stays = store-refuses a s e (eqb-false (eventRefusal a (s .buffer) e) 0 h) in
+        rw h (record { events = rw (h, stays) (k .events); emitted = ap (λ z. storeAll a z es .output) stays ∙ k .emitted })
+
+  within-is : (es past : List ℕ) (s : Store) → Sound a s → Within s es (from past s es)
+  unfolding within acceptedOf storeAll emittedAt
+  within-is [] past s o = record { events = refl; emitted = sym (append-nil (s .output)) }
+  within-is (e ∷ es) past s o =
+      by (eqb (eventRefusal a (s .buffer) e) 0)
+      (λ h.
+      rw (accepts-first past s e o h es)
+      (accepts-then past s e o h es _ (within-is es (past ++ e ∷ []) (store a s e) (store-sound a (total a v) (e ∷ []) s o))))
+      (λ h. refuses-then past s e es h (within-is es past s o))
+
+  -- the events that a call brings feed the function as the call does
+  module _ (s : Store) (o : Sound a s) where
+    record Brought (x : Call) (es : List ℕ) : Type 0 where
+      fed : feed a s (fedBy x) ≡ storeAll a s es
+      accepted : acceptedBy a s (fedBy x) ≡ acceptedOf a s es
+
+    brought-is : (x : Call) → Brought x (broughtBy a t (configurationOf a s) x)
+    unfolding broughtBy feed fedBy storeAll acceptedBy acceptedOf
+    brought-is (one e) =
+        let n = eventRefusal a (s .buffer) e in
+        by (eqb n 0)
+        (λ h. rw (one-refusal a t v sv s o e, h) (record { fed = refl; accepted = refl }))
+        (λ h. rw (one-refusal a t v sv s o e, h) (record { fed = store-refuses a s e (eqb-false n 0 h); accepted = rw h }))
+    brought-is (day es out) =
+        by (lacksRoom s es (length out))
+        (λ h. rw (day-refusal a t v sv s o es out, h) (record { fed = rw h; accepted = rw h }))
+        (λ h. rw (day-refusal a t v sv s o es out, h) (record { fed = rw h; accepted = rw h }))
+
+  -- and so for all calls
+  record BroughtAll (s : Store) (xs : List Call) (es : List ℕ) : Type 0 where
+    fed : feedAll a s (map fedBy xs) ≡ storeAll a s es
+    accepted : acceptedAll a s (map fedBy xs) ≡ acceptedOf a s es
+
+  brought-all : (xs : List Call) (s : Store) → Sound a s → BroughtAll s xs (broughtAll a t (configurationOf a s) xs)
+  unfolding broughtAll feedAll acceptedAll storeAll acceptedOf
+  brought-all [] s o = record { fed = refl; accepted = refl }
+  brought-all (x ∷ xs) s o =
+      let z = feed a s (fedBy x) in
+      let b = brought-is s o x in
+      let es = broughtBy a t (configurationOf a s) x in
+      let fs = broughtAll a t (configurationOf a z) xs in
+      let k = brought-all xs z (feed-sound a t v sv s o x) in
+      rw (reply-hands a t v sv s o x)
+      (record {
+        fed = k .fed ∙ ap (λ y. storeAll a y fs) (b .fed) ∙ sym (store-append a es fs s);
+        accepted = ap₂ _++_ (b .accepted) (k .accepted ∙ ap (λ y. acceptedOf a y fs) (b .fed)) ∙ sym (accepted-append a es fs s);
+      })
+
+pub moments-accounted : MomentsAccounted
+unfolding moments configurationOf
+moments-accounted a t v sv calls =
+    let b = brought-all a t v sv calls empty (initial-sound a v) in
+    let es = broughtAll a t (configurationOf a empty) calls in
+    let w = within-is a t v sv es [] empty (initial-sound a v) in
+    let go : moments a t (initialOf a) calls ≡ within a t [] [] (stateOf a empty) [] es = rw (initially a, held a empty) in
+    record {
+      events = rw go (w .events ∙ sym (b .accepted));
+      emitted = rw go (sym (w .emitted) ∙ ap (λ s. s .output) (sym (b .fed)) ∙ sym (demand3 a t v sv calls .all-emitted));
+      leads = moments-all a t v (λ m. run a (a .initial) (m .output) ≡ m .state) (λ m k. k .leads) calls;
+    }

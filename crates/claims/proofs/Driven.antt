@@ -1,0 +1,100 @@
+-- Whoever rests outside S of its buffer is driven out of the accepting states, whatever it releases after each event.
+use Prim.Native.Nat.{ℕ, zero, suc, _+_, _*_, _<_, _≤_}
+use mathlib.Core.Path.{_≡_, refl, _∙_, ap}
+use mathlib.Core.Logic.{_⊎_, inl, inr}
+use mathlib.Core.Bool.{false}
+use mathlib.Core.List.{List, [], _∷_, _++_, append-nil}
+use native.Mathlib.Nat.{suc-mul, mul-le-mul-right}
+use native.Mathlib.Omega.{arith}
+use lib.ListN.{length, take, drop, length-drop}
+use lib.Seq.{take-nil, drop-nil}
+use Rattle.base.specs.Each.{count}
+use Rattle.base.specs.Masks.{has}
+use Rattle.base.proofs.Bools.{refuted, either, clash}
+use Rattle.automaton.specs.declared.Automaton.{Automaton}
+use Rattle.automaton.specs.Automaton.{accepts, step, run}
+use Rattle.automaton.proofs.Running.{run-append, run-end}
+use Rattle.sets.specs.Sets.{sets}
+use Rattle.sets.specs.Definition6.{Uncontrollable}
+use Rattle.sets.proofs.Total.{Total, run-below}
+use Rattle.sets.proofs.Largest.{sets-are}
+use Rattle.sets.proofs.Growth.{first-intermediate}
+use Rattle.monitor.specs.Step.{remaining}
+use Rattle.claims.specs.Rival.{Strategy, play, Lost, lostBound}
+use Rattle.claims.proofs.Resting.{by-comes}
+
+module _ (a : Automaton) (rule : Strategy) where
+  -- a longer bound
+  pub lost-sooner : {events output buffer : List ℕ} {b c : ℕ} → b ≤ c → Lost a rule events output buffer b → Lost a rule events output buffer c
+  lost-sooner l k = record { list = k .list; uncontrollable = k .uncontrollable; short = omega (arith, k .short); outside = k .outside }
+
+  -- lost after one more uncontrollable event and the release that follows it
+  lost-before : (events output w : List ℕ) (u b : ℕ) → Uncontrollable a u
+      → (let k = rule (events ++ u ∷ []) (output ++ u ∷ []) in
+      Lost a rule (events ++ u ∷ []) ((output ++ u ∷ []) ++ take k w) (drop k w) b)
+      → Lost a rule events output w (b + 1)
+  unfolding play remaining
+  lost-before events output w u b h k = record { list = u ∷ k .list; uncontrollable = (h, k .uncontrollable); short = omega (arith, k .short); outside = k .outside }
+
+module _ (a : Automaton) (t : Total a) where
+  abbrev F : ℕ
+  F = count (a .states) (accepts a)
+
+  -- whoever rests at q with a buffer is lost
+  abbrev LostFrom : ℕ → List ℕ → ℕ → Type 0
+  LostFrom q w bound = (rule : Strategy) (events output : List ℕ) → run a (a .initial) output ≡ q → Lost a rule events output w bound
+
+  -- outside S of the buffer
+  abbrev pub Driven : List ℕ → Type 0
+  Driven w = (q : ℕ) → q < a .states → has (sets a w .winning) q ≡ false → LostFrom q w (lostBound a w)
+
+  -- outside I of the buffer it releases nothing, or is lost by what it releases
+  abbrev Releasing : List ℕ → Type 0
+  Releasing w =
+      (k q : ℕ) → q < a .states → has (sets a w .intermediate) q ≡ false
+      → ((take k w ≡ []) × (drop k w ≡ w)) ⊎ LostFrom (run a q (take k w)) (drop k w) (length w * F)
+
+  releasing : (e : ℕ) (w : List ℕ) → ((k : ℕ) → Driven (drop k w)) → Releasing (e ∷ w)
+  unfolding lostBound run
+  releasing e w driven zero q l h = inl (refl, refl)
+  releasing e w driven (suc k) q l h =
+      let p = run a (step a q e) (take k w) in
+      let few : suc (length (drop k w)) ≤ suc (length w) = omega (arith, length-drop k w) in
+      let out = refuted (has (sets a (drop k w) .winning) p) (λ x. clash (first-intermediate a e w q l (by-comes a t w k (step a q e) (t q e) x)) h) in
+      inr (λ rule events output led.
+      lost-sooner a rule (mul-le-mul-right F few) (driven k p (run-below a t (step a q e) (take k w) (t q e)) out rule events output led))
+
+  -- one more event
+  back : (w : List ℕ) → Releasing w → (r q u : ℕ) → Uncontrollable a u → has (sets a w .intermediate) (step a q u) ≡ false
+      → LostFrom (step a q u) w (length w * F + r) → LostFrom q w (length w * F + (r + 1))
+  back w releases r q u un out lost rule events output led =
+      let k = rule (events ++ u ∷ []) (output ++ u ∷ []) in
+      let on : run a (a .initial) (output ++ u ∷ []) ≡ step a q u = run-end a (a .initial) output u ∙ ap (λ p. step a p u) led in
+      lost-sooner a rule (omega arith)
+      (lost-before a rule events output w u (length w * F + r) un
+      (either (releases k (step a q u) (t q u) out)
+      (λ none. rw (none .0, none .1, append-nil (output ++ u ∷ [])) (lost rule (events ++ u ∷ []) (output ++ u ∷ []) on))
+      (λ gone. lost-sooner a rule (omega arith)
+      (gone rule (events ++ u ∷ []) ((output ++ u ∷ []) ++ take k w)
+      (run-append a (a .initial) (output ++ u ∷ []) (take k w) ∙ ap (λ p. run a p (take k w)) on)))))
+
+  -- one buffer, over the rounds in which its states were struck
+  level : (w : List ℕ) → Releasing w → Driven w
+  unfolding lostBound play
+  level w releases q l h rule events output led =
+      let s = sets-are a w in
+      lost-sooner a rule (omega (arith, s .few, suc-mul (length w) F))
+      (s .lost t (λ r q. LostFrom q w (length w * F + r))
+      (λ r q lost rule events output led. lost-sooner a rule (omega arith) (lost rule events output led))
+      (λ q l no rule events output led. record { list = []; uncontrollable = tt; short = omega arith; outside = ap (accepts a) led ∙ no })
+      (λ r q u l. back w releases r q u)
+      q l h rule events output led)
+
+  -- every rest of a buffer
+  driven : (w : List ℕ) (k : ℕ) → Driven (drop k w)
+  driven [] k = rw (drop-nil {A = ℕ} k) (level [] (λ j q l h. inl (take-nil j, drop-nil j)))
+  driven (e ∷ w) zero = level (e ∷ w) (releasing e w (driven w))
+  driven (e ∷ w) (suc k) = driven w k
+
+  pub driven-out : (w : List ℕ) → Driven w
+  driven-out w = driven w zero

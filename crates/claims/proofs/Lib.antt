@@ -1,0 +1,10 @@
+pub mod Stores
+pub mod Alone
+pub mod Replies
+pub mod Moments
+pub mod Brought
+pub mod Resting
+pub mod Staying
+pub mod Driven
+pub mod Rivals
+pub mod Tables

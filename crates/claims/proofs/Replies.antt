@@ -1,0 +1,165 @@
+-- Demand 3: the calls' replies are the published function's.
+use Prim.Native.Nat.{ℕ}
+use mathlib.Core.Path.{_≡_, refl, sym, _∙_, ap, ap₂}
+use mathlib.Core.Bool.{Bool, true, false, cond}
+use mathlib.Core.List.{List, [], _∷_, _++_, map, append-assoc, append-nil}
+use lib.Dec.{eqb, ltb}
+use lib.ListN.{length, drop}
+use lib.Seq.{take-append-seam}
+use borrow.Author.Tests.{eqb-true, eqb-false, le-ltb}
+use Rattle.base.specs.Rows.{first}
+use Rattle.base.specs.Pad.{pad}
+use Rattle.base.proofs.Bools.{by}
+use Rattle.base.proofs.Padding.{take-pad}
+use Rattle.automaton.specs.declared.Automaton.{Automaton}
+use Rattle.automaton.specs.Automaton.{valid}
+use Rattle.automaton.proofs.Facts.{valid-facts}
+use Rattle.sets.specs.Table.{short, Solved}
+use Rattle.sets.proofs.Total.{total}
+use Rattle.configuration.specs.declared.Configuration.{Configuration}
+use Rattle.configuration.specs.Carried.{heldEvents, configuration, consistent}
+use Rattle.configuration.proofs.Facts.{configuration-consistent, consistent-of}
+use Rattle.monitor.specs.declared.Received.{Received}
+use Rattle.monitor.specs.Step.{bySets, byTable, effect, eventRows, eventRefusal, runOf}
+use Rattle.monitor.specs.Answers.{receiveRefusal, received, room, runRefusal, ran, ranBuffer}
+use Rattle.monitor.proofs.Effects.{effect-occurs, effect-same}
+use Rattle.monitor.proofs.Runs.{run-same}
+use Rattle.monitor.proofs.Refusals.{rows-pass}
+use Rattle.monitor.proofs.Solved.{solved-agree}
+use Rattle.claims.specs.Store.{Store, empty, stateOf, store, storeAll, lacksRoom, feed, feedAll}
+use Rattle.claims.specs.Calls.{Call, one, day, handedBack, emittedBy, reply, replies, configurationAfter, emittedAll, fedBy, configurationOf, since, expected, expectedAll}
+use Rattle.claims.specs.Claims.{Demand3}
+use Rattle.claims.proofs.Stores.{Sound, initially, initial-sound, store-since, store-sound, since-grown, since-same, byStore, runStore, store-accepts, store-refuses, store-state, runs-state, store-runs}
+
+pub held : (a : Automaton) (s : Store) → heldEvents (configurationOf a s) ≡ s .buffer
+unfolding heldEvents configurationOf
+held a s = take-pad 6 (s .buffer)
+
+module _ (a : Automaton) (t : List ℕ) (v : valid a ≡ true) (sv : Solved a t) where
+  not-short : short a t ≡ false
+  unfolding short
+  not-short = le-ltb (length t) _ (sv .long)
+
+  pub consistent-at : (s : Store) → Sound a s → consistent a (configurationOf a s) ≡ true
+  unfolding configurationOf
+  consistent-at s o =
+      consistent-of a (configurationOf a s) (configuration-consistent a (valid-facts a v) (stateOf a s) (s .buffer) (o .state-below) (o .buffer))
+
+  module _ (s : Store) (o : Sound a s) where
+    abbrev c : Configuration
+    c = configurationOf a s
+
+    pub one-refusal : (e : ℕ) → receiveRefusal a t c e ≡ eventRefusal a (s .buffer) e
+    unfolding receiveRefusal eventRefusal
+    one-refusal e = rows-pass a t c v not-short (consistent-at s o) (eventRows a (heldEvents c) e) ∙ ap (λ w. first (eventRows a w e)) (held a s)
+
+    pub day-refusal : (es out : List ℕ) → runRefusal a t c es out ≡ cond (lacksRoom s es (length out)) 16 0
+    unfolding runRefusal lacksRoom configurationOf first
+    day-refusal es out = rows-pass a t c v not-short (consistent-at s o) ((16, ltb (length out) (room es (c .held))) ∷ [])
+
+    one-effect : (e : ℕ) → eventRefusal a (s .buffer) e ≡ 0 → effect (byTable a t) a (c .state) (heldEvents c) e ≡ byStore a s e
+    unfolding configurationOf
+    one-effect e h =
+        ap (λ w. effect (byTable a t) a (stateOf a s) w e) (held a s) ∙
+        effect-same (byTable a t) a (stateOf a s) (s .buffer) e (bySets a) (solved-agree a t sv) (total a v) o h
+
+    day-run : (es : List ℕ) → runOf (byTable a t) a (c .state) (heldEvents c) es ≡ runStore a s es
+    unfolding configurationOf
+    day-run es =
+        ap (λ w. runOf (byTable a t) a (stateOf a s) w es) (held a s) ∙
+        run-same (byTable a t) (bySets a) a (solved-agree a t sv) (total a v) es (stateOf a s) (s .buffer) o
+
+    abbrev answer : ℕ → ℕ → List ℕ → List ℕ → Bool → Received
+    answer n q w out b = record { refusal = n; configuration = configuration q w; emitted = pad 7 out; count = length out; winning = b }
+
+    one-accepted : (e : ℕ) → eventRefusal a (s .buffer) e ≡ 0 → received a t c e ≡ answer 0 (byStore a s e .state) (byStore a s e .buffer) (byStore a s e .emitted) (byTable a t (byStore a s e .buffer) (byStore a s e .state))
+    unfolding received
+    one-accepted e h = rw (one-refusal e ∙ h, one-effect e h)
+
+    one-refused : (e : ℕ) → eqb (eventRefusal a (s .buffer) e) 0 ≡ false → received a t c e ≡ answer (eventRefusal a (s .buffer) e) (stateOf a s) (s .buffer) [] false
+    unfolding received configurationOf pad
+    one-refused e h = rw (one-refusal e, h)
+
+    one-reply : (e : ℕ) → reply a t c (one e) ≡ expected a s (one e)
+    unfolding reply expected configurationOf
+    one-reply e =
+        let n = eventRefusal a (s .buffer) e in
+        let f = byStore a s e in
+        by (eqb n 0)
+        (λ h.
+        let z = eqb-true n 0 h in
+        let b = solved-agree a t sv (f .buffer) (f .state) (effect-occurs (bySets a) a (stateOf a s) (s .buffer) e (total a v) o z) in
+        rw (one-accepted e z, store-accepts a s e z, since-grown s (f .emitted) (f .buffer), store-state a s e, b, z))
+        (λ h. rw (one-refused e h, store-refuses a s e (eqb-false n 0 h), since-same s, h))
+
+    day-reply : (es out : List ℕ) → reply a t c (day es out) ≡ expected a s (day es out)
+    unfolding reply expected ran ranBuffer configurationOf
+    day-reply es out =
+        let k = store-runs a es s in
+        let r = runStore a s es in
+        by (lacksRoom s es (length out))
+        (λ h. rw (day-refusal es out, h) refl)
+        (λ h. rw (day-refusal es out, h, day-run es, k .whole, since-grown s (r .emitted) (r .buffer), k .refused, runs-state a s es))
+
+    -- one call: its reply is the function's, ..
+    reply-is : (x : Call) → reply a t c x ≡ expected a s x
+    reply-is (one e) = one-reply e
+    reply-is (day es out) = day-reply es out
+
+    -- .. which hands back the configuration of the function fed the call, and emits what it put out then
+    feed-hands : (x : Call) → handedBack (expected a s x) ≡ configurationOf a (feed a s (fedBy x))
+    unfolding expected handedBack feed fedBy
+    feed-hands (one e) = refl
+    feed-hands (day es out) = by (lacksRoom s es (length out)) (λ h. rw h) (λ h. rw h)
+
+    feed-emits : (x : Call) → feed a s (fedBy x) .output ≡ s .output ++ emittedBy (expected a s x)
+    unfolding expected emittedBy feed fedBy storeAll
+    feed-emits (one e) = rw (take-pad 7 (since s (store a s e))) (store-since a (e ∷ []) s)
+    feed-emits (day es out) =
+        let put = since s (storeAll a s es) in
+        by (lacksRoom s es (length out))
+        (λ h. rw h (sym (append-nil (s .output))))
+        (λ h. rw (h, take-append-seam put (drop (length put) out)) (store-since a es s))
+
+    pub reply-hands : (x : Call) → handedBack (reply a t c x) ≡ configurationOf a (feed a s (fedBy x))
+    reply-hands x = ap handedBack (reply-is x) ∙ feed-hands x
+
+    pub feed-sound : (x : Call) → Sound a (feed a s (fedBy x))
+    unfolding feed fedBy storeAll
+    feed-sound (one e) = store-sound a (total a v) (e ∷ []) s o
+    feed-sound (day es out) = by (lacksRoom s es (length out)) (λ h. rw h o) (λ h. rw h (store-sound a (total a v) es s o))
+
+  -- all calls
+  record Together (s : Store) (xs : List Call) : Type 0 where
+    each-reply : replies a t (configurationOf a s) xs ≡ expectedAll a s xs
+    all-emitted : feedAll a s (map fedBy xs) .output ≡ s .output ++ emittedAll (replies a t (configurationOf a s) xs)
+    last-configuration : configurationAfter a t (configurationOf a s) xs ≡ configurationOf a (feedAll a s (map fedBy xs))
+    last-sound : Sound a (feedAll a s (map fedBy xs))
+
+  together : (xs : List Call) (s : Store) → Sound a s → Together s xs
+  unfolding replies expectedAll emittedAll configurationAfter feedAll
+  together [] s o = record { each-reply = refl; all-emitted = sym (append-nil (s .output)); last-configuration = refl; last-sound = o }
+  together (x ∷ xs) s o =
+      let z = feed a s (fedBy x) in
+      let k = together xs z (feed-sound s o x) in
+      let r = reply-is s o x in
+      let next = reply-hands s o x in
+      record {
+        each-reply = ap₂ _∷_ r (ap (λ c. replies a t c xs) next ∙ k .each-reply);
+        all-emitted = rw (next, r)
+            (k .all-emitted ∙
+            ap (λ out. out ++ emittedAll (replies a t (configurationOf a z) xs)) (feed-emits s o x) ∙
+            append-assoc (s .output) (emittedBy (expected a s x)) (emittedAll (replies a t (configurationOf a z) xs)));
+        last-configuration = ap (λ c. configurationAfter a t c xs) next ∙ k .last-configuration;
+        last-sound = k .last-sound;
+      }
+
+pub demand3 : Demand3
+demand3 a t v sv calls =
+    let k = together a t v sv calls empty (initial-sound a v) in
+    record {
+      each-reply = rw (initially a) (k .each-reply);
+      all-emitted = rw (initially a) (sym (k .all-emitted));
+      last-configuration = rw (initially a) (k .last-configuration);
+      last-consistent = rw (initially a, k .last-configuration) (consistent-at a t v sv (feedAll a empty (map fedBy calls)) (k .last-sound));
+    }

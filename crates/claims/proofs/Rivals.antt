@@ -1,0 +1,46 @@
+-- A rival that emits a longer front part than the monitor, at any accepted event, is lost.
+use Prim.Native.Nat.{ℕ}
+use mathlib.Core.Path.{_≡_, sym, _∙_, ap}
+use mathlib.Core.Bool.{true}
+use mathlib.Core.List.{List, [], _∷_, _++_}
+use native.Mathlib.Omega.{arith}
+use lib.ListN.{length, take, drop}
+use lib.Seq.{length-take-le}
+use Rattle.base.specs.Masks.{has}
+use Rattle.base.proofs.Bools.{refuted}
+use Rattle.base.proofs.Fronts.{part-length, take-part}
+use Rattle.automaton.specs.declared.Automaton.{Automaton}
+use Rattle.automaton.specs.Automaton.{run, valid}
+use Rattle.automaton.proofs.Running.{run-append}
+use Rattle.sets.specs.Sets.{sets}
+use Rattle.sets.specs.Table.{Solved}
+use Rattle.sets.proofs.Total.{total}
+use Rattle.monitor.specs.Step.{bySets, byTable, qualifies, release, arrival}
+use Rattle.monitor.proofs.Release.{release-le, release-longest}
+use Rattle.monitor.proofs.Effects.{arrival-occurs, arrival-leads, released-occurs}
+use Rattle.monitor.proofs.Solved.{solved-agree}
+use Rattle.claims.specs.Moments.{Moment}
+use Rattle.claims.specs.Claims.{arrivalAt, rivalRelease, ourRelease, rivalOutput, rivalBuffer, LongerLoses, RivalsLose}
+use Rattle.claims.proofs.Moments.{Met, moments-all}
+use Rattle.claims.proofs.Driven.{driven-out}
+
+longer-loses : (a : Automaton) (t : List ℕ) → valid a ≡ true → Solved a t → (m : Moment) → Met a t m → LongerLoses a t m
+unfolding arrivalAt rivalRelease ourRelease rivalOutput rivalBuffer qualifies bySets
+longer-loses a t v sv m k rule h =
+    let x = arrival a (m .state) (m .buffer) (m .event) in
+    let n = rule (m .past ++ m .event ∷ []) (m .output ++ x .emitted) in
+    let j = length (take n (x .buffer)) in
+    let p = run a (x .state) (take j (x .buffer)) in
+    let at = released-occurs a (total a v) (x .state) (x .buffer) (arrival-occurs a (m .state) (m .buffer) (m .event) (total a v) (k .occurs) (k .accepted)) j in
+    let ours = length-take-le (release (byTable a t) a (x .state) (x .buffer)) (x .buffer) (release-le (byTable a t) a (x .state) (x .buffer)) in
+    let out = refuted (has (sets a (drop j (x .buffer)) .winning) p) (λ y.
+    let z = release-longest (byTable a t) a (x .state) (x .buffer) j (part-length n (x .buffer)) (solved-agree a t sv (drop j (x .buffer)) p at ∙ y) .1 in
+    omega arith) in
+    driven-out a (total a v) (drop j (x .buffer)) p (at .state-below) out rule (m .past ++ m .event ∷ []) ((m .output ++ x .emitted) ++ take n (x .buffer))
+    (run-append a (a .initial) (m .output ++ x .emitted) (take n (x .buffer)) ∙
+    ap (λ q. run a q (take n (x .buffer)))
+    (run-append a (a .initial) (m .output) (x .emitted) ∙ ap (λ q. run a q (x .emitted)) (k .leads) ∙ arrival-leads a (m .state) (m .buffer) (m .event)) ∙
+    ap (run a (x .state)) (sym (take-part n (x .buffer))))
+
+pub rivals-lose : RivalsLose
+rivals-lose a t v sv calls = moments-all a t v (LongerLoses a t) (longer-loses a t v sv) calls

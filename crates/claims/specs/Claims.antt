@@ -1,0 +1,98 @@
+-- Demand 3.
+use Prim.Native.Nat.{ℕ, _<_}
+use mathlib.Core.Path.{_≡_}
+use mathlib.Core.Bool.{Bool, true}
+use mathlib.Core.List.{List, [], _∷_, _++_, map}
+use lib.ListN.{length, take, drop}
+use Rattle.automaton.specs.declared.Automaton.{Automaton}
+use Rattle.automaton.specs.Automaton.{valid, accepts, run}
+use Rattle.sets.specs.Table.{Solved}
+use Rattle.configuration.specs.Carried.{consistent, initialOf}
+use Rattle.monitor.specs.Step.{byTable, Effect, release, arrival}
+use Rattle.monitor.specs.Answers.{isWinning}
+use Rattle.claims.specs.Store.{Store, empty, storeAll, feedAll, acceptedAll}
+use Rattle.claims.specs.Calls.{Call, Reply, replies, configurationAfter, emittedAll, fedBy, configurationOf, expectedAll}
+use Rattle.claims.specs.Moments.{Moment, AllOf, effectAt, emittedAt, moments}
+use Rattle.claims.specs.Rival.{Strategy, Lost, lostBound}
+
+-- One claim about any list of calls over a solved table: every call's whole reply is the published function's; all that was emitted,
+-- end to end, is its output; the configuration handed back is its own, and one that row 13 lets pass.
+pub record Enforces (a : Automaton) (t : List ℕ) (calls : List Call) : Type 0 where
+  pub each-reply : replies a t (initialOf a) calls ≡ expectedAll a empty calls
+  pub all-emitted : emittedAll (replies a t (initialOf a) calls) ≡ feedAll a empty (map fedBy calls) .output
+  pub last-configuration : configurationAfter a t (initialOf a) calls ≡ configurationOf a (feedAll a empty (map fedBy calls))
+  pub last-consistent : consistent a (configurationAfter a t (initialOf a) calls) ≡ true
+
+abbrev pub Demand3 : Type 0
+Demand3 = (a : Automaton) (t : List ℕ) → valid a ≡ true → Solved a t → (calls : List Call) → Enforces a t calls
+
+-- Fed the accepted events alone, one by one, the function ends with the same output and buffer.
+abbrev pub AcceptedAlone : Type 0
+AcceptedAlone =
+    (a : Automaton) (calls : List Call)
+    → storeAll a empty (acceptedAll a empty (map fedBy calls)) ≡ feedAll a empty (map fedBy calls)
+
+-- winning after an accepted event, by the table's bits
+unfoldable pub winningAfter : Automaton → List ℕ → Moment → Bool
+winningAfter a t m = byTable a t (effectAt a t m .buffer) (effectAt a t m .state)
+
+-- all that was emitted, up to and with an accepted event
+unfoldable pub outputAfter : Automaton → List ℕ → Moment → List ℕ
+outputAfter a t m = m .output ++ effectAt a t m .emitted
+
+-- The accepted events of the calls, one by one, are those that the function accepts; what they emit, end to end, is all that is
+-- emitted; and the state that each of them meets is where the output leads.
+pub record Accounted (a : Automaton) (t : List ℕ) (calls : List Call) : Type 0 where
+  pub events : map (λ (m : Moment). m .event) (moments a t (initialOf a) calls) ≡ acceptedAll a empty (map fedBy calls)
+  pub emitted : emittedAt a t (moments a t (initialOf a) calls) ≡ emittedAll (replies a t (initialOf a) calls)
+  pub leads : AllOf (λ m. run a (a .initial) (m .output) ≡ m .state) (moments a t (initialOf a) calls)
+
+abbrev pub MomentsAccounted : Type 0
+MomentsAccounted = (a : Automaton) (t : List ℕ) → valid a ≡ true → Solved a t → (calls : List Call) → Accounted a t calls
+
+-- Once winning, initially or after an accepted event, winning after each later accepted event, also inside a day; and the output
+-- then leads to an accepting state.
+abbrev pub Stays : Automaton → List ℕ → List Moment → Type 0
+Stays a t = AllOf (λ m. (winningAfter a t m ≡ true) × (accepts a (run a (a .initial) (outputAfter a t m)) ≡ true))
+
+pub record OnceWinning (a : Automaton) (t : List ℕ) (calls : List Call) : Type 0 where
+  pub initially : isWinning a t (initialOf a) ≡ true → Stays a t (moments a t (initialOf a) calls)
+  pub later : (before : List Moment) (m : Moment) (after : List Moment) → moments a t (initialOf a) calls ≡ before ++ m ∷ after
+      → winningAfter a t m ≡ true → Stays a t (m ∷ after)
+
+abbrev pub WinningStays : Type 0
+WinningStays = (a : Automaton) (t : List ℕ) → valid a ≡ true → Solved a t → (calls : List Call) → OnceWinning a t calls
+
+-- an accepted event before the release
+unfoldable pub arrivalAt : Automaton → Moment → Effect
+arrivalAt a m = arrival a (m .state) (m .buffer) (m .event)
+
+-- the front part of the buffer that a strategy emits then, and the one that we emit
+unfoldable pub rivalRelease : Automaton → Strategy → Moment → List ℕ
+rivalRelease a rule m = take (rule (m .past ++ m .event ∷ []) (m .output ++ arrivalAt a m .emitted)) (arrivalAt a m .buffer)
+
+unfoldable pub ourRelease : Automaton → List ℕ → Moment → List ℕ
+ourRelease a t m =
+    take (release (byTable a t) a (arrivalAt a m .state) (arrivalAt a m .buffer)) (arrivalAt a m .buffer)
+
+-- what the rival has put out and still holds then
+unfoldable pub rivalOutput : Automaton → Strategy → Moment → List ℕ
+rivalOutput a rule m = (m .output ++ arrivalAt a m .emitted) ++ rivalRelease a rule m
+
+unfoldable pub rivalBuffer : Automaton → Strategy → Moment → List ℕ
+rivalBuffer a rule m = drop (length (rivalRelease a rule m)) (arrivalAt a m .buffer)
+
+-- every strategy that emits a longer front part there, and goes on by its rule, is lost
+abbrev pub LongerLoses : Automaton → List ℕ → Moment → Type 0
+LongerLoses a t m =
+    (rule : Strategy) → length (ourRelease a t m) < length (rivalRelease a rule m)
+    → Lost a rule (m .past ++ m .event ∷ []) (rivalOutput a rule m) (rivalBuffer a rule m) (lostBound a (rivalBuffer a rule m))
+
+-- The rival: at every accepted event, also inside a day, whether we are winning or not.
+abbrev pub RivalsLose : Type 0
+RivalsLose =
+    (a : Automaton) (t : List ℕ) → valid a ≡ true → Solved a t → (calls : List Call) → AllOf (LongerLoses a t) (moments a t (initialOf a) calls)
+
+-- The hypotheses can be met: a solved table exists for every automaton that row 11 lets pass.
+abbrev pub TableExists : Type 0
+TableExists = (a : Automaton) → valid a ≡ true → (t : List ℕ) × Solved a t

@@ -1,0 +1,5 @@
+pub mod Store
+pub mod Calls
+pub mod Moments
+pub mod Rival
+pub mod Claims

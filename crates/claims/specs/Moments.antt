@@ -1,0 +1,56 @@
+-- The accepted events of a list of calls, one by one, also those inside a day.
+use Prim.Native.Nat.{ℕ}
+use mathlib.Core.Bool.{Bool, cond}
+use mathlib.Core.List.{List, [], _∷_, _++_}
+use lib.Dec.{eqb}
+use Rattle.automaton.specs.declared.Automaton.{Automaton}
+use Rattle.configuration.specs.declared.Configuration.{Configuration}
+use Rattle.configuration.specs.Carried.{heldEvents}
+use Rattle.monitor.specs.Step.{byTable, Effect, effect, eventRefusal}
+use Rattle.monitor.specs.Answers.{receiveRefusal, runRefusal}
+use Rattle.claims.specs.Calls.{Call, one, day, reply, handedBack}
+
+-- an accepted event: the events accepted and the kinds emitted before it, the state and buffer that it meets, and the event
+pub record Moment : Type 0 where
+  pub past : List ℕ
+  pub output : List ℕ
+  pub state : ℕ
+  pub buffer : List ℕ
+  pub event : ℕ
+
+-- what the monitor makes of it
+unfoldable pub effectAt : Automaton → List ℕ → Moment → Effect
+effectAt a t m = effect (byTable a t) a (m .state) (m .buffer) (m .event)
+
+-- what they emit, end to end
+unfoldable pub emittedAt : Automaton → List ℕ → List Moment → List ℕ
+emittedAt a t [] = []
+emittedAt a t (m ∷ ms) = effectAt a t m .emitted ++ emittedAt a t ms
+
+-- a fact of each of them
+abbrev pub AllOf : (Moment → Type 0) → List Moment → Type 0
+AllOf P [] = Unit {0}
+AllOf P (m ∷ ms) = P m × AllOf P ms
+
+-- the accepted ones of a list of events, as `runOf` goes through them
+unfoldable pub within : Automaton → List ℕ → List ℕ → List ℕ → ℕ → List ℕ → List ℕ → List Moment
+within a t past output q w [] = []
+within a t past output q w (e ∷ es) =
+    let m : Moment = record { past = past; output = output; state = q; buffer = w; event = e } in
+    let f = effectAt a t m in
+    cond (eqb (eventRefusal a w e) 0)
+    (m ∷ within a t (past ++ e ∷ []) (output ++ f .emitted) (f .state) (f .buffer) es)
+    (within a t past output q w es)
+
+-- the events that a call brings: none where it is refused
+unfoldable pub broughtBy : Automaton → List ℕ → Configuration → Call → List ℕ
+broughtBy a t c (one e) = cond (eqb (receiveRefusal a t c e) 0) (e ∷ []) []
+broughtBy a t c (day es out) = cond (eqb (runRefusal a t c es out) 0) es []
+
+unfoldable pub broughtAll : Automaton → List ℕ → Configuration → List Call → List ℕ
+broughtAll a t c [] = []
+broughtAll a t c (x ∷ xs) = broughtBy a t c x ++ broughtAll a t (handedBack (reply a t c x)) xs
+
+-- all accepted events of the calls
+unfoldable pub moments : Automaton → List ℕ → Configuration → List Call → List Moment
+moments a t c xs = within a t [] [] (c .state) (heldEvents c) (broughtAll a t c xs)

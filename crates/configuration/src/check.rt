@@ -1,0 +1,58 @@
+// Row 13: the configuration is one of the automaton, of which only what the row reads is passed. The loop is not left early.
+use crate::Configuration;
+ghost use mathlib.Core.Path.{_≡_};
+ghost use Rattle.configuration.specs.Parts.{holdableIn, placeStands, consistentIn, bufferStands};
+
+fn holdable(symbols: u8, classes: &[u8; 16], e: u8) -> bool
+    ensures { λ r. ⌜ r ≡ holdableIn symbols (now (classes .entry)) e ⌝ }
+{
+    if symbols <= e {
+        return false;
+    }
+    if 16 <= e {
+        return false;
+    }
+    classes[base::size(e)] == 1
+}
+
+// A place of the buffer: a controllable symbol where it is used, else 0.
+fn place_stands(symbols: u8, classes: &[u8; 16], used: bool, e: u8) -> bool
+    ensures { λ r. ⌜ r ≡ placeStands symbols (now (classes .entry)) used e ⌝ }
+{
+    if used {
+        return holdable(symbols, classes, e);
+    }
+    e == 0
+}
+
+fn buffer_stands<'a>(symbols: u8, classes: &'a [u8; 16], held: usize, buffer: &'a [u8; 6]) -> bool
+    ensures { λ r. ⌜ r ≡ bufferStands symbols (now (classes .entry)) held (now (buffer .entry)) ⌝ }
+{
+    let mut fine = true;
+    let mut i: usize = 0;
+    while i < 6 {
+        if !place_stands(symbols, classes, i < held, buffer[i]) {
+            fine = false;
+        }
+        i = i + 1;
+    }
+    fine
+}
+
+pub fn consistent(
+    states: u8,
+    symbols: u8,
+    capacity: u8,
+    classes: &[u8; 16],
+    c: Configuration,
+) -> bool
+    ensures { λ r. ⌜ r ≡ consistentIn states symbols capacity (now (classes .entry)) c ⌝ }
+{
+    if states <= c.state {
+        return false;
+    }
+    if capacity < c.held {
+        return false;
+    }
+    buffer_stands(symbols, classes, base::size(c.held), &c.buffer)
+}

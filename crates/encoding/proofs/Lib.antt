@@ -1,0 +1,12 @@
+pub mod Items
+pub mod Sections
+pub mod Tables
+pub mod Header
+pub mod Storing
+pub mod Follows
+pub mod NextStates
+pub mod Classes
+pub mod Encoded
+pub mod Parsing
+pub mod Trips
+pub mod Outcomes

@@ -1,0 +1,23 @@
+-- What is proved of reading and writing: demand 2's second sentence.
+use Prim.Native.Nat.{ℕ, _≤_}
+use mathlib.Core.Path.{_≡_}
+use mathlib.Core.Bool.{true}
+use mathlib.Core.List.{List}
+use lib.ListN.{length}
+use Rattle.automaton.specs.declared.Automaton.{Automaton}
+use Rattle.automaton.specs.Automaton.{valid}
+use Rattle.encoding.specs.Reading.{parsed, parse}
+use Rattle.encoding.specs.Writing.{sheetBytes}
+
+-- a sheet that is written reads back as itself
+abbrev pub WrittenReadsBack : Type 0
+WrittenReadsBack = (a : Automaton) → valid a ≡ true → parse (sheetBytes a) ≡ parsed a
+
+-- a record that was read passes row 11
+abbrev pub ReadIsValid : Type 0
+ReadIsValid = (s : List ℕ) (a : Automaton) → parse s ≡ parsed a → valid a ≡ true
+
+-- a sheet that is read and written again, padded or not, reads as the same record, and no bytes that read so are shorter
+abbrev pub ReadAgain : Type 0
+ReadAgain =
+    (s : List ℕ) (a : Automaton) → parse s ≡ parsed a → (parse (sheetBytes a) ≡ parsed a) × (length (sheetBytes a) ≤ length s)

@@ -1,0 +1,111 @@
+-- Reading a sheet from bytes: left to right, the first fault stands (document 01, "The sheet" and "Numbers of refusal").
+use Prim.Native.Nat.{ℕ, zero, suc, _+_, _*_}
+use mathlib.Core.Bool.{Bool, true, false, cond, not, _&&_}
+use mathlib.Core.List.{List, [], _∷_, _++_}
+use lib.ListN.{length, replicate}
+use lib.Dec.{eqb, leb, ltb}
+use Rattle.base.specs.Rows.{first}
+use Rattle.base.specs.Pad.{pad}
+use Rattle.varint.specs.declared.Number.{Number}
+use Rattle.varint.specs.Varint.{fault, read}
+use Rattle.automaton.specs.declared.Automaton.{Automaton}
+use Rattle.automaton.specs.Automaton.{mostClass}
+pub use Rattle.encoding.specs.declared.Parsed.{Parsed}
+
+-- a number that was read at a place, with the row that `check` gives its value (0: none)
+unfoldable pub checked : (ℕ → ℕ) → ℕ → Number → Number
+checked check at n = cond (eqb (n .refusal) 0) (cond (eqb (check (n .value)) 0) n (fault (check (n .value)) at)) n
+
+-- the row, unless v is at least low and below the limit
+unfoldable pub between : ℕ → ℕ → ℕ → ℕ → ℕ
+between low limit row v = cond (leb low v && ltb v limit) 0 row
+
+-- how many of the classes read so far are controllable
+unfoldable pub tally : List ℕ → ℕ
+tally [] = 0
+tally (c ∷ cs) = cond (eqb c 1) 1 0 + tally cs
+
+-- the row of the next class after some: 7 above the largest class, 8 for a ninth controllable one
+unfoldable pub classRow : ℕ → List ℕ → ℕ → ℕ
+classRow most before c = first ((7, ltb most c) ∷ (8, ltb 8 (tally (before ++ c ∷ []))) ∷ [])
+
+-- numbers that were read one after the other: their values and the place after them, or a fault after the first of them
+pub record Numbers : Type 0 where
+  pub refusal : ℕ
+  pub place : ℕ
+  pub values : List ℕ
+
+-- k more numbers from a place, each checked against those before it
+unfoldable pub numbers : (ℕ → Number) → (List ℕ → ℕ → ℕ) → ℕ → List ℕ → ℕ → Numbers
+numbers from check zero before at = record { refusal = 0; place = at; values = before }
+numbers from check (suc k) before at =
+    let n = checked (check before) at (from at) in
+    cond (eqb (n .refusal) 0)
+    (numbers from check k (before ++ n .value ∷ []) (n .place))
+    (record { refusal = n .refusal; place = n .place; values = before })
+
+-- k more runs of m numbers each, each run kept in 16 places
+unfoldable pub runs : (ℕ → Number) → (ℕ → ℕ) → ℕ → ℕ → List ℕ → ℕ → Numbers
+runs from check m zero before at = record { refusal = 0; place = at; values = before }
+runs from check m (suc k) before at =
+    let row = numbers from (λ _. check) m [] at in
+    cond (eqb (row .refusal) 0)
+    (runs from check m k (before ++ pad 16 (row .values)) (row .place))
+    (record { refusal = row .refusal; place = row .place; values = before })
+
+-- the record with 0 everywhere
+abbrev pub blank : Automaton
+blank =
+    record {
+      states = 0;
+      symbols = 0;
+      capacity = 0;
+      initial = 0;
+      classes = replicate 16 0;
+      accepting = replicate 32 0;
+      next = replicate 512 0;
+    }
+
+abbrev pub parsed : Automaton → Parsed
+parsed a = record { refusal = 0; place = 0; automaton = a }
+
+abbrev pub refused : ℕ → ℕ → Parsed
+refused row at = record { refusal = row; place = at; automaton = blank }
+
+-- go on after a number, or after numbers, that were not refused
+unfoldable pub one : Number → (ℕ → ℕ → Parsed) → Parsed
+one n go = cond (eqb (n .refusal) 0) (go (n .value) (n .place)) (refused (n .refusal) (n .place))
+
+unfoldable pub many : Numbers → (List ℕ → ℕ → Parsed) → Parsed
+many ns go = cond (eqb (ns .refusal) 0) (go (ns .values) (ns .place)) (refused (ns .refusal) (ns .place))
+
+-- the m classes, n flags and n × m next states of a sheet whose first four numbers are read; nothing may follow before the end
+unfoldable pub tables : (ℕ → Number) → ℕ → ℕ → ℕ → ℕ → ℕ → ℕ → ℕ → Parsed
+tables from most end n m b q at =
+    many (numbers from (classRow most) m [] at) λ classes at1.
+    many (numbers from (λ _. between 0 2 7) n [] at1) λ flags at2.
+    many (runs from (between 0 n 9) m n [] at2) λ next at3.
+    cond (ltb at3 end)
+    (refused 10 at3)
+    (parsed (record {
+      states = n;
+      symbols = m;
+      capacity = b;
+      initial = q;
+      classes = pad 16 classes;
+      accepting = pad 32 flags;
+      next = pad 512 next;
+    }))
+
+-- a sheet's numbers in their order, by a number reader and up to a largest class: n, m, B, start, then the tables
+unfoldable pub sheet : (ℕ → Number) → ℕ → ℕ → Parsed
+sheet from most end =
+    one (checked (between 1 33 3) 0 (from 0)) λ n at1.
+    one (checked (between 1 17 4) at1 (from at1)) λ m at2.
+    one (checked (between 1 7 5) at2 (from at2)) λ b at3.
+    one (checked (between 0 n 6) at3 (from at3)) λ q at4.
+    tables from most end n m b q at4
+
+-- what reading a sheet's bytes gives
+unfoldable pub parse : List ℕ → Parsed
+parse s = sheet (read s) mostClass (length s)

@@ -1,0 +1,20 @@
+// The automaton as bytes (document 01's sheet): reading and writing it.
+mod reading;
+mod writing;
+
+use automaton::Automaton;
+pub use reading::read;
+pub use writing::write;
+
+// What reading gives: the record (refusal 0, place 0), or the first fault's row and place with an all-zero record.
+pub struct Parsed {
+    pub refusal: u8,
+    pub place: usize,
+    pub automaton: Automaton,
+}
+
+// What writing gives: the length written (refusal 0), or the refusing row with length 0.
+pub struct Written {
+    pub refusal: u8,
+    pub length: usize,
+}

@@ -1,0 +1,62 @@
+-- The rows that every call checks first, as the code finds them.
+use Prim.Native.Nat.{ℕ, suc, _+_, _*_, _<_, _≤_}
+use mathlib.Core.Path.{_≡_, refl, sym, _∙_, ap, ap₂}
+use mathlib.Core.Bool.{Bool, true, false, cond}
+use mathlib.Core.List.{List}
+use native.Mathlib.Numerals.{add-one}
+use native.Mathlib.Omega.{arith}
+use lib.ListN.{length, replicate}
+use lib.Dec.{ltb}
+use borrow.Author.Tests.{lt-ltb, le-ltb}
+use Rattle.automaton.specs.declared.Automaton.{Automaton}
+use Rattle.automaton.specs.Automaton.{controllable, controllables, valid}
+use Rattle.automaton.specs.Parts.{controllableIn}
+use Rattle.automaton.proofs.Facts.{Valid, valid-facts}
+use Rattle.sets.specs.Table.{shorter, buffersCount, short}
+use Rattle.configuration.specs.declared.Configuration.{Configuration}
+use Rattle.configuration.specs.Carried.{consistent}
+use Rattle.monitor.specs.Answers.{guardRefusal}
+use Rattle.monitor.specs.Parts.{Ranking, Entry, rankingOf, entryOf}
+use Rattle.monitor.proofs.Refusals.{guard-invalid, guard-short, guard-inconsistent, guard-clear}
+
+-- the count of a ranking
+pub ranking-count : (a : Automaton) → rankingOf (a .classes) (a .symbols) .count ≡ controllables a
+unfolding rankingOf controllableIn controllables controllable
+ranking-count a = refl
+
+module _ (a : Automaton) (t : List ℕ) (c : Configuration) where
+  pub entry-invalid : valid a ≡ false → record { refusal = 11; ranking = record { count = 0; ranks = replicate 16 0 } } ≡ entryOf a t c
+  unfolding entryOf
+  entry-invalid v = rw (v, guard-invalid a t c v)
+
+  module _ (v : valid a ≡ true) (r : Ranking) (e : r ≡ rankingOf (a .classes) (a .symbols)) where
+    entry-row : (n : ℕ) → guardRefusal a t c ≡ n → record { refusal = n; ranking = r } ≡ entryOf a t c
+    unfolding entryOf
+    entry-row n g = rw (e, v, g)
+
+    -- the number of buffers, as it is counted
+    module _ (buffers : ℕ) (b : buffers ≡ shorter (r .count) (a .capacity + 1)) where
+      counted : 2 * buffers ≡ 2 * buffersCount a
+      unfolding buffersCount
+      counted =
+          ap (λ x. 2 * x)
+          (b ∙ ap₂ shorter (ap (λ (x : Ranking). x .count) e ∙ ranking-count a) (add-one (a .capacity)))
+
+      pub entry-short : length t < 2 * buffers → record { refusal = 12; ranking = r } ≡ entryOf a t c
+      unfolding short
+      entry-short h = let k : length t < 2 * buffersCount a = omega (arith, counted) in entry-row 12 (guard-short a t c v (lt-ltb (length t) (2 * buffersCount a) k))
+
+      module _ (h : 2 * buffers ≤ length t) where
+        long : short a t ≡ false
+        unfolding short
+        long = le-ltb (length t) (2 * buffersCount a) (omega (arith, counted))
+
+        pub entry-inconsistent : consistent a c ≡ false → record { refusal = 13; ranking = r } ≡ entryOf a t c
+        entry-inconsistent k = entry-row 13 (guard-inconsistent a t c v long k)
+
+        pub entry-clear : consistent a c ≡ true → record { refusal = 0; ranking = r } ≡ entryOf a t c
+        entry-clear k = entry-row 0 (guard-clear a t c v long k)
+
+-- the ranking of a valid automaton counts at most eight symbols
+pub ranking-few : (a : Automaton) → Valid a → (r : Ranking) → r ≡ rankingOf (a .classes) (a .symbols) → r .count ≤ 8
+ranking-few a v r e = omega (arith, ap (λ (x : Ranking). x .count) e ∙ ranking-count a, v .controllables-high)

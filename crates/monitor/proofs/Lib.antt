@@ -1,0 +1,11 @@
+pub mod Places
+pub mod Searching
+pub mod Answering
+pub mod Entries
+pub mod Tabled
+pub mod Receiving
+pub mod Release
+pub mod Effects
+pub mod Runs
+pub mod Refusals
+pub mod Solved

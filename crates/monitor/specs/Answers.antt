@@ -1,0 +1,72 @@
+-- What the monitor's calls answer, for any record, table and configuration, and what a run leaves in its lent output.
+use Prim.Native.Nat.{ℕ, _+_}
+use mathlib.Core.Bool.{Bool, false, cond, not}
+use mathlib.Core.List.{List, [], _∷_, _++_}
+use lib.ListN.{length, drop, replicate}
+use lib.Dec.{eqb, ltb}
+use Rattle.base.specs.Rows.{first}
+use Rattle.base.specs.Pad.{pad}
+use Rattle.automaton.specs.declared.Automaton.{Automaton}
+use Rattle.automaton.specs.Automaton.{valid}
+use Rattle.sets.specs.Table.{short}
+use Rattle.configuration.specs.declared.Configuration.{Configuration}
+use Rattle.configuration.specs.Carried.{configuration, heldEvents, consistent}
+use Rattle.monitor.specs.Step.{byTable, effect, eventRows, Run, runOf}
+pub use Rattle.monitor.specs.declared.Guard.{Guard}
+pub use Rattle.monitor.specs.declared.Received.{Received}
+pub use Rattle.monitor.specs.declared.Ran.{Ran}
+
+-- the rows that every call on a record, a table and a configuration checks first
+unfoldable pub callRows : Automaton → List ℕ → Configuration → List (ℕ × Bool)
+callRows a t c = (11, not (valid a)) ∷ (12, short a t) ∷ (13, not (consistent a c)) ∷ []
+
+-- the monitor may rest where it is: a winning configuration (document 01's guarded)
+unfoldable pub isWinning : Automaton → List ℕ → Configuration → Bool
+isWinning a t c = byTable a t (heldEvents c) (c .state)
+
+unfoldable pub guardRefusal : Automaton → List ℕ → Configuration → ℕ
+guardRefusal a t c = first (callRows a t c)
+
+unfoldable pub guard : Automaton → List ℕ → Configuration → Guard
+guard a t c =
+    cond (eqb (guardRefusal a t c) 0)
+    (record { refusal = 0; winning = isWinning a t c })
+    (record { refusal = guardRefusal a t c; winning = false })
+
+-- one event
+unfoldable pub receiveRefusal : Automaton → List ℕ → Configuration → ℕ → ℕ
+receiveRefusal a t c e = first (callRows a t c ++ eventRows a (heldEvents c) e)
+
+unfoldable pub received : Automaton → List ℕ → Configuration → ℕ → Received
+received a t c e =
+    let f = effect (byTable a t) a (c .state) (heldEvents c) e in
+    cond (eqb (receiveRefusal a t c e) 0)
+    (record {
+      refusal = 0;
+      configuration = configuration (f .state) (f .buffer);
+      emitted = pad 7 (f .emitted);
+      count = length (f .emitted);
+      winning = byTable a t (f .buffer) (f .state);
+    })
+    (record { refusal = receiveRefusal a t c e; configuration = c; emitted = replicate 7 0; count = 0; winning = false })
+
+-- the room that a list of events needs, with so many held
+unfoldable pub room : List ℕ → ℕ → ℕ
+room events held = length events + held
+
+-- a whole day
+unfoldable pub runRefusal : Automaton → List ℕ → Configuration → List ℕ → List ℕ → ℕ
+runRefusal a t c events out = first (callRows a t c ++ (16, ltb (length out) (room events (c .held))) ∷ [])
+
+unfoldable pub ran : Automaton → List ℕ → Configuration → List ℕ → List ℕ → Ran
+ran a t c events out =
+    let r = runOf (byTable a t) a (c .state) (heldEvents c) events in
+    cond (eqb (runRefusal a t c events out) 0)
+    (record { refusal = 0; configuration = configuration (r .state) (r .buffer); length = length (r .emitted); refused = r .refused })
+    (record { refusal = runRefusal a t c events out; configuration = c; length = 0; refused = 0 })
+
+-- the lent output afterwards
+unfoldable pub ranBuffer : Automaton → List ℕ → Configuration → List ℕ → List ℕ → List ℕ
+ranBuffer a t c events out =
+    let r = runOf (byTable a t) a (c .state) (heldEvents c) events in
+    cond (eqb (runRefusal a t c events out) 0) (r .emitted ++ drop (length (r .emitted)) out) out

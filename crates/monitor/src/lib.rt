@@ -1,0 +1,52 @@
+// The enforcement monitor: one event, and a whole day of them, over a lent table.
+mod checking;
+mod event;
+mod releasing;
+pub use checking::winning;
+pub use event::receive;
+use automaton::Automaton;
+use configuration::Configuration;
+
+// Whether a configuration is winning (document 01's guarded), or the refusing row with no.
+pub struct Guard {
+    pub refusal: u8,
+    pub winning: bool,
+}
+
+// What one event brings: the next configuration, the kinds emitted with their count (places past it are 0), and whether the
+// configuration is winning. Refused: the row, the configuration given, nothing emitted, no.
+pub struct Received {
+    pub refusal: u8,
+    pub configuration: Configuration,
+    pub emitted: [u8; 7],
+    pub count: u8,
+    pub winning: bool,
+}
+
+// What a whole day brings: the next configuration, how many bytes were written, and how many events were refused. Refused: the
+// row, the configuration given, 0 and 0.
+pub struct Ran {
+    pub refusal: u8,
+    pub configuration: Configuration,
+    pub length: usize,
+    pub refused: usize,
+}
+
+// The controllable symbols: how many there are, and the rank of each from 1 (0: uncontrollable).
+pub struct Ranking {
+    pub count: u32,
+    pub ranks: [u8; 16],
+}
+
+// The front part of a buffer that is released: its length, the state after it, and whether the monitor may rest there.
+pub struct Front {
+    pub winning: bool,
+    pub count: usize,
+    pub state: usize,
+}
+
+// The refusing row of 11 to 13 (0: none), and the ranking of the symbols of a valid record.
+pub struct Entry {
+    pub refusal: u8,
+    pub ranking: Ranking,
+}
