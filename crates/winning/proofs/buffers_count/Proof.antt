@@ -1,7 +1,7 @@
 use Rattle.winning.proofs.Answers.{count-refused, count-given, rest-within, rest-small, rest-fits, rest-count}
 use Rattle.automaton.proofs.Facts.{valid-facts}
 use borrow.Author.Tests.{not-true, not-false}
-use mathlib.Core.Path.{_≡_, sym, _∙_, ap}
+use mathlib.Core.Path.{sym, _∙_}
 use native.Mathlib.Omega.{arith}
 use borrow.Author.Needs.{needs}
 use Rattle.winning.proofs.buffers_count.Statement.{statement}
@@ -11,7 +11,7 @@ use Rattle.winning.proofs.buffers_count.Lts as lts
 use Rattle.automaton.proofs.valid.Reads as valid-reads
 use Rattle.base.proofs.size.Reads as size-reads
 use Rattle.winning.proofs.buffers_to.Reads as buffers-to-reads
-use Rattle.winning.proofs.refinement.uncontrollable.Reads as uncontrollable-reads
+use Rattle.refinement.proofs.uncontrollable.Reads as uncontrollable-reads
 
 -- src/lib.rt:44:9
 valid-requires : tie.Need-valid-requires

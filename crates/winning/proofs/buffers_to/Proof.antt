@@ -1,6 +1,6 @@
 use Rattle.winning.proofs.Answers.{Counting, count-one, count-more, count-fits}
 use mathlib.Core.Path.{_≡_}
-use Prim.Native.Nat.{ℕ, _+_, _*_, _≤_, _-_}
+use Prim.Native.Nat.{_≤_, _-_}
 use native.Mathlib.Omega.{arith}
 use borrow.Author.Needs.{needs}
 use Rattle.winning.proofs.buffers_to.Statement.{statement}

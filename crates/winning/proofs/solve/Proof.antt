@@ -1,8 +1,4 @@
 use Rattle.winning.proofs.Answers.{refused-count, given-count, solve-invalid, solve-short, solve-done}
-use Rattle.sets.specs.Table.{buffersCount}
-use lib.ListN.{length}
-use mathlib.Core.Path.{_≡_, refl, sym, _∙_, ap}
-use Prim.Native.Nat.{_≤_, _*_}
 use native.Mathlib.Omega.{arith}
 use borrow.Author.Needs.{needs}
 use Rattle.winning.proofs.solve.Statement.{statement}
@@ -10,7 +6,7 @@ use Rattle.winning.proofs.solve.Tie as tie
 use Rattle.winning.proofs.solve.Reads as reads
 use Rattle.winning.proofs.solve.Lts as lts
 use Rattle.winning.proofs.buffers_count.Reads as buffers-count-reads
-use Rattle.winning.proofs.table.fill.Reads as fill-reads
+use Rattle.winning.proofs.fill.Reads as fill-reads
 
 -- src/lib.rt:62:9
 buffers-count-requires : tie.Need-buffers-count-requires
