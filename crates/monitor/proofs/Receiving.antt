@@ -42,10 +42,10 @@ module _ (a : Automaton) (t : List ℕ) (c : Configuration) where
   receive-stands e n g z = refused-is e n (rows-stand a t c (eventRows a (heldEvents c) e) (rw g at z) ∙ sym g) z
 
   module _ (k : Clear a t c) where
-    facts : Valid a
+    pub facts : Valid a
     facts = valid-facts a (k .record-valid)
 
-    place : Consistent a c
+    pub place : Consistent a c
     place = consistent-facts a c facts (k .configuration-consistent)
 
     event-row : (e n : ℕ) → eventRefusal a (heldEvents c) e ≡ n → receiveRefusal a t c e ≡ n

@@ -11,9 +11,6 @@ use native.Mathlib.Omega.{arith}
 use borrow.Author.Needs.{needs}
 use Rattle.refinement.proofs.accepting_states.Statement.{statement}
 use Rattle.refinement.proofs.accepting_states.Tie as tie
-use Rattle.refinement.proofs.accepting_states.Reads as reads
-use Rattle.refinement.proofs.accepting_states.Lts as lts
-use Rattle.base.proofs.bit.Reads as bit-reads
 
 abbrev Inv-loop : tie.InvT-loop
 Inv-loop flags n set₀ q₀ set q = (q ≤ n) × (set ≡ mask q (λ q. eqb (getD flags q 0) 1))
@@ -21,36 +18,28 @@ Inv-loop flags n set₀ q₀ set q = (q ≤ n) × (set ≡ mask q (λ q. eqb (ge
 abbrev μ-loop : tie.MeasureT-loop
 μ-loop flags n set₀ q₀ set q = n - q
 
--- src/lib.rt:21:5
 loop-holds : tie.Need-loop-holds Inv-loop μ-loop
 unfolding mask
 loop-holds c = (omega arith, refl)
 
--- src/lib.rt:22:12
 element-copy-out-if1 : tie.Need-element-copy-out-if1 Inv-loop μ-loop
 element-copy-out-if1 c = search needs
 
--- src/lib.rt:23:25
 bit-requires : tie.Need-bit-requires Inv-loop μ-loop
 bit-requires c κs = search needs
 
--- src/lib.rt:23:19
 add-set : tie.Need-add-set Inv-loop μ-loop
 add-set c = omega (arith, mask-room _ _ _ (c .before .before .before .before .loop .inv .1) 32 (omega arith) (c .bit .ensures))
 
--- src/lib.rt:25:13
 add-q : tie.Need-add-q Inv-loop μ-loop
 add-q c = search needs
 
--- src/lib.rt:21:5
 loop-less : tie.Need-loop-less Inv-loop μ-loop
 loop-less c = search needs
 
--- src/lib.rt:21:5
 loop-again : tie.Need-loop-again Inv-loop μ-loop
 loop-again c = (omega arith, ⊎-elim (λ w. w .2 ∙ mask-adds _ _ _ (c .before .before .before .loop .inv .1) (w .1 .ensures) (eq-eqb _ _ (w .0 .taken))) (λ w. w .1 ∙ mask-passes _ _ _ (c .before .before .before .loop .inv .1) (ne-eqb _ _ (w .0 .left))) (c .if1 .came))
 
--- src/lib.rt:15:1
 returns : tie.Need-returns Inv-loop μ-loop
 unfolding flagged
 returns c = let e : c .before .loop .q ≡ c .before .before .args .n = omega arith in rw e at (c .before .loop .inv .1)

@@ -9,11 +9,6 @@ use native.Mathlib.Omega.{arith}
 use borrow.Author.Needs.{needs}
 use Rattle.refinement.proofs.predecessors.Statement.{statement}
 use Rattle.refinement.proofs.predecessors.Tie as tie
-use Rattle.refinement.proofs.predecessors.Reads as reads
-use Rattle.refinement.proofs.predecessors.Lts as lts
-use Rattle.base.proofs.bit.Reads as bit-reads
-use Rattle.base.proofs.has.Reads as has-reads
-use Rattle.base.proofs.size.Reads as size-reads
 
 abbrev Inv-loop : tie.InvT-loop
 Inv-loop next n symbol goal set₀ q₀ set q = (q ≤ n) × (set ≡ mask q (λ q. has goal (goes next q symbol)))
@@ -21,52 +16,40 @@ Inv-loop next n symbol goal set₀ q₀ set q = (q ≤ n) × (set ≡ mask q (λ
 abbrev μ-loop : tie.MeasureT-loop
 μ-loop next n symbol goal set₀ q₀ set q = n - q
 
--- src/lib.rt:104:5
 loop-holds : tie.Need-loop-holds Inv-loop μ-loop
 unfolding mask
 loop-holds c = (omega arith, refl)
 
--- src/lib.rt:105:32
 mul-size : tie.Need-mul-size Inv-loop μ-loop
 mul-size c = search needs
 
--- src/lib.rt:105:32
 add-size : tie.Need-add-size Inv-loop μ-loop
 add-size c = search needs
 
--- src/lib.rt:105:27
 element-copy-out-size : tie.Need-element-copy-out-size Inv-loop μ-loop
 element-copy-out-size c = search needs
 
--- src/lib.rt:105:22
 size-requires : tie.Need-size-requires Inv-loop μ-loop
 size-requires c κs = search needs
 
--- src/lib.rt:105:12
 has-requires : tie.Need-has-requires Inv-loop μ-loop
 has-requires c κs = omega (arith, c .size .ensures .0, c .before .before .before .before .pre .1 (c .before .before .before .loop .q * 16 + c .before .before .before .before .args .symbol))
 
--- src/lib.rt:106:25
 bit-requires : tie.Need-bit-requires Inv-loop μ-loop
 bit-requires c κs = search needs
 
--- src/lib.rt:106:19
 add-set : tie.Need-add-set Inv-loop μ-loop
 add-set c = omega (arith, mask-room _ _ _ (c .before .before .before .before .before .before .loop .inv .1) 32 (omega arith) (c .bit .ensures))
 
--- src/lib.rt:108:13
 add-q : tie.Need-add-q Inv-loop μ-loop
 add-q c = search needs
 
--- src/lib.rt:104:5
 loop-less : tie.Need-loop-less Inv-loop μ-loop
 loop-less c = search needs
 
--- src/lib.rt:104:5
 loop-again : tie.Need-loop-again Inv-loop μ-loop
 loop-again c = let leads = c .before .has .ensures ∙ ap (has _) (c .before .before .size .ensures .0) in (omega arith, ⊎-elim (λ w. w .2 ∙ mask-adds _ _ _ (c .before .before .before .before .before .loop .inv .1) (w .1 .ensures) (sym leads ∙ w .0 .taken)) (λ w. w .1 ∙ mask-passes _ _ _ (c .before .before .before .before .before .loop .inv .1) (sym leads ∙ w .0 .left)) (c .if1 .came))
 
--- src/lib.rt:98:1
 returns : tie.Need-returns Inv-loop μ-loop
 unfolding predecessors
 returns c = let e : c .before .loop .q ≡ c .before .before .args .n = omega arith in rw e at (c .before .loop .inv .1)

@@ -13,11 +13,6 @@ use native.Mathlib.Omega.{arith}
 use borrow.Author.Needs.{needs}
 use Rattle.refinement.proofs.refine.Statement.{statement}
 use Rattle.refinement.proofs.refine.Tie as tie
-use Rattle.refinement.proofs.refine.Reads as reads
-use Rattle.refinement.proofs.refine.Lts as lts
-use Rattle.base.proofs.bit.Reads as bit-reads
-use Rattle.base.proofs.has.Reads as has-reads
-use Rattle.base.proofs.size.Reads as size-reads
 
 abbrev Inv-scan : tie.InvT-scan
 Inv-scan next free n u intermediate set kept q safe k₀ k = (k ≤ u) × (leads next free k (bitOr set intermediate) q ≡ true)
@@ -31,80 +26,61 @@ Inv-loop next free n u intermediate set kept₀ q₀ kept q = (q ≤ n) × (kept
 abbrev μ-loop : tie.MeasureT-loop
 μ-loop next free n u intermediate set kept₀ q₀ kept q = n - q
 
--- src/lib.rt:59:5
 loop-holds : tie.Need-loop-holds Inv-scan μ-scan Inv-loop μ-loop
 unfolding mask
 loop-holds c = (omega arith, refl)
 
--- src/lib.rt:60:12
 has-requires : tie.Need-has-requires Inv-scan μ-scan Inv-loop μ-loop
 has-requires c κs = search needs
 
--- src/lib.rt:62:13
 scan-holds : tie.Need-scan-holds Inv-scan μ-scan Inv-loop μ-loop
 scan-holds c = (omega arith, scan-none _ _ _ _)
 
--- src/lib.rt:63:41
 mul-size : tie.Need-mul-size Inv-scan μ-scan Inv-loop μ-loop
 mul-size c = search needs
 
--- src/lib.rt:63:55
 element-copy-out-size : tie.Need-element-copy-out-size Inv-scan μ-scan Inv-loop μ-loop
 element-copy-out-size c = search needs
 
--- src/lib.rt:63:50
 size-requires : tie.Need-size-requires Inv-scan μ-scan Inv-loop μ-loop
 size-requires c κs = search needs
 
--- src/lib.rt:63:41
 add-size : tie.Need-add-size Inv-scan μ-scan Inv-loop μ-loop
 add-size c = omega (arith, c .size .ensures .0, c .before .before .before .before .before .before .before .before .pre .free-below (c .before .before .before .scan .k))
 
--- src/lib.rt:63:36
 element-copy-out-size-2 : tie.Need-element-copy-out-size-2 Inv-scan μ-scan Inv-loop μ-loop
 element-copy-out-size-2 c = omega (arith, c .size .ensures .0, c .before .before .before .before .before .before .before .before .pre .free-below (c .before .before .before .scan .k))
 
--- src/lib.rt:63:31
 size-requires-2 : tie.Need-size-requires-2 Inv-scan μ-scan Inv-loop μ-loop
 size-requires-2 c κs = search needs
 
--- src/lib.rt:63:21
 has-requires-2 : tie.Need-has-requires-2 Inv-scan μ-scan Inv-loop μ-loop
 has-requires-2 c κs = omega (arith, c .size2 .ensures .0, c .before .before .before .before .before .before .before .before .before .before .pre .next-below (c .before .before .before .before .before .before .before .before .before .loop .q * 16 + c .before .before .size .result))
 
--- src/lib.rt:66:21
 add-k : tie.Need-add-k Inv-scan μ-scan Inv-loop μ-loop
 add-k c = search needs
 
--- src/lib.rt:62:13
 scan-less : tie.Need-scan-less Inv-scan μ-scan Inv-loop μ-loop
 scan-less c = search needs
 
--- src/lib.rt:62:13
 scan-again : tie.Need-scan-again Inv-scan μ-scan Inv-loop μ-loop
 scan-again c = let state = c .before .before .size2 .ensures .0 ∙ ap (λ e. goes (c .before .before .before .before .before .before .before .before .before .before .before .before .args .next .now) (c .before .before .before .before .before .before .before .before .before .before .before .loop .q) e) (c .before .before .before .before .size .ensures .0) in (omega arith, scan-more _ _ _ _ _ (c .before .before .before .before .before .before .before .scan .inv .1) (sym (c .before .has2 .ensures ∙ ap (has _) state) ∙ not-false _ (c .if2 .left)))
 
--- src/lib.rt:69:31
 bit-requires : tie.Need-bit-requires Inv-scan μ-scan Inv-loop μ-loop
 bit-requires c κs = search needs
 
--- src/lib.rt:69:24
 add-kept : tie.Need-add-kept Inv-scan μ-scan Inv-loop μ-loop
 add-kept c = omega (arith, mask-room _ _ _ (c .before .before .before .before .before .before .before .loop .inv .1) 32 (omega arith) (c .bit .ensures))
 
--- src/lib.rt:72:13
 add-q : tie.Need-add-q Inv-scan μ-scan Inv-loop μ-loop
 add-q c = search needs
 
--- src/lib.rt:59:5
 loop-less : tie.Need-loop-less Inv-scan μ-scan Inv-loop μ-loop
 loop-less c = search needs
 
--- src/lib.rt:59:5
 loop-again : tie.Need-loop-again Inv-scan μ-scan Inv-loop μ-loop
 loop-again c = let a = c .before .before .before .before .args in let q = c .before .before .before .loop .q in let so-far = c .before .before .before .loop .inv .1 in (omega arith, ⊎-elim (λ w. w .5 ∙ mask-adds _ _ _ so-far (w .4 .ensures) (and-both (sym (c .before .has .ensures) ∙ w .0 .taken) (ap (λ k. leads _ _ k _ _) (sym (w .3 .taken)) ∙ w .1 .inv .1))) (⊎-elim (λ w. w .4 ∙ mask-passes _ _ _ so-far (and-right-false (has (a .set) q) (⊎-elim (λ x. absurd {A = leads (a .next .now) (a .free .now) (a .u) (bitOr (a .set) (a .intermediate)) q ≡ false} (w .3 .left (omega arith))) (λ x. let state = x .4 .ensures .0 ∙ ap (λ e. goes (a .next .now) q e) (x .2 .ensures .0) in scan-fails _ _ _ _ (w .1 .k) _ (x .0 .taken) (sym (x .5 .ensures ∙ ap (has _) state) ∙ not-true _ (x .6 .taken))) (w .2 .came)))) (λ w. w .1 ∙ mask-passes _ _ _ so-far (and-left-false _ (sym (c .before .has .ensures) ∙ w .0 .left)))) (c .if1 .came))
 
--- src/lib.rt:52:1
 returns : tie.Need-returns Inv-scan μ-scan Inv-loop μ-loop
 unfolding leftOf
 returns c = let e : c .before .loop .q ≡ c .before .before .args .n = omega arith in rw e at (c .before .loop .inv .1)

@@ -5,9 +5,6 @@ use native.Mathlib.Omega.{arith}
 use borrow.Author.Needs.{needs}
 use Rattle.refinement.proofs.settle.Statement.{statement}
 use Rattle.refinement.proofs.settle.Tie as tie
-use Rattle.refinement.proofs.settle.Reads as reads
-use Rattle.refinement.proofs.settle.Lts as lts
-use Rattle.refinement.proofs.refine.Reads as refine-reads
 
 abbrev Inv-loop : tie.InvT-loop
 Inv-loop next free n u intermediate from set₀ rounds₀ set rounds = Striking (leftOf next free n u intermediate) from set rounds
@@ -15,27 +12,21 @@ Inv-loop next free n u intermediate from set₀ rounds₀ set rounds = Striking 
 abbrev μ-loop : tie.MeasureT-loop
 μ-loop next free n u intermediate from set₀ rounds₀ set rounds = set
 
--- src/lib.rt:84:5
 loop-holds : tie.Need-loop-holds Inv-loop μ-loop
 loop-holds c = strike-none _ _
 
--- src/lib.rt:85:13
 refine-requires : tie.Need-refine-requires Inv-loop μ-loop
 refine-requires c κs = search needs
 
--- src/lib.rt:93:18
 add-rounds : tie.Need-add-rounds Inv-loop μ-loop
 add-rounds c = omega (arith, c .before .before .loop .inv .few, strike-smaller _ (left-le _ _ _ _ _) _ _ _ _ (c .before .before .loop .inv) (c .before .refine .ensures) (c .if1 .left))
 
--- src/lib.rt:84:5
 loop-less : tie.Need-loop-less Inv-loop μ-loop
 loop-less c = strike-smaller _ (left-le _ _ _ _ _) _ _ _ _ (c .before .before .loop .inv) (c .before .refine .ensures) (c .if1 .left)
 
--- src/lib.rt:84:5
 loop-again : tie.Need-loop-again Inv-loop μ-loop
 loop-again c = strike-more _ (left-le _ _ _ _ _) _ _ _ _ (c .before .before .loop .inv) (c .before .refine .ensures) (c .if1 .left)
 
--- src/lib.rt:78:1
 returns : tie.Need-returns Inv-loop μ-loop
 unfolding settledOn
 returns c = strike-done _ (left-le _ _ _ _ _) _ _ _ _ (c .before .before .loop .inv) (c .before .refine .ensures) (c .if1 .taken)

@@ -10,9 +10,6 @@ use native.Mathlib.Omega.{arith}
 use borrow.Author.Needs.{needs}
 use Rattle.refinement.proofs.uncontrollable.Statement.{statement}
 use Rattle.refinement.proofs.uncontrollable.Tie as tie
-use Rattle.refinement.proofs.uncontrollable.Reads as reads
-use Rattle.refinement.proofs.uncontrollable.Lts as lts
-use Rattle.base.proofs.size.Reads as size-reads
 
 abbrev Inv-loop : tie.InvT-loop
 Inv-loop classes m list₀ count₀ e₀ list count e = (e ≤ m) × Listed classes e list count
@@ -20,44 +17,34 @@ Inv-loop classes m list₀ count₀ e₀ list count e = (e ≤ m) × Listed clas
 abbrev μ-loop : tie.MeasureT-loop
 μ-loop classes m list₀ count₀ e₀ list count e = m - e
 
--- src/lib.rt:37:5
 loop-holds : tie.Need-loop-holds Inv-loop μ-loop
 unfolding freeTo pad
 loop-holds c = (omega arith, record { stored = refl; counted = refl })
 
--- src/lib.rt:37:11
 size-requires : tie.Need-size-requires Inv-loop μ-loop
 size-requires c κs = search needs
 
--- src/lib.rt:38:20
 size-requires-2 : tie.Need-size-requires-2 Inv-loop μ-loop
 size-requires-2 c κs = search needs
 
--- src/lib.rt:38:12
 element-copy-out-if2 : tie.Need-element-copy-out-if2 Inv-loop μ-loop
 element-copy-out-if2 c = search needs
 
--- src/lib.rt:39:13
 array-write-list : tie.Need-array-write-list Inv-loop μ-loop
 array-write-list c = omega (arith, listed-room _ _ _ _ (c .before .before .before .before .before .loop .inv .1))
 
--- src/lib.rt:40:21
 add-count : tie.Need-add-count Inv-loop μ-loop
 add-count c = omega (arith, listed-room _ _ _ _ (c .before .before .before .before .before .loop .inv .1))
 
--- src/lib.rt:42:13
 add-e : tie.Need-add-e Inv-loop μ-loop
 add-e c = search needs
 
--- src/lib.rt:37:5
 loop-less : tie.Need-loop-less Inv-loop μ-loop
 loop-less c = search needs
 
--- src/lib.rt:37:5
 loop-again : tie.Need-loop-again Inv-loop μ-loop
 loop-again c = let class = ap (λ i. getD (c .before .before .before .before .before .before .args .classes .now) i 0) (c .before .before .size2 .ensures .0) in (omega arith, ⊎-elim (λ w. rw (w .1, w .2) (listed-more _ _ _ _ (c .before .before .before .before .before .loop .inv .1) (omega arith) (λ h. w .0 .taken (class ∙ h)))) (λ w. rw (w .1, w .2) (listed-same _ _ _ _ (c .before .before .before .before .before .loop .inv .1) (sym class ∙ w .0 .left))) (c .if2 .came))
 
--- src/lib.rt:30:1
 returns : tie.Need-returns Inv-loop μ-loop
 returns c = listed-all _ _ _ _ (c .before .before .loop .inv .1) _ (omega arith)
 

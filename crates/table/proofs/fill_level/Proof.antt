@@ -8,9 +8,6 @@ use native.Mathlib.Omega.{arith}
 use borrow.Author.Needs.{needs}
 use Rattle.table.proofs.fill_level.Statement.{statement}
 use Rattle.table.proofs.fill_level.Tie as tie
-use Rattle.table.proofs.fill_level.Reads as reads
-use Rattle.table.proofs.fill_level.Lts as lts
-use Rattle.table.proofs.fill_row.Reads as fill-row-reads
 
 abbrev Inv-loop : tie.InvT-loop
 Inv-loop next free classes n m u accepting table₀ from count at₀ rounds₀ e₀ table at rounds e = (e ≤ m) × Levelling (setsFrom next free n u accepting) classes table₀ from count e table at rounds
@@ -18,55 +15,42 @@ Inv-loop next free classes n m u accepting table₀ from count at₀ rounds₀ e
 abbrev μ-loop : tie.MeasureT-loop
 μ-loop next free classes n m u accepting table₀ from count at₀ rounds₀ e₀ table at rounds e = m - e
 
--- src/lib.rt:85:25
 mul-at : tie.Need-mul-at Inv-loop μ-loop
 mul-at c = search needs
 
--- src/lib.rt:85:18
 add-at : tie.Need-add-at Inv-loop μ-loop
 add-at c = search needs
 
--- src/lib.rt:88:5
 loop-holds : tie.Need-loop-holds Inv-loop μ-loop
 loop-holds c = (omega arith, level-none _ _ _ _ _)
 
--- src/lib.rt:89:12
 element-copy-out-if1 : tie.Need-element-copy-out-if1 Inv-loop μ-loop
 element-copy-out-if1 c = search needs
 
--- src/lib.rt:90:17
 fill-row-requires : tie.Need-fill-row-requires Inv-loop μ-loop
 fill-row-requires c κs = let s = c .before .before .before .before .before .before in let a = s .args in let v = c .before .before .before .before .loop .inv .1 in let room = level-room (setsFrom (a .next .now) (a .free .now) (a .n) (a .u) (a .accepting)) (a .classes .now) (a .table .now) (a .from) (a .count) (c .before .before .before .before .loop .e) (a .m) (omega arith) (c .before .if1 .taken) in (s .pre .0, s .pre .1, omega arith, omega (arith, v .place), omega (arith, v .place, v .same, s .pre .4), omega arith)
 
--- src/lib.rt:91:22
 add-rounds : tie.Need-add-rounds Inv-loop μ-loop
 add-rounds c = let s = c .before .before .before .before .before .before .before .before .before in let a = s .args in let v = c .before .before .before .before .before .before .before .loop .inv .1 in let few = sets-few (a .next .now) (a .free .now) (a .n) (a .u) (a .accepting) (s .pre .0 .states) (s .pre .1) in omega (arith, level-fits _ _ _ _ _ _ _ _ _ v few (omega arith), row-few (setsFrom (a .next .now) (a .free .now) (a .n) (a .u) (a .accepting) (c .before .before .before .before .before .before .before .loop .e)) (few (c .before .before .before .before .before .before .before .loop .e)) (c .before .before .before .before .before .before .before .loop .table) (a .from) (a .count), c .before .before .fill-row .ensures .1)
 
--- src/lib.rt:92:23
 mul-at-2 : tie.Need-mul-at-2 Inv-loop μ-loop
 mul-at-2 c = search needs
 
--- src/lib.rt:92:18
 add-at-2 : tie.Need-add-at-2 Inv-loop μ-loop
 add-at-2 c = let s = c .before .before .before .before .before .before .before .before .before in let a = s .args in let v = c .before .before .before .before .before .before .before .loop .inv .1 in let room = level-room (setsFrom (a .next .now) (a .free .now) (a .n) (a .u) (a .accepting)) (a .classes .now) (a .table .now) (a .from) (a .count) (c .before .before .before .before .before .before .before .loop .e) (a .m) (omega arith) (c .before .before .before .before .if1 .taken) in omega (arith, v .place, s .pre .4)
 
--- src/lib.rt:94:13
 add-e : tie.Need-add-e Inv-loop μ-loop
 add-e c = search needs
 
--- src/lib.rt:88:5
 loop-less : tie.Need-loop-less Inv-loop μ-loop
 loop-less c = search needs
 
--- src/lib.rt:88:5
 loop-again : tie.Need-loop-again Inv-loop μ-loop
 loop-again c = let v = c .before .before .before .loop .inv .1 in (omega arith, ⊎-elim (λ w. rw (w .5, w .6, w .7) (level-more _ _ _ _ _ _ _ _ _ v (w .0 .taken) _ _ (search needs) (w .2 .ensures .0) (w .2 .ensures .1))) (λ w. rw (w .1, w .2, w .3) (level-same _ _ _ _ _ _ _ _ _ v (w .0 .left))) (c .if1 .came))
 
--- src/lib.rt:70:1
 same-length : tie.Need-same-length Inv-loop μ-loop
 same-length c = c .before .loop .inv .1 .same
 
--- src/lib.rt:70:1
 returns : tie.Need-returns Inv-loop μ-loop
 returns c = let e : c .before .loop .e ≡ c .before .before .before .args .m = omega arith in (rw e at (c .before .loop .inv .1 .written), rw e at (c .before .loop .inv .1 .summed))
 

@@ -8,9 +8,6 @@ use native.Mathlib.Omega.{arith}
 use borrow.Author.Needs.{needs}
 use Rattle.table.proofs.fill_row.Statement.{statement}
 use Rattle.table.proofs.fill_row.Tie as tie
-use Rattle.table.proofs.fill_row.Reads as reads
-use Rattle.table.proofs.fill_row.Lts as lts
-use Rattle.table.proofs.sets_from.Reads as sets-from-reads
 
 abbrev Inv-loop : tie.InvT-loop
 Inv-loop next free n u accepting symbol table₀ from to count known₀ last₀ rounds₀ j₀ table known last rounds j =
@@ -19,95 +16,72 @@ Inv-loop next free n u accepting symbol table₀ from to count known₀ last₀ 
 abbrev μ-loop : tie.MeasureT-loop
 μ-loop next free n u accepting symbol table₀ from to count known₀ last₀ rounds₀ j₀ table known last rounds j = count - j
 
--- src/lib.rt:48:9
 sets-from-requires : tie.Need-sets-from-requires Inv-loop μ-loop
 sets-from-requires c κs = search needs
 
--- src/lib.rt:51:5
 loop-holds : tie.Need-loop-holds Inv-loop μ-loop
 loop-holds c = (omega arith, fill-none _ _ _ _ _ _ (c .sets-from .ensures))
 
--- src/lib.rt:52:24
 mul-i : tie.Need-mul-i Inv-loop μ-loop
 mul-i c = search needs
 
--- src/lib.rt:52:17
 add-i : tie.Need-add-i Inv-loop μ-loop
 add-i c = search needs
 
--- src/lib.rt:53:20
 mul-goal : tie.Need-mul-goal Inv-loop μ-loop
 mul-goal c = search needs
 
--- src/lib.rt:53:20
 slice-read-goal : tie.Need-slice-read-goal Inv-loop μ-loop
 slice-read-goal c = omega arith
 
--- src/lib.rt:53:37
 add-goal : tie.Need-add-goal Inv-loop μ-loop
 add-goal c = search needs
 
--- src/lib.rt:53:31
 mul-goal-2 : tie.Need-mul-goal-2 Inv-loop μ-loop
 mul-goal-2 c = search needs
 
--- src/lib.rt:53:31
 slice-read-goal-2 : tie.Need-slice-read-goal-2 Inv-loop μ-loop
 slice-read-goal-2 c = omega arith
 
--- src/lib.rt:55:17
 sets-from-requires-2 : tie.Need-sets-from-requires-2 Inv-loop μ-loop
 sets-from-requires-2 c κs = search needs
 
--- src/lib.rt:59:22
 mul-o : tie.Need-mul-o Inv-loop μ-loop
 mul-o c = search needs
 
--- src/lib.rt:59:17
 add-o : tie.Need-add-o Inv-loop μ-loop
 add-o c = search needs
 
--- src/lib.rt:60:9
 mul-table : tie.Need-mul-table Inv-loop μ-loop
 mul-table c = search needs
 
--- src/lib.rt:60:9
 slice-write-table : tie.Need-slice-write-table Inv-loop μ-loop
 slice-write-table c = omega arith
 
--- src/lib.rt:61:15
 add-table : tie.Need-add-table Inv-loop μ-loop
 add-table c = search needs
 
--- src/lib.rt:61:9
 mul-table-2 : tie.Need-mul-table-2 Inv-loop μ-loop
 mul-table-2 c = search needs
 
--- src/lib.rt:61:9
 slice-write-table-2 : tie.Need-slice-write-table-2 Inv-loop μ-loop
 slice-write-table-2 c = simp length-set (omega arith)
 
--- src/lib.rt:62:18
 add-rounds : tie.Need-add-rounds Inv-loop μ-loop
 add-rounds c = let a = c .before .before .before .before .before .before .before .before .args in let v = c .before .before .before .before .before .loop .inv .1 in let p = c .before .before .before .before .before .before .before .before .pre in omega (arith, fill-fits _ _ _ _ _ _ _ _ _ v (omega arith) _ _ (⊎-elim (λ w. known-new _ _ _ _ _ (w .2) (w .3) (w .1 .ensures)) (λ w. known-old _ _ _ _ _ _ (w .0 .left) (v .remembered) (w .1) (w .2)) (c .before .if1 .came)) (sets-few _ _ _ _ _ (p .0 .states) (p .1) (a .symbol)))
 
--- src/lib.rt:63:13
 add-j : tie.Need-add-j Inv-loop μ-loop
 add-j c = search needs
 
--- src/lib.rt:51:5
 loop-less : tie.Need-loop-less Inv-loop μ-loop
 loop-less c = search needs
 
--- src/lib.rt:51:5
 loop-again : tie.Need-loop-again Inv-loop μ-loop
 loop-again c = let v = c .before .before .before .before .before .loop .inv .1 in (omega arith, fill-more _ _ _ _ _ _ _ _ _ v (omega arith) _ _ (⊎-elim (λ w. known-new _ _ _ _ _ (w .2) (w .3) (w .1 .ensures)) (λ w. known-old _ _ _ _ _ _ (w .0 .left) (v .remembered) (w .1) (w .2)) (c .before .if1 .came)))
 
--- src/lib.rt:32:1
 same-length : tie.Need-same-length Inv-loop μ-loop
 same-length c = c .before .loop .inv .1 .same
 
--- src/lib.rt:32:1
 returns : tie.Need-returns Inv-loop μ-loop
 returns c = let e : c .before .loop .j ≡ c .before .before .before .before .args .count = omega arith in (rw e at (c .before .loop .inv .1 .written), rw e at (c .before .loop .inv .1 .summed))
 

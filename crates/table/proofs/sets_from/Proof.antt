@@ -4,20 +4,13 @@ use mathlib.Core.Path.{_∙_, ap}
 use borrow.Author.Needs.{needs}
 use Rattle.table.proofs.sets_from.Statement.{statement}
 use Rattle.table.proofs.sets_from.Tie as tie
-use Rattle.table.proofs.sets_from.Reads as reads
-use Rattle.table.proofs.sets_from.Lts as lts
-use Rattle.refinement.proofs.predecessors.Reads as predecessors-reads
-use Rattle.refinement.proofs.settle.Reads as settle-reads
 
--- src/lib.rt:21:9
 predecessors-requires : tie.Need-predecessors-requires
 predecessors-requires c κs = search needs
 
--- src/lib.rt:22:9
 settle-requires : tie.Need-settle-requires
 settle-requires c κs = search needs
 
--- src/lib.rt:17:1
 returns : tie.Need-returns
 unfolding setsFrom
 returns c = let a = c .before .before .args in let i = c .before .predecessors .ensures in let r = c .settle .ensures ∙ ap (λ i. settledOn (a .next .now) (a .free .now) (a .n) (a .u) i (a .accepting)) i in λ j. record { winning = r j .set; intermediate = i j; rounds = r j .rounds }

@@ -9,13 +9,6 @@ use native.Mathlib.Omega.{arith}
 use borrow.Author.Needs.{needs}
 use Rattle.winning.proofs.fill.Statement.{statement}
 use Rattle.winning.proofs.fill.Tie as tie
-use Rattle.winning.proofs.fill.Reads as reads
-use Rattle.winning.proofs.fill.Lts as lts
-use Rattle.base.proofs.size.Reads as size-reads
-use Rattle.refinement.proofs.accepting_states.Reads as accepting-states-reads
-use Rattle.refinement.proofs.settle.Reads as settle-reads
-use Rattle.refinement.proofs.uncontrollable.Reads as uncontrollable-reads
-use Rattle.table.proofs.fill_level.Reads as fill-level-reads
 
 abbrev Inv-loop : tie.InvT-loop
 Inv-loop table₀ a n m capacity accepting free u rounds₀ from₀ count₀ length₀ table rounds from count length =
@@ -24,83 +17,63 @@ Inv-loop table₀ a n m capacity accepting free u rounds₀ from₀ count₀ len
 abbrev μ-loop : tie.MeasureT-loop
 μ-loop table₀ a n m capacity accepting free u rounds₀ from₀ count₀ length₀ table rounds from count length = capacity - length
 
--- src/lib.rt:104:9
 size-requires : tie.Need-size-requires Inv-loop μ-loop
 size-requires c κs = search needs
 
--- src/lib.rt:105:9
 size-requires-2 : tie.Need-size-requires-2 Inv-loop μ-loop
 size-requires-2 c κs = search needs
 
--- src/lib.rt:106:9
 size-requires-3 : tie.Need-size-requires-3 Inv-loop μ-loop
 size-requires-3 c κs = search needs
 
--- src/lib.rt:107:9
 accepting-states-requires : tie.Need-accepting-states-requires Inv-loop μ-loop
 accepting-states-requires c κs = omega (arith, c .before .before .before .before .size .ensures .0, valid-facts _ (c .before .before .before .before .before .before .pre .0) .states-high)
 
--- src/lib.rt:108:16
 uncontrollable-requires : tie.Need-uncontrollable-requires Inv-loop μ-loop
 uncontrollable-requires c κs = omega (arith, c .before .before .before .before .before .before .size2 .ensures .0, valid-facts _ (c .before .before .before .before .before .before .before .before .before .pre .0) .symbols-high)
 
--- src/lib.rt:110:9
 settle-requires : tie.Need-settle-requires Inv-loop μ-loop
 settle-requires c κs = lent-of _ _ _ _ _ _ (c .before .before .before .before .before .before .before .before .before .before .before .before .before .before .pre .0) (c .before .before .before .before .before .before .before .before .before .before .before .before .size .ensures .0) (c .before .before .before .before .before .before .before .before .before .before .before .size2 .ensures .0) (c .before .before .before .before .before .before .before .before .before .before .size3 .ensures .0) (c .before .before .before .before .before .before .before .accepting-states .ensures) (c .before .before .before .before .uncontrollable .ensures) .fits
 
--- src/lib.rt:111:5
 slice-write-table : tie.Need-slice-write-table Inv-loop μ-loop
 slice-write-table c = omega (arith, c .before .before .before .before .before .before .before .before .before .before .before .before .before .before .before .pre .1, some-buffer (c .before .before .before .before .before .before .before .before .before .before .before .before .before .before .before .args .t1))
 
--- src/lib.rt:112:5
 slice-write-table-2 : tie.Need-slice-write-table-2 Inv-loop μ-loop
 slice-write-table-2 c = simp length-set (omega (arith, c .before .before .before .before .before .before .before .before .before .before .before .before .before .before .before .pre .1, some-buffer (c .before .before .before .before .before .before .before .before .before .before .before .before .before .before .before .args .t1)))
 
--- src/lib.rt:117:5
 loop-holds : tie.Need-loop-holds Inv-loop μ-loop
 loop-holds c = let s = c .before .before .before .before .before .before .before .before .before .before .before .before .before .before .before in let lent = lent-of _ _ _ _ _ _ (s .pre .0) (c .before .before .before .before .before .before .before .before .before .before .before .before .before .size .ensures .0) (c .before .before .before .before .before .before .before .before .before .before .before .before .size2 .ensures .0) (c .before .before .before .before .before .before .before .before .before .before .before .size3 .ensures .0) (c .before .before .before .before .before .before .before .before .accepting-states .ensures) (c .before .before .before .before .before .uncontrollable .ensures) in (omega arith, rw (begun-length (s .args .t1) (s .args .table .now) (c .settle .result)) (s .pre .1), lent, length-none (s .args .t1) (s .args .table .now) (c .settle .result) (c .settle .ensures ∙ lent-settled _ _ _ _ _ _ lent))
 
--- src/lib.rt:118:13
 fill-level-requires : tie.Need-fill-level-requires Inv-loop μ-loop
 fill-level-requires c κs = let v = c .before .before .before .before .before .before .before .loop .inv in (v .2 .fits, lent-small _ _ _ _ _ _ (v .2), omega (arith, v .2 .symbols, v .2 .facts .symbols-high), length-small _ _ _ _ _ _ (v .2) _ (v .1) _ _ _ _ _ (v .3) (omega arith), length-room _ _ _ _ _ _ (v .2) _ (v .1) _ _ _ _ _ (v .3) (omega arith))
 
--- src/lib.rt:119:18
 add-rounds : tie.Need-add-rounds Inv-loop μ-loop
 add-rounds c = let v = c .before .before .before .before .before .before .before .before .before .before .loop .inv in let r = c .before .before .fill-level in let next = length-more _ _ _ _ _ _ (v .2) _ (v .1) _ _ _ _ _ (v .3) (omega arith) _ _ (search needs) (r .ensures .0) (r .ensures .1) in omega (arith, length-fits _ _ _ _ _ _ (v .2) _ (v .1) _ _ _ _ _ next (omega arith))
 
--- src/lib.rt:120:23
 mul-from : tie.Need-mul-from Inv-loop μ-loop
 mul-from c = let v = c .before .before .before .before .before .before .before .before .before .before .loop .inv in omega (arith, length-small _ _ _ _ _ _ (v .2) _ (v .1) _ _ _ _ _ (v .3) (omega arith))
 
--- src/lib.rt:120:16
 add-from : tie.Need-add-from Inv-loop μ-loop
 add-from c = let v = c .before .before .before .before .before .before .before .before .before .before .loop .inv in omega (arith, length-place _ _ _ _ _ _ (v .2) _ (v .1) _ _ _ _ _ (v .3) (omega arith))
 
--- src/lib.rt:121:26
 sub-count : tie.Need-sub-count Inv-loop μ-loop
 sub-count c = let v = c .before .before .before .before .before .before .before .before .before .before .loop .inv in lent-less _ _ _ _ _ _ (v .2)
 
--- src/lib.rt:121:17
 mul-count : tie.Need-mul-count Inv-loop μ-loop
 mul-count c = let v = c .before .before .before .before .before .before .before .before .before .before .loop .inv in omega (arith, length-next _ _ _ _ _ _ (v .2) _ (v .1) _ _ _ _ _ (v .3) (omega arith))
 
--- src/lib.rt:122:18
 add-length : tie.Need-add-length Inv-loop μ-loop
 add-length c = search needs
 
--- src/lib.rt:117:5
 loop-less : tie.Need-loop-less Inv-loop μ-loop
 loop-less c = search needs
 
--- src/lib.rt:117:5
 loop-again : tie.Need-loop-again Inv-loop μ-loop
 loop-again c = let v = c .before .before .before .before .before .before .before .before .before .before .loop .inv in let r = c .before .before .fill-level in (omega arith, v .1, v .2, length-more _ _ _ _ _ _ (v .2) _ (v .1) _ _ _ _ _ (v .3) (omega arith) _ _ (search needs) (r .ensures .0) (r .ensures .1))
 
--- src/lib.rt:100:1
 same-length : tie.Need-same-length Inv-loop μ-loop
 same-length c = c .before .loop .inv .3 .same ∙ begun-length (c .before .before .before .before .before .before .before .before .before .before .before .before .before .before .before .before .before .args .t1) (c .before .before .before .before .before .before .before .before .before .before .before .before .before .before .before .before .before .args .table .now) (c .before .before .settle .result)
 
--- src/lib.rt:100:1
 returns : tie.Need-returns Inv-loop μ-loop
 returns c = let v = c .before .loop .inv in let s = c .before .before .before .before .before .before .before .before .before .before .before .before .before .before .before .before .before .args in let r = length-all _ _ _ _ _ _ (v .2) _ (v .1) _ _ _ _ _ (v .3) (omega arith) in (r .0 ∙ ap (λ l. tableOf (s .t1) ++ l) (begun-rest (s .t1) (s .table .now) (c .before .before .settle .result)), r .1)
 
