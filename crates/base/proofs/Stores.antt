@@ -27,4 +27,3 @@ copy-more out list at from i h =
     let l : i < length (drop from list) = rw (length-drop from list) (omega arith) in
     sets-more out at i (getD list (from + i) 0) (take i (drop from list)) (length-take-le i (drop from list) (omega arith)) ∙
     rw (add-one i, take-suc (drop from list) i 0 l, getD-drop from list i 0)
-

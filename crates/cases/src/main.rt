@@ -138,21 +138,89 @@ fn rows() {
     read_sheet(b"row 6, 3 2 1 3", &[3, 2, 1, 3]);
     read_sheet(b"row 7, 3 2 1 0 2", &[3, 2, 1, 0, 2]);
     read_sheet(b"row 7, a flag of 2", &[3, 2, 1, 0, 0, 1, 1, 2]);
-    read_sheet(b"row 8, a ninth 1", &[1, 9, 1, 0, 1, 1, 1, 1, 1, 1, 1, 1, 1]);
-    read_sheet(b"row 8, then a 2", &[1, 10, 1, 0, 1, 1, 1, 1, 1, 1, 1, 1, 1, 2]);
-    read_sheet(b"row 7, then a ninth 1", &[1, 10, 1, 0, 2, 1, 1, 1, 1, 1, 1, 1, 1, 1]);
-    read_sheet(b"row 9, V with its last 2 as 3", &[3, 2, 1, 0, 0, 1, 1, 0, 1, 1, 0, 1, 2, 2, 3]);
-    read_sheet(b"row 10, V and a 0", &[3, 2, 1, 0, 0, 1, 1, 0, 1, 1, 0, 1, 2, 2, 2, 0]);
-    read_sheet(b"row 10, V and a 128", &[3, 2, 1, 0, 0, 1, 1, 0, 1, 1, 0, 1, 2, 2, 2, 128]);
+    read_sheet(
+        b"row 8, a ninth 1",
+        &[1, 9, 1, 0, 1, 1, 1, 1, 1, 1, 1, 1, 1],
+    );
+    read_sheet(
+        b"row 8, then a 2",
+        &[1, 10, 1, 0, 1, 1, 1, 1, 1, 1, 1, 1, 1, 2],
+    );
+    read_sheet(
+        b"row 7, then a ninth 1",
+        &[1, 10, 1, 0, 2, 1, 1, 1, 1, 1, 1, 1, 1, 1],
+    );
+    read_sheet(
+        b"row 9, V with its last 2 as 3",
+        &[3, 2, 1, 0, 0, 1, 1, 0, 1, 1, 0, 1, 2, 2, 3],
+    );
+    read_sheet(
+        b"row 10, V and a 0",
+        &[3, 2, 1, 0, 0, 1, 1, 0, 1, 1, 0, 1, 2, 2, 2, 0],
+    );
+    read_sheet(
+        b"row 10, V and a 128",
+        &[3, 2, 1, 0, 0, 1, 1, 0, 1, 1, 0, 1, 2, 2, 2, 128],
+    );
 }
 
 fn sheets() {
     read_sheet(b"V", &[3, 2, 1, 0, 0, 1, 1, 0, 1, 1, 0, 1, 2, 2, 2]);
-    read_sheet(b"V, padded", &[131, 0, 2, 1, 128, 128, 0, 0, 1, 1, 0, 1, 1, 0, 1, 2, 2, 130, 0]);
+    read_sheet(
+        b"V, padded",
+        &[
+            131,
+            0,
+            2,
+            1,
+            128,
+            128,
+            0,
+            0,
+            1,
+            1,
+            0,
+            1,
+            1,
+            0,
+            1,
+            2,
+            2,
+            130,
+            0,
+        ],
+    );
     read_sheet(
         b"W",
         &[
-            4, 4, 2, 0, 0, 0, 1, 1, 1, 1, 0, 0, 1, 0, 3, 0, 1, 0, 2, 1, 2, 3, 3, 1, 3, 3, 3, 3,
+            4,
+            4,
+            2,
+            0,
+            0,
+            0,
+            1,
+            1,
+            1,
+            1,
+            0,
+            0,
+            1,
+            0,
+            3,
+            0,
+            1,
+            0,
+            2,
+            1,
+            2,
+            3,
+            3,
+            1,
+            3,
+            3,
+            3,
+            3,
         ],
     );
     plain_sheet(b"32 states", 32, 1, 1, 66);
@@ -165,7 +233,29 @@ fn sheets() {
 }
 
 fn writing() {
-    let v = encoding::read(&[131, 0, 2, 1, 128, 128, 0, 0, 1, 1, 0, 1, 1, 0, 1, 2, 2, 130, 0]).automaton;
+    let v = encoding::read(
+        &[
+            131,
+            0,
+            2,
+            1,
+            128,
+            128,
+            0,
+            0,
+            1,
+            1,
+            0,
+            1,
+            1,
+            0,
+            1,
+            2,
+            2,
+            130,
+            0,
+        ],
+    ).automaton;
     let mut exact = [9u8; 15];
     write_sheet(b"V, padded, written into 15 bytes", v, &mut exact);
     let mut long = [9u8; 18];

@@ -53,7 +53,13 @@ module _ {next ranks : List ℕ} {k : ℕ} {t : List ℕ} {q : ℕ} {buffer : Li
   pub lent-moves : (p : ℕ) → p < 32 → Lent next ranks k t p buffer held
   lent-moves p h =
       record {
-        few = l .few; radix = l .radix; rank-high = l .rank-high; state-low = h; next-low = l .next-low; symbol-low = l .symbol-low; long = l .long;
+        few = l .few;
+        radix = l .radix;
+        rank-high = l .rank-high;
+        state-low = h;
+        next-low = l .next-low;
+        symbol-low = l .symbol-low;
+        long = l .long;
       }
 
 -- the front part that is copied, and what is left

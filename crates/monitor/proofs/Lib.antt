@@ -4,6 +4,7 @@ pub mod Answering
 pub mod Entries
 pub mod Tabled
 pub mod Receiving
+pub mod Days
 pub mod Release
 pub mod Effects
 pub mod Runs

@@ -82,7 +82,7 @@ module _ {ranks : List ℕ} {k : ℕ} {w places : List ℕ} {place weight i : �
       let s : suc j ≡ i = omega arith in
       let d : drop j w ≡ e ∷ drop i w = drop-cons w j 0 (omega (arith, g .within)) ∙ ap₂ (λ x n. x ∷ drop n w) (sym f) s in
       let p : place + getD ranks e 0 * weight ≡ placeIn ranks k (e ∷ drop i w) =
-        ap₂ (λ x y. x + getD ranks e 0 * y) (g .place-is) (g .weight-is) ∙ add-comm (placeIn ranks k (drop i w)) (getD ranks e 0 * k ^ length (drop i w))
+      ap₂ (λ x y. x + getD ranks e 0 * y) (g .place-is) (g .weight-is) ∙ add-comm (placeIn ranks k (drop i w)) (getD ranks e 0 * k ^ length (drop i w))
       in
       let tail = placesOf ranks k (drop i w) ++ replicate (8 - length w) 0 in
       record {
@@ -90,9 +90,9 @@ module _ {ranks : List ℕ} {k : ℕ} {w places : List ℕ} {place weight i : �
         place-is = rw d p;
         weight-is = rw d (rw (pow-suc k (length (drop i w)), g .weight-is));
         stored =
-          ap (λ x. set x j (place + getD ranks e 0 * weight)) (g .stored ∙ ap (λ n. replicate n 0 ++ tail) (sym s) ∙ sym (repeat-end j 0 tail)) ∙
-          set-at (replicate j 0) 0 tail (place + getD ranks e 0 * weight) j (length-replicate {A = ℕ} j 0) ∙
-          rw (d, p);
+            ap (λ x. set x j (place + getD ranks e 0 * weight)) (g .stored ∙ ap (λ n. replicate n 0 ++ tail) (sym s) ∙ sym (repeat-end j 0 tail)) ∙
+            set-at (replicate j 0) 0 tail (place + getD ranks e 0 * weight) j (length-replicate {A = ℕ} j 0) ∙
+            rw (d, p);
       }
 
 places-length : (ranks : List ℕ) (k : ℕ) (w : List ℕ) → length (placesOf ranks k w) ≡ length w
@@ -104,7 +104,6 @@ pub placing-done : {ranks : List ℕ} {k : ℕ} {w places : List ℕ} {place wei
     → places ≡ pad 8 (placesOf ranks k w)
 unfolding pad
 placing-done {ranks} {k} {w} g z = rw (z, sym (places-length ranks k w)) at (g .stored)
-
 
 -- the ranks of the symbols
 pub ranks-length : (classes : List ℕ) (e : ℕ) → length (ranksTo classes e) ≡ e

@@ -22,8 +22,8 @@ use Rattle.configuration.proofs.Facts.{Consistent, consistent-facts, held-buffe
 use Rattle.monitor.specs.Step.{byTable, qualifies, release, remaining, arrival, effect, eventRows, eventRefusal}
 use Rattle.monitor.specs.Answers.{Received, callRows, guardRefusal, receiveRefusal, received, isWinning, Guard, guard}
 use Rattle.monitor.specs.Parts.{Ranking, Entry, rankingOf, restIn, over, Lent, entryOf, refusedEvent, releasedFrom}
-use Rattle.monitor.proofs.Refusals.{Clear, clear, rows-stand, rows-pass}
-use Rattle.monitor.proofs.Tabled.{rank-controllable, rank-uncontrollable, released-tabled, lent}
+use Rattle.monitor.proofs.Refusals.{Clear, clear, guard-clear, rows-stand, rows-pass}
+use Rattle.monitor.proofs.Tabled.{rank-controllable, rank-uncontrollable, released-tabled, rest-tabled, lent}
 use Rattle.monitor.proofs.Answering.{longer}
 
 module _ (a : Automaton) (t : List ℕ) (c : Configuration) where
@@ -42,10 +42,10 @@ module _ (a : Automaton) (t : List ℕ) (c : Configuration) where
   receive-stands e n g z = refused-is e n (rows-stand a t c (eventRows a (heldEvents c) e) (rw g at z) ∙ sym g) z
 
   module _ (k : Clear a t c) where
-    facts : Valid a
+    pub facts : Valid a
     facts = valid-facts a (k .record-valid)
 
-    place : Consistent a c
+    pub place : Consistent a c
     place = consistent-facts a c facts (k .configuration-consistent)
 
     event-row : (e n : ℕ) → eventRefusal a (heldEvents c) e ≡ n → receiveRefusal a t c e ≡ n
@@ -143,3 +143,22 @@ unfolding entryOf
 entered-clear a t c n e z =
     let k = clear a t c (sym (entered a t c n e) ∙ z) in
     (k, ap (λ (x : Entry). x .ranking) e ∙ rw (k .record-valid))
+
+-- whether a configuration is winning
+module _ (a : Automaton) (t : List ℕ) (c : Configuration) where
+  pub guard-stands : (n : ℕ) → n ≡ guardRefusal a t c → (n ≡ 0 → ⊥) → record { refusal = n; winning = false } ≡ guard a t c
+  unfolding guard
+  guard-stands n g z = rw (← g, ne-eqb n 0 z)
+
+  pub guard-answers : (k : Clear a t c) → (b : Bool)
+      → b ≡ restIn t (rankingOf (a .classes) (a .symbols) .ranks) (rankingOf (a .classes) (a .symbols) .count) (take (c .held) (c .buffer)) (c .state)
+      → record { refusal = 0; winning = b } ≡ guard a t c
+  unfolding guard isWinning heldEvents
+  guard-answers k b e =
+      let z = guard-clear a t c (k .record-valid) (k .table-long) (k .configuration-consistent) in
+      let s = rest-tabled a (facts a t c k) t (take (c .held) (c .buffer)) (held-buffer a c (place a t c k)) (c .state) in
+      rw (z, ← s, e)
+
+  pub held-long : Clear a t c → length (take (c .held) (c .buffer)) ≡ c .held
+  unfolding heldEvents
+  held-long k = place a t c k .held-length

@@ -88,7 +88,7 @@ module _ (a : Automaton) (v : Valid a) where
       rw (r, i) (let m : (rank a e + 1) * k ≡ rank a e * k + k = rw (add-one (rank a e)) (suc-mul (rank a e) k) in omega (arith, m))
 
 -- what is read of a table, with the automaton's own ranks and next states
-run-over : (a : Automaton) (w : List ℕ) (q : ℕ) → run (over (a .next)) q w ≡ run a q w
+pub run-over : (a : Automaton) (w : List ℕ) (q : ℕ) → run (over (a .next)) q w ≡ run a q w
 unfolding run step
 run-over a [] q = refl
 run-over a (e ∷ w) q = run-over a w (step a q e)
@@ -97,11 +97,15 @@ module _ (a : Automaton) (v : Valid a) (t : List ℕ) (w : List ℕ) (b : Buffer
   abbrev ranking : Ranking
   ranking = rankingOf (a .classes) (a .symbols)
 
+  pub rest-tabled : restIn t (ranking .ranks) (ranking .count) w q ≡ byTable a t w q
+  unfolding restIn byTable
+  rest-tabled = rw (place-index a v w (b .0))
+
   asked : (k : ℕ) → qualifies (restIn t (ranking .ranks) (ranking .count)) (over (a .next)) q w k ≡ qualifies (byTable a t) a q w k
   unfolding qualifies restIn byTable
   asked k = rw (place-index a v (drop k w) (buffer-drop a k w b .0), run-over a (take k w) q)
 
-  release-tabled : release (restIn t (ranking .ranks) (ranking .count)) (over (a .next)) q w ≡ release (byTable a t) a q w
+  pub release-tabled : release (restIn t (ranking .ranks) (ranking .count)) (over (a .next)) q w ≡ release (byTable a t) a q w
   unfolding release qualifying
   release-tabled =
       ap (lastOr 0)

@@ -1,19 +1,19 @@
 -- What the monitor's inner functions hand back. They are lent arrays of the automaton instead of the whole of it.
 use Prim.Native.Nat.{ℕ, zero, suc, _+_, _*_, _^_, _<_, _≤_}
 use mathlib.Core.Path.{_≡_}
-use mathlib.Core.Bool.{Bool, false, cond}
+use mathlib.Core.Bool.{Bool, false, cond, _&&_, _||_}
 use mathlib.Core.List.{List, [], _∷_, _++_}
 use lib.ListN.{length, getD, take, drop, replicate}
-use lib.Dec.{eqb}
+use lib.Dec.{eqb, ltb}
 use Rattle.base.specs.Masks.{has}
 use Rattle.base.specs.Pad.{pad}
 use Rattle.automaton.specs.declared.Automaton.{Automaton}
 use Rattle.automaton.specs.Automaton.{run, valid}
 use Rattle.automaton.specs.Parts.{controllableIn}
 use Rattle.configuration.specs.declared.Configuration.{Configuration}
-use Rattle.configuration.specs.Carried.{configuration}
-use Rattle.monitor.specs.Step.{Rest, qualifies, release}
-use Rattle.monitor.specs.Answers.{Received, guardRefusal}
+use Rattle.configuration.specs.Carried.{configuration, heldEvents}
+use Rattle.monitor.specs.Step.{Rest, byTable, qualifies, release, runOf}
+use Rattle.monitor.specs.Answers.{Received, Ran, guardRefusal}
 pub use Rattle.monitor.specs.declared.Ranking.{Ranking}
 pub use Rattle.monitor.specs.declared.Front.{Front}
 pub use Rattle.monitor.specs.declared.Entry.{Entry}
@@ -83,3 +83,18 @@ releasedFrom rest a q w emitted =
       count = length (emitted ++ take k w);
       winning = qualifies rest a q w k;
     }
+
+-- whether an event is accepted, by ranks and with so many held
+unfoldable pub acceptsBy : List ℕ → ℕ → ℕ → ℕ → ℕ → Bool
+acceptsBy ranks symbols capacity held e = ltb e symbols && (eqb (getD ranks e 0) 0 || ltb held capacity)
+
+-- the answer of a day that is not refused, and its lent output afterwards
+unfoldable pub ranOf : Automaton → List ℕ → Configuration → List ℕ → Ran
+ranOf a t c events =
+    let r = runOf (byTable a t) a (c .state) (heldEvents c) events in
+    record { refusal = 0; configuration = configuration (r .state) (r .buffer); length = length (r .emitted); refused = r .refused }
+
+unfoldable pub ranBufferOf : Automaton → List ℕ → Configuration → List ℕ → List ℕ → List ℕ
+ranBufferOf a t c events out =
+    let r = runOf (byTable a t) a (c .state) (heldEvents c) events in
+    r .emitted ++ drop (length (r .emitted)) out

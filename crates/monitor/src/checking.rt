@@ -1,13 +1,16 @@
 // Rows 11 to 13, which every call checks first, and whether a configuration is winning.
-use crate::releasing::{in_set, places, ranking};
-use crate::{Entry, Guard, Ranking};
+use crate::Entry;
+use crate::Guard;
+use crate::Ranking;
+use crate::releasing::in_set;
+use crate::releasing::places;
+use crate::releasing::ranking;
 use automaton::Automaton;
 use base::size;
 use configuration::Configuration;
 ghost use mathlib.Core.Path.{_≡_};
 ghost use Rattle.monitor.specs.Answers.{guard};
 ghost use Rattle.monitor.specs.Parts.{entryOf};
-
 
 pub fn enter(a: Automaton, table: &[u32], c: Configuration) -> Entry
     ensures { λ r. ⌜ r ≡ entryOf a (now (table .entry)) c ⌝ }

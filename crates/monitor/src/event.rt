@@ -1,9 +1,11 @@
 // One event.
+use crate::Received;
 use crate::checking::enter;
 use crate::releasing::release;
-use crate::Received;
 use automaton::Automaton;
-use base::{copy, size, wide};
+use base::copy;
+use base::size;
+use base::wide;
 use configuration::Configuration;
 ghost use mathlib.Core.Path.{_≡_};
 ghost use Prim.Native.Nat.{ℕ, _+_, _*_, _≤_, _<_};
@@ -122,10 +124,28 @@ pub fn receive(a: Automaton, table: &[u32], c: Configuration, event: u32) -> Rec
     let held = size(c.held);
     let q = size(c.state);
     if ranking.ranks[size(e)] == 0 {
-        return passed(&a.next, &ranking.ranks, ranking.count, table, q, buffer, held, e);
+        return passed(
+            &a.next,
+            &ranking.ranks,
+            ranking.count,
+            table,
+            q,
+            buffer,
+            held,
+            e,
+        );
     }
     if a.capacity <= c.held {
         return refused(15, c);
     }
-    added(&a.next, &ranking.ranks, ranking.count, table, q, buffer, held, e)
+    added(
+        &a.next,
+        &ranking.ranks,
+        ranking.count,
+        table,
+        q,
+        buffer,
+        held,
+        e,
+    )
 }

@@ -1,11 +1,14 @@
 // The enforcement monitor: one event, and a whole day of them, over a lent table.
 mod checking;
+mod day;
 mod event;
 mod releasing;
-pub use checking::winning;
-pub use event::receive;
+
 use automaton::Automaton;
+pub use checking::winning;
 use configuration::Configuration;
+pub use day::run;
+pub use event::receive;
 
 // Whether a configuration is winning (document 01's guarded), or the refusing row with no.
 pub struct Guard {

@@ -1,6 +1,9 @@
 // The release: the longest front part of the buffer that brings the state to where the monitor may rest with what is left.
-use crate::{Front, Ranking};
-use base::{has, size, wide};
+use crate::Front;
+use crate::Ranking;
+use base::has;
+use base::size;
+use base::wide;
 ghost use mathlib.Core.Path.{_≡_};
 ghost use Prim.Native.Nat.{ℕ, _+_, _*_, _≤_, _<_};
 ghost use lib.ListN.{getD, length, take};

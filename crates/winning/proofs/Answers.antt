@@ -1,12 +1,11 @@
 -- What the solver's calls answer, case by case.
-use Prim.Native.Nat.{ℕ, suc, _+_, _-_, _*_, _^_, _<_, _≤_}
-use mathlib.Core.Path.{_≡_, refl, sym, _∙_, ap}
-use mathlib.Core.Bool.{Bool, true, false, not, cond}
+use Prim.Native.Nat.{ℕ, _+_, _-_, _*_, _^_, _<_, _≤_}
+use mathlib.Core.Path.{_≡_, refl, sym, _∙_}
+use mathlib.Core.Bool.{true, false, not}
 use mathlib.Core.List.{List, [], _∷_, _++_}
 use native.Mathlib.Nat.{pow-zero, pow-suc}
 use native.Mathlib.Numerals.{add-one}
 use native.Mathlib.Omega.{arith}
-use lib.Dec.{eqb, ltb}
 use lib.ListN.{length, drop}
 use borrow.Author.Tests.{lt-ltb, le-ltb}
 use Rattle.base.proofs.Bools.{by}
@@ -17,9 +16,9 @@ use Rattle.automaton.specs.Automaton.{valid, controllables}
 use Rattle.automaton.proofs.Facts.{valid-facts}
 use Rattle.sets.specs.Table.{shorter, buffersCount, table, rounds, short}
 use Rattle.sets.proofs.Tables.{table-is-solved}
-use Rattle.winning.specs.declared.Solution.{Solution}
 use Rattle.winning.specs.declared.Count.{Count}
-use Rattle.winning.specs.Parts.{Symbols, freeOf}
+use Rattle.refinement.specs.declared.Symbols.{Symbols}
+use Rattle.refinement.specs.Parts.{freeOf}
 use Rattle.winning.specs.Solving.{solveRefusal, solution, solvedTable, countAnswer}
 use Rattle.winning.specs.Claims.{LeavesSolved}
 use Rattle.winning.proofs.Bounds.{pow-small, shorter-small, shorter-one, controllables-count}

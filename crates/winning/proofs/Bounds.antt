@@ -1,5 +1,5 @@
 -- How many buffers there are at most, and how many rounds.
-use Prim.Native.Nat.{ℕ, zero, suc, _+_, _*_, _^_, _<_, _≤_}
+use Prim.Native.Nat.{ℕ, zero, suc, _+_, _*_, _^_, _≤_}
 use mathlib.Core.Path.{_≡_}
 use mathlib.Core.List.{List, [], _∷_, map}
 use native.Mathlib.Nat.{pow-zero, pow-le-pow-left, pow-le-pow-right}
@@ -16,7 +16,7 @@ use Rattle.automaton.proofs.Facts.{Valid}
 use Rattle.sets.specs.Sets.{sets}
 use Rattle.sets.specs.Table.{shorter, roundsSum}
 use Rattle.sets.proofs.Largest.{sets-are}
-use Rattle.winning.specs.Parts.{freeTo}
+use Rattle.refinement.specs.Parts.{freeTo}
 
 -- at most 8 symbols and 6 events
 pub pow-small : (k l : ℕ) → k ≤ 8 → l ≤ 6 → k ^ l ≤ 262144

@@ -2,9 +2,6 @@
 use Prim.Native.Nat.{ℕ, zero, suc, _+_, _*_, _^_, _<_, _≤_}
 use mathlib.Core.Path.{_≡_, refl, sym, _∙_, ap, ap₂}
 use mathlib.Core.List.{List, [], _∷_, _++_, map, map-map, map-append, append-nil, append-assoc}
-use mathlib.Core.Bool.{cond}
-use native.Mathlib.Numerals.{add-one}
-use native.Mathlib.Nat.{zero-add}
 use native.Mathlib.Omega.{arith}
 use lib.Bits.{bitOr}
 use lib.Dec.{eqb}
@@ -15,12 +12,13 @@ use Rattle.base.proofs.Bools.{by}
 use Rattle.automaton.specs.declared.Automaton.{Automaton}
 use Rattle.automaton.specs.Automaton.{controllable, controllables}
 use Rattle.sets.specs.declared.Sets.{Sets}
-use Rattle.sets.specs.Sets.{acceptingSet, sets}
+use Rattle.sets.specs.Sets.{acceptingSet, setsOf, emptySets, into, sets}
 use Rattle.sets.specs.Table.{shorter, controllableTo, extended, buffersAt, buffersTo, pairs}
 use Rattle.sets.proofs.Numbering.{buffersAt-length, buffersTo-length, level-at}
 use Rattle.sets.proofs.Tables.{pairs-length, pairs-at}
-use Rattle.winning.specs.Parts.{freeTo, setsFrom, goalAt, rowOf, levelOf, stored}
-use Rattle.winning.proofs.Agreeing.{sets-from-is}
+use Rattle.refinement.specs.Parts.{freeTo, settledOn}
+use Rattle.refinement.proofs.Agreeing.{settled-is, predecessors-is}
+use Rattle.table.specs.Parts.{setsFrom, goalAt, rowOf, levelOf, stored}
 
 extended-append : (xs ys : List ℕ) (ws : List (List ℕ)) → extended (xs ++ ys) ws ≡ extended xs ws ++ extended ys ws
 unfolding extended
@@ -36,17 +34,24 @@ module _ (a : Automaton) where
   abbrev pub front : ℕ → ℕ → Sets
   front = setsFrom (a .next) (pad 16 free) (a .states) (length free) (acceptingSet a)
 
+  sets-from-is : (e : ℕ) (w : List ℕ) → front e (bitOr (sets a w .winning) (sets a w .intermediate)) ≡ sets a (e ∷ w)
+  unfolding setsFrom sets setsOf
+  sets-from-is e w =
+      let i = predecessors-is a e (sets a w) in
+      let r = ap (λ i. settledOn (a .next) (pad 16 free) (a .states) (length free) i (acceptingSet a)) i ∙ settled-is a (into a e (sets a w)) (λ x. emptySets a .winning) in
+      λ j. record { winning = r j .set; intermediate = i j; rounds = r j .rounds }
+
   -- the sets of the buffers ws stand from a place on
-  abbrev Holds : List ℕ → ℕ → List (List ℕ) → Type 0
-  Holds t from ws =
+  abbrev Stands : List ℕ → ℕ → List (List ℕ) → Type 0
+  Stands t from ws =
       (j : ℕ) → j < length ws
       → (getD t (from + 2 * j) 0 ≡ sets a (getD ws j []) .winning) × (getD t (from + 2 * j + 1) 0 ≡ sets a (getD ws j []) .intermediate)
 
-  module _ (t : List ℕ) (from : ℕ) (ws : List (List ℕ)) (h : Holds t from ws) where
+  module _ (t : List ℕ) (from : ℕ) (ws : List (List ℕ)) (h : Stands t from ws) where
     front-is : (e j : ℕ) → j < length ws → front e (goalAt t from j) ≡ sets a (e ∷ getD ws j [])
     unfolding goalAt
     front-is e j l =
-        ap₂ (λ s i. front e (bitOr s i)) (h j l .0) (h j l .1) ∙ sets-from-is a e (getD ws j [])
+        ap₂ (λ s i. front e (bitOr s i)) (h j l .0) (h j l .1) ∙ sets-from-is e (getD ws j [])
 
     row-to : (e j : ℕ) → j ≤ length ws → rowOf (front e) t from j ≡ map (λ w. sets a (e ∷ w)) (take j ws)
     unfolding rowOf
@@ -87,9 +92,9 @@ module _ (a : Automaton) where
     set-at i h =
         List·getD-map (sets a) (buffersTo a l) (shorter (controllables a) l + i) [] ∙ ap (sets a) (level-at a l l i (omega arith) h)
 
-    pub holds-level : Holds (stored t₀ 0 ss) (2 * shorter (controllables a) l) (buffersAt a l)
+    level-stands : Stands (stored t₀ 0 ss) (2 * shorter (controllables a) l) (buffersAt a l)
     unfolding shorter
-    holds-level j h =
+    level-stands j h =
         let b : j < controllables a ^ l = omega (arith, buffersAt-length a l) in
         let i = shorter (controllables a) l + j in
         let e : 2 * shorter (controllables a) l + 2 * j ≡ 2 * i = omega arith in
@@ -103,4 +108,4 @@ module _ (a : Automaton) where
 
     pub next-level : levelOf front (a .classes) (a .symbols) (stored t₀ 0 ss) (2 * shorter (controllables a) l) (controllables a ^ l) ≡ map (sets a) (buffersAt a (suc l))
     unfolding buffersAt
-    next-level = rw (← buffersAt-length a l) (level-to (stored t₀ 0 ss) (2 * shorter (controllables a) l) (buffersAt a l) holds-level (a .symbols))
+    next-level = rw (← buffersAt-length a l) (level-to (stored t₀ 0 ss) (2 * shorter (controllables a) l) (buffersAt a l) level-stands (a .symbols))

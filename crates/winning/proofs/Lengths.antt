@@ -1,12 +1,12 @@
 -- A loop that writes the sets of the buffers length by length.
-use Prim.Native.Nat.{ℕ, zero, suc, _+_, _*_, _^_, _-_, _<_, _≤_}
-use mathlib.Core.Path.{_≡_, refl, sym, _∙_, ap, ap₂}
-use mathlib.Core.List.{List, [], _∷_, _++_, map, map-append}
+use Prim.Native.Nat.{ℕ, suc, _+_, _*_, _^_, _-_, _<_, _≤_}
+use mathlib.Core.Path.{_≡_, refl, sym, _∙_, ap}
+use mathlib.Core.List.{List, _++_, map, map-append}
 use mathlib.Core.Bool.{true}
 use native.Mathlib.Numerals.{add-one}
 use native.Mathlib.Nat.{zero-add, pow-zero, pow-suc}
 use native.Mathlib.Omega.{arith}
-use lib.ListN.{length, set, drop, length-append, length-map, length-set}
+use lib.ListN.{length, set, drop, length-map, length-set}
 use lib.Seq.{sets-eq, set-set, set-comm, drop-set-lt}
 use Rattle.automaton.specs.declared.Automaton.{Automaton}
 use Rattle.automaton.specs.Automaton.{controllables, valid}
@@ -16,10 +16,12 @@ use Rattle.sets.specs.declared.Settled.{Settled}
 use Rattle.sets.specs.Sets.{acceptingSet, settled, setsOf, emptySets, sets}
 use Rattle.sets.specs.Table.{shorter, buffersCount, buffersAt, buffersTo, pairs, roundsSum, table, rounds}
 use Rattle.sets.proofs.Numbering.{buffersAt-length, buffersTo-length}
-use Rattle.sets.proofs.Tables.{pairs-length, table-length}
-use Rattle.winning.specs.Parts.{Symbols, Fits, flagged, freeOf, settledOn, setsFrom, levelOf, stored}
-use Rattle.winning.proofs.Filling.{sum-append, stored-append}
-use Rattle.winning.proofs.Agreeing.{flagged-is, lent-fits, accepting-below, settled-is}
+use Rattle.sets.proofs.Tables.{table-length}
+use Rattle.refinement.specs.declared.Symbols.{Symbols}
+use Rattle.refinement.specs.Parts.{Fits, flagged, freeOf, settledOn}
+use Rattle.table.specs.Parts.{setsFrom, levelOf, stored}
+use Rattle.table.proofs.Filling.{sum-append, stored-append}
+use Rattle.refinement.proofs.Agreeing.{flagged-is, lent-fits, accepting-below, settled-is}
 use Rattle.winning.proofs.Buffers.{front, next-level}
 use Rattle.winning.proofs.Bounds.{pow-small, shorter-small, shorter-mono, shorter-one, controllables-count, rounds-few}
 
@@ -114,83 +116,82 @@ module _ (a : Automaton) (t : List ℕ) (r : Settled) where
       drop-set-lt (2 * buffersCount a) t 0 (r .set) (omega (arith, some-buffer a))
 
 module _ (a : Automaton) (n m b accepting : ℕ) (free : Symbols) (lent : Lent a n m b accepting free)
-  (t₀ : List ℕ) (room : 2 * buffersCount a ≤ length t₀) (l : ℕ) (t : List ℕ) (from count sum : ℕ) (s : Lengthening a t₀ l t from count sum)
+    (t₀ : List ℕ) (room : 2 * buffersCount a ≤ length t₀) (l : ℕ) (t : List ℕ) (from count sum : ℕ) (s : Lengthening a t₀ l t from count sum)
   where
-  abbrev k : ℕ
-  k = controllables a
+    abbrev k : ℕ
+    k = controllables a
 
-  -- any sum of rounds is small
-  pub length-fits : l ≤ b → sum ≤ 58720256
-  length-fits h =
-      let v = lent .facts in
-      omega (arith, lent .capacity, s .summed, rounds-few a v (buffersTo a l), buffersTo-length a l, shorter-small k (suc l) (v .controllables-high) (omega (arith, lent .capacity, v .capacity-high)))
-
-  pub length-all : l ≡ b → (t ≡ table a ++ drop (2 * buffersCount a) t₀) × (sum ≡ rounds a)
-  unfolding table rounds
-  length-all h =
-      let ss = map (sets a) (buffersTo a (a .capacity)) in
-      let e : length (pairs ss) ≡ 2 * buffersCount a = table-length a in
-      let g = h ∙ lent .capacity in
-      (
-        s .written ∙ ap (λ l. stored t₀ 0 (map (sets a) (buffersTo a l))) g ∙ sets-eq (pairs ss) t₀ 0 (omega arith) ∙ rw (zero-add (length (pairs ss)), e),
-        s .summed ∙ ap (λ l. roundsSum (map (sets a) (buffersTo a l))) g,
-      )
-
-  -- the next length is still within the capacity
-  module _ (h : l < b) where
-    longer-room : 2 * shorter k (suc (suc l)) ≤ length t₀
-    unfolding buffersCount
-    longer-room = omega (arith, lent .capacity, shorter-mono k (suc (suc l)) (suc (a .capacity)) (omega (arith, lent .capacity)))
-
-    pub length-small : count ≤ 262144
-    length-small =
+    -- any sum of rounds is small
+    pub length-fits : l ≤ b → sum ≤ 58720256
+    length-fits h =
         let v = lent .facts in
-        omega (arith, s .counted, pow-small k l (v .controllables-high) (omega (arith, lent .capacity, v .capacity-high)))
+        omega (arith, lent .capacity, s .summed, rounds-few a v (buffersTo a l), buffersTo-length a l, shorter-small k (suc l) (v .controllables-high) (omega (arith, lent .capacity, v .capacity-high)))
 
-    pub length-place : from + 2 * count ≤ 3670016
-    unfolding shorter
-    length-place =
-        let v = lent .facts in
-        omega (arith, s .place, s .counted, lent .capacity, v .capacity-high, shorter-small k (suc l) (v .controllables-high) (omega (arith, lent .capacity, v .capacity-high)))
+    pub length-all : l ≡ b → (t ≡ table a ++ drop (2 * buffersCount a) t₀) × (sum ≡ rounds a)
+    unfolding table rounds
+    length-all h =
+        let ss = map (sets a) (buffersTo a (a .capacity)) in
+        let e : length (pairs ss) ≡ 2 * buffersCount a = table-length a in
+        let g = h ∙ lent .capacity in (
+          s .written ∙ ap (λ l. stored t₀ 0 (map (sets a) (buffersTo a l))) g ∙ sets-eq (pairs ss) t₀ 0 (omega arith) ∙ rw (zero-add (length (pairs ss)), e),
+          s .summed ∙ ap (λ l. roundsSum (map (sets a) (buffersTo a l))) g,
+        )
 
-    counted-next : count * (m - free .count) ≡ k ^ suc l
-    counted-next = rw (s .counted, lent-rest a n m b accepting free lent) (sym (pow-suc k l))
+    -- the next length is still within the capacity
+    module _ (h : l < b) where
+      longer-room : 2 * shorter k (suc (suc l)) ≤ length t₀
+      unfolding buffersCount
+      longer-room = omega (arith, lent .capacity, shorter-mono k (suc (suc l)) (suc (a .capacity)) (omega (arith, lent .capacity)))
 
-    pub length-next : count * (m - free .count) ≤ 262144
-    length-next =
-        let v = lent .facts in
-        omega (arith, counted-next, pow-small k (suc l) (v .controllables-high) (omega (arith, lent .capacity, v .capacity-high)))
+      pub length-small : count ≤ 262144
+      length-small =
+          let v = lent .facts in
+          omega (arith, s .counted, pow-small k l (v .controllables-high) (omega (arith, lent .capacity, v .capacity-high)))
 
-    abbrev behind : List Sets
-    behind = levelOf (setsFrom (a .next) (free .list) n (free .count) accepting) (a .classes) m t from count
+      pub length-place : from + 2 * count ≤ 3670016
+      unfolding shorter
+      length-place =
+          let v = lent .facts in
+          omega (arith, s .place, s .counted, lent .capacity, v .capacity-high, shorter-small k (suc l) (v .controllables-high) (omega (arith, lent .capacity, v .capacity-high)))
 
-    abbrev level : List Sets
-    level = map (sets a) (buffersAt a (suc l))
+      counted-next : count * (m - free .count) ≡ k ^ suc l
+      counted-next = rw (s .counted, lent-rest a n m b accepting free lent) (sym (pow-suc k l))
 
-    level-is : behind ≡ level
-    unfolding shorter
-    level-is =
-        lent-level a n m b accepting free lent t from count ∙
-        rw (s .written, s .place, s .counted) (next-level a t₀ l (omega (arith, longer-room)))
+      pub length-next : count * (m - free .count) ≤ 262144
+      length-next =
+          let v = lent .facts in
+          omega (arith, counted-next, pow-small k (suc l) (v .controllables-high) (omega (arith, lent .capacity, v .capacity-high)))
 
-    level-length : length level ≡ k ^ suc l
-    level-length = rw (length-map (buffersAt a (suc l)) (sets a)) (buffersAt-length a (suc l))
+      abbrev behind : List Sets
+      behind = levelOf (setsFrom (a .next) (free .list) n (free .count) accepting) (a .classes) m t from count
 
-    pub length-room : from + 2 * count + 2 * length behind ≤ length t
-    unfolding shorter
-    length-room = rw level-is (omega (arith, level-length, s .place, s .counted, s .same, longer-room))
+      abbrev level : List Sets
+      level = map (sets a) (buffersAt a (suc l))
 
-    pub length-more : (t′ : List ℕ) (more : ℕ) → length t′ ≡ length t → t′ ≡ stored t (from + 2 * count) behind → more ≡ roundsSum behind
-        → Lengthening a t₀ (l + 1) t′ (from + 2 * count) (count * (m - free .count)) (sum + more)
-    unfolding buffersTo shorter
-    length-more t′ more long put add =
-        let so-far = map (sets a) (buffersTo a l) in
-        let both = map-append (sets a) (buffersTo a l) (buffersAt a (suc l)) in
-        let at : from + 2 * count ≡ 0 + 2 * length so-far = rw (length-map (buffersTo a l) (sets a)) (omega (arith, s .place, s .counted, buffersTo-length a l)) in
-        rw (add-one l) (record {
-          same = long ∙ s .same;
-          written = rw (both, put, level-is, at, s .written) (stored-append t₀ 0 so-far level);
-          place = omega (arith, s .place, s .counted);
-          counted = counted-next;
-          summed = rw (both, sum-append so-far level) (omega (arith, s .summed, add, ap roundsSum level-is));
-        })
+      level-is : behind ≡ level
+      unfolding shorter
+      level-is =
+          lent-level a n m b accepting free lent t from count ∙
+          rw (s .written, s .place, s .counted) (next-level a t₀ l (omega (arith, longer-room)))
+
+      level-length : length level ≡ k ^ suc l
+      level-length = rw (length-map (buffersAt a (suc l)) (sets a)) (buffersAt-length a (suc l))
+
+      pub length-room : from + 2 * count + 2 * length behind ≤ length t
+      unfolding shorter
+      length-room = rw level-is (omega (arith, level-length, s .place, s .counted, s .same, longer-room))
+
+      pub length-more : (t′ : List ℕ) (more : ℕ) → length t′ ≡ length t → t′ ≡ stored t (from + 2 * count) behind → more ≡ roundsSum behind
+          → Lengthening a t₀ (l + 1) t′ (from + 2 * count) (count * (m - free .count)) (sum + more)
+      unfolding buffersTo shorter
+      length-more t′ more long put add =
+          let so-far = map (sets a) (buffersTo a l) in
+          let both = map-append (sets a) (buffersTo a l) (buffersAt a (suc l)) in
+          let at : from + 2 * count ≡ 0 + 2 * length so-far = rw (length-map (buffersTo a l) (sets a)) (omega (arith, s .place, s .counted, buffersTo-length a l)) in
+          rw (add-one l) (record {
+            same = long ∙ s .same;
+            written = rw (both, put, level-is, at, s .written) (stored-append t₀ 0 so-far level);
+            place = omega (arith, s .place, s .counted);
+            counted = counted-next;
+            summed = rw (both, sum-append so-far level) (omega (arith, s .summed, add, ap roundsSum level-is));
+          })

@@ -1,9 +1,4 @@
-pub mod Free
-pub mod Scanning
-pub mod Filling
-pub mod Levels
-pub mod Agreeing
-pub mod Buffers
 pub mod Bounds
+pub mod Buffers
 pub mod Lengths
 pub mod Answers

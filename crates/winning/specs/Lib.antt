@@ -1,3 +1,2 @@
 pub mod Solving
-pub mod Parts
 pub mod Claims

@@ -1,12 +1,10 @@
 use Rattle.winning.proofs.Answers.{Counting, count-one, count-more, count-fits}
 use mathlib.Core.Path.{_≡_}
-use Prim.Native.Nat.{ℕ, _+_, _*_, _≤_, _-_}
+use Prim.Native.Nat.{_≤_, _-_}
 use native.Mathlib.Omega.{arith}
 use borrow.Author.Needs.{needs}
 use Rattle.winning.proofs.buffers_to.Statement.{statement}
 use Rattle.winning.proofs.buffers_to.Tie as tie
-use Rattle.winning.proofs.buffers_to.Reads as reads
-use Rattle.winning.proofs.buffers_to.Lts as lts
 
 abbrev Inv-loop : tie.InvT-loop
 Inv-loop k capacity sum₀ count₀ length₀ sum count length = (length ≤ capacity) × Counting k length count sum
@@ -14,31 +12,24 @@ Inv-loop k capacity sum₀ count₀ length₀ sum count length = (length ≤ cap
 abbrev μ-loop : tie.MeasureT-loop
 μ-loop k capacity sum₀ count₀ length₀ sum count length = capacity - length
 
--- src/lib.rt:33:5
 loop-holds : tie.Need-loop-holds Inv-loop μ-loop
 loop-holds c = (omega arith, count-one _)
 
--- src/lib.rt:34:17
 mul-count : tie.Need-mul-count Inv-loop μ-loop
 mul-count c = omega (arith, count-fits _ _ _ _ (c .before .loop .inv .1) (omega arith) (omega arith) .0)
 
--- src/lib.rt:35:15
 add-sum : tie.Need-add-sum Inv-loop μ-loop
 add-sum c = omega (arith, count-fits _ _ _ _ (c .before .loop .inv .1) (omega arith) (omega arith) .1)
 
--- src/lib.rt:36:18
 add-length : tie.Need-add-length Inv-loop μ-loop
 add-length c = search needs
 
--- src/lib.rt:33:5
 loop-less : tie.Need-loop-less Inv-loop μ-loop
 loop-less c = search needs
 
--- src/lib.rt:33:5
 loop-again : tie.Need-loop-again Inv-loop μ-loop
 loop-again c = (omega arith, count-more _ _ _ _ (c .before .loop .inv .1))
 
--- src/lib.rt:26:1
 returns : tie.Need-returns Inv-loop μ-loop
 returns c = let e : c .before .loop .length ≡ c .before .before .args .capacity = omega arith in rw e at (c .before .loop .inv .1 .all)
 

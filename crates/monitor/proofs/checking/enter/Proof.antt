@@ -11,59 +11,40 @@ use native.Mathlib.Omega.{arith}
 use borrow.Author.Needs.{needs}
 use Rattle.monitor.proofs.checking.enter.Statement.{statement}
 use Rattle.monitor.proofs.checking.enter.Tie as tie
-use Rattle.monitor.proofs.checking.enter.Reads as reads
-use Rattle.monitor.proofs.checking.enter.Lts as lts
-use Rattle.automaton.proofs.valid.Reads as valid-reads
-use Rattle.base.proofs.size.Reads as size-reads
-use Rattle.configuration.proofs.consistent.Reads as consistent-reads
-use Rattle.monitor.proofs.releasing.ranking.Reads as ranking-reads
-use Rattle.winning.proofs.buffers_to.Reads as buffers-to-reads
 
--- src/checking.rt:15:9
 valid-requires : tie.Need-valid-requires
 valid-requires c κs = search needs
 
--- src/checking.rt:16:9
 returns : tie.Need-returns
 returns c = entry-invalid _ _ _ (sym (c .before .valid .ensures) ∙ not-true _ (c .if1 .taken))
 
--- src/checking.rt:24:39
 size-requires : tie.Need-size-requires
 size-requires c κs = search needs
 
--- src/checking.rt:24:9
 ranking-requires : tie.Need-ranking-requires
 ranking-requires c κs = let v = valid-facts (c .before .before .before .before .before .before .args .t1) (sym (c .before .before .before .before .valid .ensures) ∙ not-false _ (c .before .before .before .if1 .left)) in omega (arith, c .size .ensures .0, v .symbols-high)
 
--- src/checking.rt:25:39
 cast-buffers-to : tie.Need-cast-buffers-to
 cast-buffers-to c = search needs
 
--- src/checking.rt:25:63
 size-requires-2 : tie.Need-size-requires-2
 size-requires-2 c κs = search needs
 
--- src/checking.rt:25:9
 buffers-to-requires : tie.Need-buffers-to-requires
 buffers-to-requires c κs = let a = c .before .before .before .before .before .before .before .before .before .args .t1 in let v = valid-facts a (sym (c .before .before .before .before .before .before .before .valid .ensures) ∙ not-false _ (c .before .before .before .before .before .before .if1 .left)) in (ranking-few a v _ (c .before .before .ranking .ensures ∙ ap (rankingOf (a .classes)) (c .before .before .before .size .ensures .0)), omega (arith, c .size2 .ensures .0, v .capacity-high))
 
--- src/checking.rt:26:22
 mul-if2 : tie.Need-mul-if2
 mul-if2 c = let a = c .before .before .before .before .before .before .before .before .before .before .args .t1 in let v = valid-facts a (sym (c .before .before .before .before .before .before .before .before .valid .ensures) ∙ not-false _ (c .before .before .before .before .before .before .before .if1 .left)) in let k = ranking-few a v _ (c .before .before .before .ranking .ensures ∙ ap (rankingOf (a .classes)) (c .before .before .before .before .size .ensures .0)) in omega (arith, c .buffers-to .ensures, shorter-small (c .before .before .before .ranking .result .count) (c .before .size2 .result + 1) k (omega (arith, c .before .size2 .ensures .0, v .capacity-high)), c .before .size2 .ensures .0, v .capacity-high)
 
--- src/checking.rt:27:9
 returns-2 : tie.Need-returns-2
 returns-2 c = let a = c .before .before .before .before .before .before .before .before .before .before .before .args .t1 in let h = sym (c .before .before .before .before .before .before .before .before .before .valid .ensures) ∙ not-false _ (c .before .before .before .before .before .before .before .before .if1 .left) in entry-short a _ _ h _ (c .before .before .before .before .ranking .ensures ∙ ap (rankingOf (a .classes)) (c .before .before .before .before .before .size .ensures .0)) _ (c .before .buffers-to .ensures ∙ ap (λ x. shorter (c .before .before .before .before .ranking .result .count) (x + 1)) (c .before .before .size2 .ensures .0)) (c .if2 .taken)
 
--- src/checking.rt:32:9
 consistent-requires : tie.Need-consistent-requires
 consistent-requires c κs = search needs
 
--- src/checking.rt:33:9
 returns-3 : tie.Need-returns-3
 returns-3 c = let a = c .before .before .before .before .before .before .before .before .before .before .before .before .before .before .before .args .t1 in let h = sym (c .before .before .before .before .before .before .before .before .before .before .before .before .before .valid .ensures) ∙ not-false _ (c .before .before .before .before .before .before .before .before .before .before .before .before .if1 .left) in entry-inconsistent a _ _ h _ (c .before .before .before .before .before .before .before .before .ranking .ensures ∙ ap (rankingOf (a .classes)) (c .before .before .before .before .before .before .before .before .before .size .ensures .0)) _ (c .before .before .before .before .before .buffers-to .ensures ∙ ap (λ x. shorter (c .before .before .before .before .before .before .before .before .ranking .result .count) (x + 1)) (c .before .before .before .before .before .before .size2 .ensures .0)) (c .before .before .before .before .if2 .left) (sym (c .before .consistent .ensures ∙ consistent-parts a (valid-facts a h .classes-length) _) ∙ not-true _ (c .if3 .taken))
 
--- src/checking.rt:12:1
 returns-4 : tie.Need-returns-4
 returns-4 c = let a = c .before .before .before .before .before .before .before .before .before .before .before .before .before .before .before .args .t1 in let h = sym (c .before .before .before .before .before .before .before .before .before .before .before .before .before .valid .ensures) ∙ not-false _ (c .before .before .before .before .before .before .before .before .before .before .before .before .if1 .left) in entry-clear a _ _ h _ (c .before .before .before .before .before .before .before .before .ranking .ensures ∙ ap (rankingOf (a .classes)) (c .before .before .before .before .before .before .before .before .before .size .ensures .0)) _ (c .before .before .before .before .before .buffers-to .ensures ∙ ap (λ x. shorter (c .before .before .before .before .before .before .before .before .ranking .result .count) (x + 1)) (c .before .before .before .before .before .before .size2 .ensures .0)) (c .before .before .before .before .if2 .left) (sym (c .before .consistent .ensures ∙ consistent-parts a (valid-facts a h .classes-length) _) ∙ not-false _ (c .if3 .left))
 

@@ -1,44 +1,37 @@
+use Rattle.monitor.proofs.Receiving.{held-long}
+use lib.Seq.{length-take-le}
+use lib.ListN.{length, getD, take}
+use mathlib.Core.Path.{_≡_, _∙_, sym, ap}
+use Rattle.monitor.proofs.Searching.{lent-below, lent-rest}
+use Rattle.monitor.proofs.Receiving.{entered, entered-clear, lent-here, guard-stands, guard-answers}
+use native.Mathlib.Omega.{arith}
 use borrow.Author.Needs.{needs}
 use Rattle.monitor.proofs.checking.winning.Statement.{statement}
 use Rattle.monitor.proofs.checking.winning.Tie as tie
-use Rattle.monitor.proofs.checking.winning.Reads as reads
-use Rattle.monitor.proofs.checking.winning.Lts as lts
-use Rattle.base.proofs.size.Reads as size-reads
-use Rattle.monitor.proofs.checking.enter.Reads as enter-reads
-use Rattle.monitor.proofs.releasing.in_set.Reads as in-set-reads
-use Rattle.monitor.proofs.releasing.places.Reads as places-reads
 
--- src/checking.rt:48:9
 enter-requires : tie.Need-enter-requires
 enter-requires c κs = search needs
 
--- src/checking.rt:50:9
 returns : tie.Need-returns
-returns c = ?
+returns c = guard-stands _ _ _ _ (entered _ _ _ _ (c .before .before .enter .ensures)) (c .if1 .taken)
 
--- src/checking.rt:57:64
 size-requires : tie.Need-size-requires
 size-requires c κs = search needs
 
--- src/checking.rt:57:18
 places-requires : tie.Need-places-requires
-places-requires c κs = ?
+places-requires c κs = let k = entered-clear _ _ _ _ (c .before .before .before .before .before .before .before .enter .ensures) (c .before .before .before .before .before .if1 .left) in let l = lent-here _ _ _ (k .0) in (omega (arith, c .size .ensures .0, l .few), rw (k .1) (l .radix), rw (k .1) (l .rank-high), l .symbol-low)
 
--- src/checking.rt:60:32
 array-read-in-set : tie.Need-array-read-in-set
 array-read-in-set c = search needs
 
--- src/checking.rt:60:43
 size-requires-2 : tie.Need-size-requires-2
 size-requires-2 c κs = search needs
 
--- src/checking.rt:60:18
 in-set-requires : tie.Need-in-set-requires
-in-set-requires c κs = ?
+in-set-requires c κs = let k = entered-clear _ _ _ _ (c .before .before .before .before .before .before .before .before .before .enter .ensures) (c .before .before .before .before .before .before .before .if1 .left) in let l = lent-here _ _ _ (k .0) in let p = rw (c .before .before .size .ensures .0, k .1) at (c .before .places .ensures) in (lent-below l (held-long _ _ _ (k .0)) _ p 0 (omega arith), omega (arith, c .size2 .ensures .0, l .state-low))
 
--- src/checking.rt:45:1
 returns-2 : tie.Need-returns-2
-returns-2 c = ?
+returns-2 c = let k = entered-clear _ _ _ _ (c .before .before .before .before .before .before .before .before .before .before .enter .ensures) (c .before .before .before .before .before .before .before .before .if1 .left) in let l = lent-here _ _ _ (k .0) in let p = rw (c .before .before .before .size .ensures .0, k .1) at (c .before .before .places .ensures) in guard-answers _ _ _ (k .0) _ (lent-rest l (held-long _ _ _ (k .0)) _ p 0 (omega arith) _ _ (rw (c .before .size2 .ensures .0) at (c .in-set .ensures)))
 
 pub winning-spec : {M : Type 1} → statement M
 winning-spec =

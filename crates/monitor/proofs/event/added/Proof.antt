@@ -7,24 +7,17 @@ use native.Mathlib.Omega.{arith}
 use borrow.Author.Needs.{needs}
 use Rattle.monitor.proofs.event.added.Statement.{statement}
 use Rattle.monitor.proofs.event.added.Tie as tie
-use Rattle.monitor.proofs.event.added.Reads as reads
-use Rattle.monitor.proofs.event.added.Lts as lts
-use Rattle.monitor.proofs.event.answer.Reads as answer-reads
 
--- src/event.rt:105:5
 array-write-longer : tie.Need-array-write-longer
 array-write-longer c = search needs
 
--- src/event.rt:106:46
 add-answer : tie.Need-add-answer
 add-answer c = search needs
 
--- src/event.rt:106:5
 answer-requires : tie.Need-answer-requires
 unfolding pad
 answer-requires c κs = (c .before .pre .1, omega arith, refl)
 
--- src/event.rt:91:1
 returns : tie.Need-returns
 returns c = let a = c .before .before .args in let n : length (a .buffer) ≡ 6 = search needs in rw (← (longer (a .buffer) (a .held) (a .e) (omega (arith, c .before .before .pre .0)))) (c .answer .ensures)
 

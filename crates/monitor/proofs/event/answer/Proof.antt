@@ -8,53 +8,37 @@ use native.Mathlib.Omega.{arith}
 use borrow.Author.Needs.{needs}
 use Rattle.monitor.proofs.event.answer.Statement.{statement}
 use Rattle.monitor.proofs.event.answer.Tie as tie
-use Rattle.monitor.proofs.event.answer.Reads as reads
-use Rattle.monitor.proofs.event.answer.Lts as lts
-use Rattle.base.proofs.copy.Reads as copy-reads
-use Rattle.monitor.proofs.event.shifted.Reads as shifted-reads
-use Rattle.monitor.proofs.releasing.release.Reads as release-reads
 
--- src/event.rt:53:9
 release-requires : tie.Need-release-requires
 release-requires c κs = search needs
 
--- src/event.rt:55:10
 slice-aggregate-copy : tie.Need-slice-aggregate-copy
 slice-aggregate-copy c = search needs
 
--- src/event.rt:55:35
 slice-aggregate-copy-2 : tie.Need-slice-aggregate-copy-2
 slice-aggregate-copy-2 c = search needs
 
--- src/event.rt:55:5
 copy-requires : tie.Need-copy-requires
 copy-requires c κs = let a = c .before .before .before .before .args in let l = c .before .before .before .before .pre .0 in let n : length (a .t6) ≡ 6 = search needs in let m : length (a .emitted) ≡ 7 = search needs in let k = front-count _ _ _ _ _ (c .before .before .release .ensures) in let h = length-take-le (a .held) (a .t6) (omega (arith, l .few)) in (omega (arith, l .few, k, h), omega (arith, l .few, k, h, c .before .before .before .before .pre .1))
 
--- src/event.rt:56:9
 shifted-requires : tie.Need-shifted-requires
 shifted-requires c κs = let a = c .before .before .before .before .before .before .args in let l = c .before .before .before .before .before .before .pre .0 in let n : length (a .t6) ≡ 6 = search needs in let k = front-count _ _ _ _ _ (c .before .before .before .before .release .ensures) in let h = length-take-le (a .held) (a .t6) (omega (arith, l .few)) in (l .few, omega (arith, k, h))
 
--- src/event.rt:60:20
 cast-t20 : tie.Need-cast-t20
 cast-t20 c = omega (arith, lent-state (c .before .before .before .before .before .before .before .before .pre .0) _ (c .before .before .before .before .before .before .release .ensures))
 
--- src/event.rt:61:20
 sub-t21 : tie.Need-sub-t21
 sub-t21 c = let a = c .before .before .before .before .before .before .before .before .before .args in let l = c .before .before .before .before .before .before .before .before .before .pre .0 in let n : length (a .t6) ≡ 6 = search needs in let k = front-count _ _ _ _ _ (c .before .before .before .before .before .before .before .release .ensures) in let h = length-take-le (a .held) (a .t6) (omega (arith, l .few)) in omega (arith, k, h)
 
--- src/event.rt:61:19
 cast-t22 : tie.Need-cast-t22
 cast-t22 c = omega (arith, c .before .before .before .before .before .before .before .before .before .pre .0 .few)
 
--- src/event.rt:65:17
 add-t25 : tie.Need-add-t25
 add-t25 c = let a = c .before .before .before .before .before .before .before .before .before .before .args in let l = c .before .before .before .before .before .before .before .before .before .before .pre .0 in let n : length (a .t6) ≡ 6 = search needs in let k = front-count _ _ _ _ _ (c .before .before .before .before .before .before .before .before .release .ensures) in let h = length-take-le (a .held) (a .t6) (omega (arith, l .few)) in omega (arith, k, h, l .few, c .before .before .before .before .before .before .before .before .before .before .pre .1)
 
--- src/event.rt:65:16
 cast-t26 : tie.Need-cast-t26
 cast-t26 c = let a = c .before .before .before .before .before .before .before .before .before .before .args in let l = c .before .before .before .before .before .before .before .before .before .before .pre .0 in let n : length (a .t6) ≡ 6 = search needs in let k = front-count _ _ _ _ _ (c .before .before .before .before .before .before .before .before .release .ensures) in let h = length-take-le (a .held) (a .t6) (omega (arith, l .few)) in omega (arith, k, h, l .few, c .before .before .before .before .before .before .before .before .before .before .pre .1)
 
--- src/event.rt:39:1
 returns : tie.Need-returns
 returns c = let a = c .before .before .before .before .before .before .before .before .before .before .args in let p = c .before .before .before .before .before .before .before .before .before .before .pre in let n : length (a .t6) ≡ 6 = search needs in let m : length (a .emitted) ≡ 7 = search needs in answered (p .0) n _ (c .before .before .before .before .before .before .before .before .release .ensures) (a .emitted) m _ (p .1) (p .2) _ _ (c .before .before .before .before .before .copy .ensures) (c .before .before .before .shifted .ensures)
 

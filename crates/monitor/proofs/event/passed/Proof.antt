@@ -7,41 +7,29 @@ use native.Mathlib.Omega.{arith}
 use borrow.Author.Needs.{needs}
 use Rattle.monitor.proofs.event.passed.Statement.{statement}
 use Rattle.monitor.proofs.event.passed.Tie as tie
-use Rattle.monitor.proofs.event.passed.Reads as reads
-use Rattle.monitor.proofs.event.passed.Lts as lts
-use Rattle.base.proofs.size.Reads as size-reads
-use Rattle.monitor.proofs.event.answer.Reads as answer-reads
 
--- src/event.rt:85:5
 array-write-emitted : tie.Need-array-write-emitted
 array-write-emitted c = search needs
 
--- src/event.rt:86:23
 mul-size : tie.Need-mul-size
 mul-size c = omega (arith, c .before .pre .0 .state-low)
 
--- src/event.rt:86:32
 size-requires : tie.Need-size-requires
 size-requires c κs = search needs
 
--- src/event.rt:86:23
 add-size : tie.Need-add-size
 add-size c = search needs
 
--- src/event.rt:86:18
 element-copy-out-size : tie.Need-element-copy-out-size
 element-copy-out-size c = search needs
 
--- src/event.rt:86:9
 size-requires-2 : tie.Need-size-requires-2
 size-requires-2 c κs = search needs
 
--- src/event.rt:87:5
 answer-requires : tie.Need-answer-requires
 unfolding pad
 answer-requires c κs = let p = c .before .before .before .before .pre in (lent-moves (p .0) _ (omega (arith, c .size2 .ensures .0, p .0 .next-low (c .before .before .before .before .args .q * 16 + c .before .before .size .result))), omega arith, refl)
 
--- src/event.rt:71:1
 returns : tie.Need-returns
 returns c = let a = c .before .before .before .before .before .args in let e : c .before .size2 .result ≡ getD (a .next .now) (a .q * 16 + a .e) 0 = c .before .size2 .ensures .0 ∙ ap (λ x. getD (a .next .now) (a .q * 16 + x) 0) (c .before .before .before .size .ensures .0) in rw (← e) (c .answer .ensures)
 

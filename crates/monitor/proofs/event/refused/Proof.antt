@@ -4,10 +4,7 @@ use native.Mathlib.Omega.{arith}
 use borrow.Author.Needs.{needs}
 use Rattle.monitor.proofs.event.refused.Statement.{statement}
 use Rattle.monitor.proofs.event.refused.Tie as tie
-use Rattle.monitor.proofs.event.refused.Reads as reads
-use Rattle.monitor.proofs.event.refused.Lts as lts
 
--- src/event.rt:16:1
 returns : tie.Need-returns
 unfolding refusedEvent
 returns c = refl

@@ -5,27 +5,19 @@ use native.Mathlib.Omega.{arith}
 use borrow.Author.Needs.{needs}
 use Rattle.monitor.proofs.event.shifted.Statement.{statement}
 use Rattle.monitor.proofs.event.shifted.Tie as tie
-use Rattle.monitor.proofs.event.shifted.Reads as reads
-use Rattle.monitor.proofs.event.shifted.Lts as lts
-use Rattle.base.proofs.copy.Reads as copy-reads
 
--- src/event.rt:34:10
 slice-aggregate-copy : tie.Need-slice-aggregate-copy
 slice-aggregate-copy c = search needs
 
--- src/event.rt:34:26
 sub-copy : tie.Need-sub-copy
 sub-copy c = search needs
 
--- src/event.rt:34:40
 slice-aggregate-copy-2 : tie.Need-slice-aggregate-copy-2
 slice-aggregate-copy-2 c = search needs
 
--- src/event.rt:34:5
 copy-requires : tie.Need-copy-requires
 copy-requires c κs = search needs
 
--- src/event.rt:29:1
 returns : tie.Need-returns
 returns c = let a = c .before .before .before .before .args in let n : length (a .t1) ≡ 6 = search needs in c .before .copy .ensures ∙ kept (a .t1) (a .held) (a .count) n (omega arith) (omega arith)
 

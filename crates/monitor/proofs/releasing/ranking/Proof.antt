@@ -11,9 +11,6 @@ use native.Mathlib.Omega.{arith}
 use borrow.Author.Needs.{needs}
 use Rattle.monitor.proofs.releasing.ranking.Statement.{statement}
 use Rattle.monitor.proofs.releasing.ranking.Tie as tie
-use Rattle.monitor.proofs.releasing.ranking.Reads as reads
-use Rattle.monitor.proofs.releasing.ranking.Lts as lts
-use Rattle.base.proofs.wide.Reads as wide-reads
 
 abbrev Inv-loop : tie.InvT-loop
 Inv-loop classes m ranks₀ count₀ e₀ ranks count e = (e ≤ m) × (count ≤ e) × (count ≡ controllableIn classes e) × (ranks ≡ pad 16 (ranksTo classes e))
@@ -21,40 +18,31 @@ Inv-loop classes m ranks₀ count₀ e₀ ranks count e = (e ≤ m) × (count �
 abbrev μ-loop : tie.MeasureT-loop
 μ-loop classes m ranks₀ count₀ e₀ ranks count e = m - e
 
--- src/releasing.rt:18:5
 loop-holds : tie.Need-loop-holds Inv-loop μ-loop
 unfolding controllableIn each.count ranksTo pad
 loop-holds c = (omega arith, omega arith, refl, refl)
 
--- src/releasing.rt:19:12
 element-copy-out-if1 : tie.Need-element-copy-out-if1 Inv-loop μ-loop
 element-copy-out-if1 c = search needs
 
--- src/releasing.rt:20:21
 add-count : tie.Need-add-count Inv-loop μ-loop
 add-count c = search needs
 
--- src/releasing.rt:21:13
 array-write-ranks : tie.Need-array-write-ranks Inv-loop μ-loop
 array-write-ranks c = search needs
 
--- src/releasing.rt:23:13
 add-e : tie.Need-add-e Inv-loop μ-loop
 add-e c = search needs
 
--- src/releasing.rt:18:5
 loop-less : tie.Need-loop-less Inv-loop μ-loop
 loop-less c = search needs
 
--- src/releasing.rt:18:5
 loop-again : tie.Need-loop-again Inv-loop μ-loop
 loop-again c = let v = c .before .before .before .loop .inv in (omega arith, ⊎-elim (λ w. omega arith) (λ w. omega arith) (c .if1 .came), ⊎-elim (λ w. w .2 ∙ counted _ _ _ (v .2) (w .0 .taken)) (λ w. w .2 ∙ passed _ _ _ (v .2) (w .0 .left)) (c .if1 .came), ⊎-elim (λ w. w .1 ∙ rank-set _ _ _ (omega arith) (v .3) _ (w .0 .taken) (counted _ _ _ (v .2) (w .0 .taken))) (λ w. w .1 ∙ rank-none _ _ _ (omega arith) (v .3) (w .0 .left)) (c .if1 .came))
 
--- src/releasing.rt:26:16
 wide-requires : tie.Need-wide-requires Inv-loop μ-loop
 wide-requires c κs = search needs
 
--- src/releasing.rt:11:1
 returns : tie.Need-returns Inv-loop μ-loop
 unfolding rankingOf
 returns c = let e : c .before .before .loop .e ≡ c .before .before .before .args .m = omega arith in let v = c .before .before .loop .inv in rw (c .wide .ensures .0, v .2, v .3, e)

@@ -11,11 +11,6 @@ use native.Mathlib.Omega.{arith}
 use borrow.Author.Needs.{needs}
 use Rattle.monitor.proofs.releasing.release.Statement.{statement}
 use Rattle.monitor.proofs.releasing.release.Tie as tie
-use Rattle.monitor.proofs.releasing.release.Reads as reads
-use Rattle.monitor.proofs.releasing.release.Lts as lts
-use Rattle.base.proofs.size.Reads as size-reads
-use Rattle.monitor.proofs.releasing.in_set.Reads as in-set-reads
-use Rattle.monitor.proofs.releasing.places.Reads as places-reads
 
 abbrev Inv-loop : tie.InvT-loop
 Inv-loop next ranks k table q held buffer places winning₀ count₀ state₀ p₀ r₀ winning count state p r =
@@ -25,79 +20,60 @@ abbrev μ-loop : tie.MeasureT-loop
 μ-loop next ranks k table q held buffer places winning₀ count₀ state₀ p₀ r₀ winning count state p r =
     held - r
 
--- src/releasing.rt:70:18
 places-requires : tie.Need-places-requires Inv-loop μ-loop
 places-requires c κs = let p = c .before .pre in (p .few, p .radix, p .rank-high, p .symbol-low)
 
--- src/releasing.rt:71:37
 array-read-in-set : tie.Need-array-read-in-set Inv-loop μ-loop
 array-read-in-set c = search needs
 
--- src/releasing.rt:71:9
 in-set-requires : tie.Need-in-set-requires Inv-loop μ-loop
 in-set-requires c κs = let a = c .before .before .args in let p = c .before .before .pre in let n : length (a .t6) ≡ 6 = search needs in let long = length-take-le (a .held) (a .t6) (omega (arith, p .few)) in (lent-below p long _ (c .places .ensures) 0 (omega arith), p .state-low)
 
--- src/releasing.rt:76:5
 loop-holds : tie.Need-loop-holds Inv-loop μ-loop
 loop-holds c = let a = c .before .before .before .args in let p = c .before .before .before .pre in let n : length (a .t6) ≡ 6 = search needs in let long = length-take-le (a .held) (a .t6) (omega (arith, p .few)) in (omega arith, p .state-low, long, searching-begins _ _ _ _ _ (lent-rest p long _ (c .before .places .ensures) 0 (omega arith) _ _ (c .in-set .ensures)))
 
--- src/releasing.rt:77:23
 mul-size : tie.Need-mul-size Inv-loop μ-loop
 mul-size c = search needs
 
--- src/releasing.rt:77:37
 array-read-size : tie.Need-array-read-size Inv-loop μ-loop
 array-read-size c = search needs
 
--- src/releasing.rt:77:32
 size-requires : tie.Need-size-requires Inv-loop μ-loop
 size-requires c κs = search needs
 
--- src/releasing.rt:77:23
 add-size : tie.Need-add-size Inv-loop μ-loop
 add-size c = search needs
 
--- src/releasing.rt:77:18
 element-copy-out-size : tie.Need-element-copy-out-size Inv-loop μ-loop
 element-copy-out-size c = omega (arith, c .size .ensures .0, c .before .before .before .before .before .before .pre .symbol-low (c .before .before .loop .r))
 
--- src/releasing.rt:77:9
 size-requires-2 : tie.Need-size-requires-2 Inv-loop μ-loop
 size-requires-2 c κs = search needs
 
--- src/releasing.rt:78:13
 add-r : tie.Need-add-r Inv-loop μ-loop
 add-r c = search needs
 
--- src/releasing.rt:79:26
 mul-in-set : tie.Need-mul-in-set Inv-loop μ-loop
 mul-in-set c = search needs
 
--- src/releasing.rt:79:26
 array-read-in-set-2 : tie.Need-array-read-in-set-2 Inv-loop μ-loop
 array-read-in-set-2 c = search needs
 
--- src/releasing.rt:79:12
 in-set-requires-2 : tie.Need-in-set-requires-2 Inv-loop μ-loop
 in-set-requires-2 c κs = let p = c .before .before .before .before .before .before .before .before .pre in let v = c .before .before .before .before .loop .inv in (lent-below p (v .2) _ (c .before .before .before .before .before .before .places .ensures) (c .before .before .before .before .loop .r + 1) (omega arith), omega (arith, c .size2 .ensures .0, p .next-low (c .before .before .before .before .loop .p * 16 + c .before .before .size .result)))
 
--- src/releasing.rt:76:5
 loop-less : tie.Need-loop-less Inv-loop μ-loop
 loop-less c = search needs
 
--- src/releasing.rt:76:5
 loop-again : tie.Need-loop-again Inv-loop μ-loop
 loop-again c = let p = c .before .before .before .before .before .before .before .before .before .before .pre in let v = c .before .before .before .before .before .before .loop .inv in let r = c .before .before .before .before .before .before .loop .r in let h : r < length (take (c .before .before .before .before .before .before .before .before .before .before .args .held) (c .before .before .before .before .before .before .before .before .before .before .args .t6)) = omega (arith, v .2) in (omega arith, omega (arith, c .before .before .size2 .ensures .0, p .next-low (c .before .before .before .before .before .before .loop .p * 16 + c .before .before .before .before .size .result)), v .2, searching-finds _ _ _ _ (v .3) h _ (lent-step p (v .2) _ r _ _ (omega arith) (c .before .before .before .before .size .ensures .0) (c .before .before .size2 .ensures .0)) _ (lent-rest p (v .2) _ (c .before .before .before .before .before .before .before .before .places .ensures) (r + 1) (omega arith) _ _ (c .before .in-set2 .ensures)) (c .if1 .taken))
 
--- src/releasing.rt:76:5
 loop-less-2 : tie.Need-loop-less-2 Inv-loop μ-loop
 loop-less-2 c = search needs
 
--- src/releasing.rt:76:5
 loop-again-2 : tie.Need-loop-again-2 Inv-loop μ-loop
 loop-again-2 c = let p = c .before .before .before .before .before .before .before .before .before .before .pre in let v = c .before .before .before .before .before .before .loop .inv in let r = c .before .before .before .before .before .before .loop .r in let h : r < length (take (c .before .before .before .before .before .before .before .before .before .before .args .held) (c .before .before .before .before .before .before .before .before .before .before .args .t6)) = omega (arith, v .2) in (omega arith, omega (arith, c .before .before .size2 .ensures .0, p .next-low (c .before .before .before .before .before .before .loop .p * 16 + c .before .before .before .before .size .result)), v .2, searching-passes _ _ _ _ (v .3) h _ (lent-step p (v .2) _ r _ _ (omega arith) (c .before .before .before .before .size .ensures .0) (c .before .before .size2 .ensures .0)) _ (lent-rest p (v .2) _ (c .before .before .before .before .before .before .before .before .places .ensures) (r + 1) (omega arith) _ _ (c .before .in-set2 .ensures)) (c .if1 .left))
 
--- src/releasing.rt:58:1
 returns : tie.Need-returns Inv-loop μ-loop
 returns c = searching-done _ _ _ _ (c .before .loop .inv .3) (omega (arith, c .before .loop .inv .2))
 

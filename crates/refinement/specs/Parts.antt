@@ -1,0 +1,58 @@
+-- What the inner functions of the solver hand back, over the arrays that are lent to them: the next states and the first u of a list
+-- of symbols.
+use Prim.Native.Nat.{ℕ, zero, suc, _+_, _*_, _<_, _≤_}
+use mathlib.Core.Bool.{Bool, cond, _&&_}
+use mathlib.Core.List.{List, [], _∷_, _++_}
+use lib.Bits.{bitOr}
+use lib.Dec.{eqb}
+use lib.ListN.{length, getD}
+use Rattle.base.specs.Each.{each}
+use Rattle.base.specs.Masks.{has, mask}
+use Rattle.base.specs.Pad.{pad}
+use Rattle.sets.specs.declared.Settled.{Settled}
+use Rattle.sets.specs.Sets.{settle}
+pub use Rattle.refinement.specs.declared.Symbols.{Symbols}
+
+-- every number of a list is below a limit
+abbrev pub Below : ℕ → List ℕ → Type 0
+Below limit l = (i : ℕ) → getD l i 0 < limit
+
+-- n states and u symbols with which the lent arrays can be indexed
+pub record Fits (next free : List ℕ) (n u : ℕ) : Type 0 where
+  pub states : n ≤ 32
+  pub symbols : u ≤ 16
+  pub next-below : Below 32 next
+  pub free-below : Below 16 free
+
+-- the states whose flag is 1
+unfoldable pub flagged : List ℕ → ℕ → ℕ
+flagged flags n = mask n (λ q. eqb (getD flags q 0) 1)
+
+-- the symbols below m that are not controllable, rising
+unfoldable pub freeTo : List ℕ → ℕ → List ℕ
+freeTo classes zero = []
+freeTo classes (suc e) = freeTo classes e ++ cond (eqb (getD classes e 0) 1) [] (e ∷ [])
+
+-- .. as an array, with their number
+unfoldable pub freeOf : List ℕ → ℕ → Symbols
+freeOf classes m = record { count = length (freeTo classes m); list = pad 16 (freeTo classes m) }
+
+-- the next state of q under e
+abbrev pub goes : List ℕ → ℕ → ℕ → ℕ
+goes next q e = getD next (q * 16 + e) 0
+
+-- each of the first u symbols leads from q into the set x
+unfoldable pub leads : List ℕ → List ℕ → ℕ → ℕ → ℕ → Bool
+leads next free u x q = each u (λ k. has x (goes next q (getD free k 0)))
+
+-- one round: what is left of x where each symbol has to lead into x or i
+unfoldable pub leftOf : List ℕ → List ℕ → ℕ → ℕ → ℕ → ℕ → ℕ
+leftOf next free n u i x = mask n (λ q. has x q && leads next free u (bitOr x i) q)
+
+-- rounds from x on
+unfoldable pub settledOn : List ℕ → List ℕ → ℕ → ℕ → ℕ → ℕ → Settled
+settledOn next free n u i x = settle (leftOf next free n u i) x x
+
+-- the states that e takes into the set x
+unfoldable pub predecessors : List ℕ → ℕ → ℕ → ℕ → ℕ
+predecessors next n e x = mask n (λ q. has x (goes next q e))

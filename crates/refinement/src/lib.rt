@@ -1,0 +1,123 @@
+// The largest set in which the monitor may rest, by rounds of refinement. The arrays are lent: `next` is the automaton's, of n states,
+// and `free` has the u uncontrollable symbols, so that a round looks at no others.
+use base::bit;
+use base::has;
+use base::size;
+use sets::Settled;
+ghost use mathlib.Core.Path.{_≡_};
+ghost use Prim.Native.Nat.{_<_, _≤_};
+ghost use Rattle.refinement.specs.Parts.{Below, Fits, flagged, freeOf, leftOf, settledOn, predecessors};
+
+// Some of the symbols, in rising order: the first `count` of the list.
+pub struct Symbols {
+    pub count: usize,
+    pub list: [u8; 16],
+}
+
+// The accepting states as a set.
+pub fn accepting_states(flags: &[u8; 32], n: usize) -> u32
+    requires { ⌜ n ≤ 32 ⌝ }
+    ensures { λ r. ⌜ r ≡ flagged (now (flags .entry)) n ⌝ }
+{
+    let mut set: u32 = 0;
+    let mut q: usize = 0;
+    while q < n {
+        if flags[q] == 1 {
+            set = set + bit(q);
+        }
+        q = q + 1;
+    }
+    set
+}
+
+// The uncontrollable ones of m symbols.
+pub fn uncontrollable(classes: &[u8; 16], m: usize) -> Symbols
+    requires { ⌜ m ≤ 16 ⌝ }
+    ensures { λ r. ⌜ r ≡ freeOf (now (classes .entry)) m ⌝ }
+{
+    let mut list = [0u8; 16];
+    let mut count: usize = 0;
+    let mut e: u8 = 0;
+    while size(e) < m {
+        if classes[size(e)] != 1 {
+            list[count] = e;
+            count = count + 1;
+        }
+        e = e + 1;
+    }
+    Symbols { count, list }
+}
+
+// One round (document 01's striking): what is left of `set` when each state is taken out of which a symbol leads neither into `set`,
+// as it stood when the round began, nor into `intermediate`.
+fn refine<'a>(
+    next: &'a [u8; 512],
+    free: &'a [u8; 16],
+    n: usize,
+    u: usize,
+    intermediate: u32,
+    set: u32,
+) -> u32
+    requires { ⌜ Fits (now next) (now free) n u ⌝ }
+    ensures { λ r. ⌜ r ≡ leftOf (now (next .entry)) (now (free .entry)) n u intermediate set ⌝ }
+{
+    let mut kept: u32 = 0;
+    let mut q: usize = 0;
+    while q < n {
+        if has(set, q) {
+            let safe = set | intermediate;
+            let mut k: usize = 0;
+            'scan: while k < u {
+                if !has(safe, size(next[q * 16 + size(free[k])])) {
+                    break 'scan;
+                }
+                k = k + 1;
+            }
+            if k == u {
+                kept = kept + bit(q);
+            }
+        }
+        q = q + 1;
+    }
+    kept
+}
+
+// Rounds until one takes nothing out, and how many took a state out.
+pub fn settle<'a>(
+    next: &'a [u8; 512],
+    free: &'a [u8; 16],
+    n: usize,
+    u: usize,
+    intermediate: u32,
+    from: u32,
+) -> Settled
+    requires { ⌜ Fits (now next) (now free) n u ⌝ }
+    ensures { λ r. ⌜ r ≡ settledOn (now (next .entry)) (now (free .entry)) n u intermediate from ⌝ }
+{
+    let mut set = from;
+    let mut rounds: u32 = 0;
+    loop {
+        let kept = refine(next, free, n, u, intermediate, set);
+        if kept == set {
+            break Settled { set, rounds };
+        }
+        set = kept;
+        rounds = rounds + 1;
+    }
+}
+
+// The states that a symbol takes into a set.
+pub fn predecessors(next: &[u8; 512], n: usize, symbol: usize, goal: u32) -> u32
+    requires { ⌜ (n ≤ 32) × Below 32 (now next) × (symbol < 16) ⌝ }
+    ensures { λ r. ⌜ r ≡ predecessors (now (next .entry)) n symbol goal ⌝ }
+{
+    let mut set: u32 = 0;
+    let mut q: usize = 0;
+    while q < n {
+        if has(goal, size(next[q * 16 + symbol])) {
+            set = set + bit(q);
+        }
+        q = q + 1;
+    }
+    set
+}

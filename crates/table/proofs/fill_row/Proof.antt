@@ -1,0 +1,116 @@
+use Rattle.table.proofs.Filling.{known-new, known-old, Filling, fill-none, fill-more, fill-fits, sets-few}
+use Rattle.table.specs.Parts.{setsFrom}
+use lib.ListN.{length-set}
+use Prim.Native.Nat.{_≤_, _-_}
+use mathlib.Core.Path.{_≡_}
+use mathlib.Core.Logic.{⊎-elim}
+use native.Mathlib.Omega.{arith}
+use borrow.Author.Needs.{needs}
+use Rattle.table.proofs.fill_row.Statement.{statement}
+use Rattle.table.proofs.fill_row.Tie as tie
+
+abbrev Inv-loop : tie.InvT-loop
+Inv-loop next free n u accepting symbol table₀ from to count known₀ last₀ rounds₀ j₀ table known last rounds j =
+    (j ≤ count) × Filling (setsFrom next free n u accepting symbol) table₀ from to j table known last rounds
+
+abbrev μ-loop : tie.MeasureT-loop
+μ-loop next free n u accepting symbol table₀ from to count known₀ last₀ rounds₀ j₀ table known last rounds j = count - j
+
+sets-from-requires : tie.Need-sets-from-requires Inv-loop μ-loop
+sets-from-requires c κs = search needs
+
+loop-holds : tie.Need-loop-holds Inv-loop μ-loop
+loop-holds c = (omega arith, fill-none _ _ _ _ _ _ (c .sets-from .ensures))
+
+mul-i : tie.Need-mul-i Inv-loop μ-loop
+mul-i c = search needs
+
+add-i : tie.Need-add-i Inv-loop μ-loop
+add-i c = search needs
+
+mul-goal : tie.Need-mul-goal Inv-loop μ-loop
+mul-goal c = search needs
+
+slice-read-goal : tie.Need-slice-read-goal Inv-loop μ-loop
+slice-read-goal c = omega arith
+
+add-goal : tie.Need-add-goal Inv-loop μ-loop
+add-goal c = search needs
+
+mul-goal-2 : tie.Need-mul-goal-2 Inv-loop μ-loop
+mul-goal-2 c = search needs
+
+slice-read-goal-2 : tie.Need-slice-read-goal-2 Inv-loop μ-loop
+slice-read-goal-2 c = omega arith
+
+sets-from-requires-2 : tie.Need-sets-from-requires-2 Inv-loop μ-loop
+sets-from-requires-2 c κs = search needs
+
+mul-o : tie.Need-mul-o Inv-loop μ-loop
+mul-o c = search needs
+
+add-o : tie.Need-add-o Inv-loop μ-loop
+add-o c = search needs
+
+mul-table : tie.Need-mul-table Inv-loop μ-loop
+mul-table c = search needs
+
+slice-write-table : tie.Need-slice-write-table Inv-loop μ-loop
+slice-write-table c = omega arith
+
+add-table : tie.Need-add-table Inv-loop μ-loop
+add-table c = search needs
+
+mul-table-2 : tie.Need-mul-table-2 Inv-loop μ-loop
+mul-table-2 c = search needs
+
+slice-write-table-2 : tie.Need-slice-write-table-2 Inv-loop μ-loop
+slice-write-table-2 c = simp length-set (omega arith)
+
+add-rounds : tie.Need-add-rounds Inv-loop μ-loop
+add-rounds c = let a = c .before .before .before .before .before .before .before .before .args in let v = c .before .before .before .before .before .loop .inv .1 in let p = c .before .before .before .before .before .before .before .before .pre in omega (arith, fill-fits _ _ _ _ _ _ _ _ _ v (omega arith) _ _ (⊎-elim (λ w. known-new _ _ _ _ _ (w .2) (w .3) (w .1 .ensures)) (λ w. known-old _ _ _ _ _ _ (w .0 .left) (v .remembered) (w .1) (w .2)) (c .before .if1 .came)) (sets-few _ _ _ _ _ (p .0 .states) (p .1) (a .symbol)))
+
+add-j : tie.Need-add-j Inv-loop μ-loop
+add-j c = search needs
+
+loop-less : tie.Need-loop-less Inv-loop μ-loop
+loop-less c = search needs
+
+loop-again : tie.Need-loop-again Inv-loop μ-loop
+loop-again c = let v = c .before .before .before .before .before .loop .inv .1 in (omega arith, fill-more _ _ _ _ _ _ _ _ _ v (omega arith) _ _ (⊎-elim (λ w. known-new _ _ _ _ _ (w .2) (w .3) (w .1 .ensures)) (λ w. known-old _ _ _ _ _ _ (w .0 .left) (v .remembered) (w .1) (w .2)) (c .before .if1 .came)))
+
+same-length : tie.Need-same-length Inv-loop μ-loop
+same-length c = c .before .loop .inv .1 .same
+
+returns : tie.Need-returns Inv-loop μ-loop
+returns c = let e : c .before .loop .j ≡ c .before .before .before .before .args .count = omega arith in (rw e at (c .before .loop .inv .1 .written), rw e at (c .before .loop .inv .1 .summed))
+
+pub fill-row-spec : {M : Type 1} → statement M
+fill-row-spec =
+    tie.close
+    (tie.spec
+    Inv-loop
+    μ-loop
+    sets-from-requires
+    loop-holds
+    mul-i
+    add-i
+    mul-goal
+    slice-read-goal
+    add-goal
+    mul-goal-2
+    slice-read-goal-2
+    sets-from-requires-2
+    mul-o
+    add-o
+    mul-table
+    slice-write-table
+    add-table
+    mul-table-2
+    slice-write-table-2
+    add-rounds
+    add-j
+    loop-less
+    loop-again
+    same-length
+    returns)
