@@ -2,8 +2,8 @@ use lib.ListN.{length}
 use Prim.Native.Nat.{_≤_, _-_}
 use native.Mathlib.Omega.{arith}
 use borrow.Author.Needs.{needs}
-use Rattle.cases.proofs.bytes.Statement.{statement}
-use Rattle.cases.proofs.bytes.Tie as tie
+use Rattle.cases.proofs.show.bytes.Statement.{statement}
+use Rattle.cases.proofs.show.bytes.Tie as tie
 
 abbrev Inv-loop : tie.InvT-loop
 Inv-loop s i₀ t3 i = i ≤ length s

@@ -3,8 +3,8 @@ use Prim.Native.Nat.{_+_}
 use lib.ListN.{length, length-take}
 use native.Mathlib.Omega.{arith}
 use borrow.Author.Needs.{needs}
-use Rattle.cases.proofs.plain_sheet.Statement.{statement}
-use Rattle.cases.proofs.plain_sheet.Tie as tie
+use Rattle.cases.proofs.codec.plain_sheet.Statement.{statement}
+use Rattle.cases.proofs.codec.plain_sheet.Tie as tie
 
 three-requires : tie.Need-three-requires
 three-requires c κs = search needs
