@@ -7,7 +7,7 @@ use lib.Dec.{eqb}
 use borrow.Author.Tests.{eqb-false}
 use Rattle.base.proofs.Bools.{by}
 use Rattle.automaton.specs.declared.Automaton.{Automaton}
-use Rattle.monitor.specs.Step.{eventRefusal}
+use Rattle.releasing.specs.Step.{eventRefusal}
 use Rattle.claims.specs.Store.{Store, empty, store, storeAll, Feed, event, events, lacksRoom, feed, feedAll, acceptedOf, acceptedBy, acceptedAll}
 use Rattle.claims.specs.Calls.{fedBy}
 use Rattle.claims.specs.Claims.{AcceptedAlone}

@@ -12,9 +12,9 @@ use Rattle.automaton.specs.Automaton.{run, valid}
 use Rattle.sets.specs.Table.{Solved}
 use Rattle.sets.proofs.Total.{total}
 use Rattle.configuration.specs.Carried.{initialOf}
-use Rattle.monitor.specs.Step.{bySets, byTable, eventRefusal}
-use Rattle.monitor.proofs.Effects.{effect-same}
-use Rattle.monitor.proofs.Solved.{solved-agree}
+use Rattle.releasing.specs.Step.{bySets, byTable, eventRefusal}
+use Rattle.releasing.proofs.Effects.{effect-same}
+use Rattle.releasing.proofs.Solved.{solved-agree}
 use Rattle.claims.specs.Store.{Store, empty, stateOf, store, storeAll, lacksRoom, feed, feedAll, acceptedOf, acceptedBy, acceptedAll}
 use Rattle.claims.specs.Calls.{Call, one, day, fedBy, configurationOf}
 use Rattle.claims.specs.Moments.{Moment, AllOf, effectAt, emittedAt, within, broughtBy, broughtAll, moments}

@@ -11,7 +11,7 @@ use Rattle.sets.specs.Sets.{acceptingSet, admits, stays, refine, settle, settle
 use Rattle.sets.specs.Table.{rank, value, shorter, index, buffersCount, short, controllableTo, extended, buffersAt, buffersTo, pairs, roundsSum, table, rounds}
 use Rattle.configuration.specs.Carried.{heldEvents, holdable, consistent, initialOf}
 use Rattle.winning.specs.Solving.{countAnswer}
-use Rattle.monitor.specs.Step.{byTable, qualifies, qualifying, release, remaining, arrival, effect, eventRows}
+use Rattle.releasing.specs.Step.{byTable, qualifies, qualifying, release, remaining, arrival, effect, eventRows}
 use Rattle.monitor.specs.Answers.{callRows, isWinning, guardRefusal, guard, receiveRefusal, received}
 use Rattle.claims.specs.Calls.{handedBack, reply, replies}
 use Rattle.claims.specs.Cases.{sheetV, sheetW, sized, MarkedCases}

@@ -19,7 +19,7 @@ use Rattle.sets.specs.Definition6.{Uncontrollable}
 use Rattle.sets.proofs.Total.{Total, run-below}
 use Rattle.sets.proofs.Largest.{sets-are}
 use Rattle.sets.proofs.Growth.{first-intermediate}
-use Rattle.monitor.specs.Step.{remaining}
+use Rattle.releasing.specs.Step.{remaining}
 use Rattle.claims.specs.Rival.{Strategy, play, Lost, lostBound}
 use Rattle.claims.proofs.Resting.{by-comes}
 

@@ -12,8 +12,8 @@ use Rattle.automaton.specs.Automaton.{run, valid}
 use Rattle.automaton.proofs.Running.{run-append}
 use Rattle.sets.proofs.Total.{Total, total}
 use Rattle.configuration.specs.Carried.{heldEvents, initialOf}
-use Rattle.monitor.specs.Step.{byTable, eventRefusal}
-use Rattle.monitor.proofs.Effects.{Occurs, initial-occurs, effect-occurs, effect-leads}
+use Rattle.releasing.specs.Step.{byTable, eventRefusal}
+use Rattle.releasing.proofs.Effects.{Occurs, initial-occurs, effect-occurs, effect-leads}
 use Rattle.claims.specs.Calls.{Call}
 use Rattle.claims.specs.Moments.{Moment, effectAt, AllOf, within, moments}
 use Rattle.claims.specs.Claims.{outputAfter}

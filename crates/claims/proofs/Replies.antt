@@ -20,12 +20,12 @@ use Rattle.configuration.specs.declared.Configuration.{Configuration}
 use Rattle.configuration.specs.Carried.{heldEvents, configuration, consistent}
 use Rattle.configuration.proofs.Facts.{configuration-consistent, consistent-of}
 use Rattle.monitor.specs.declared.Received.{Received}
-use Rattle.monitor.specs.Step.{bySets, byTable, effect, eventRows, eventRefusal, runOf}
+use Rattle.releasing.specs.Step.{bySets, byTable, effect, eventRows, eventRefusal, runOf}
 use Rattle.monitor.specs.Answers.{receiveRefusal, received, room, runRefusal, ran, ranBuffer}
-use Rattle.monitor.proofs.Effects.{effect-occurs, effect-same}
-use Rattle.monitor.proofs.Runs.{run-same}
+use Rattle.releasing.proofs.Effects.{effect-occurs, effect-same}
+use Rattle.releasing.proofs.Runs.{run-same}
 use Rattle.monitor.proofs.Refusals.{rows-pass}
-use Rattle.monitor.proofs.Solved.{solved-agree}
+use Rattle.releasing.proofs.Solved.{solved-agree}
 use Rattle.claims.specs.Store.{Store, empty, stateOf, store, storeAll, lacksRoom, feed, feedAll}
 use Rattle.claims.specs.Calls.{Call, one, day, handedBack, emittedBy, reply, replies, configurationAfter, emittedAll, fedBy, configurationOf, since, expected, expectedAll}
 use Rattle.claims.specs.Claims.{Demand3}

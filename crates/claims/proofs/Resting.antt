@@ -14,8 +14,8 @@ use Rattle.sets.specs.Claims.{Winning, Intermediate}
 use Rattle.sets.proofs.Total.{Total}
 use Rattle.sets.proofs.Largest.{sets-are}
 use Rattle.sets.proofs.Growth.{none-intermediate, intermediate-first, first-intermediate, winning-end}
-use Rattle.monitor.specs.Step.{bySets, qualifies, remaining, arrival, effect}
-use Rattle.monitor.proofs.Release.{release-longest}
+use Rattle.releasing.specs.Step.{bySets, qualifies, remaining, arrival, effect}
+use Rattle.releasing.proofs.Longest.{release-longest}
 
 module _ (a : Automaton) where
   -- it can come to rest: at once, or when it has released

@@ -15,10 +15,10 @@ use Rattle.automaton.proofs.Running.{run-append}
 use Rattle.sets.specs.Sets.{sets}
 use Rattle.sets.specs.Table.{Solved}
 use Rattle.sets.proofs.Total.{total}
-use Rattle.monitor.specs.Step.{bySets, byTable, qualifies, release, arrival}
-use Rattle.monitor.proofs.Release.{release-le, release-longest}
-use Rattle.monitor.proofs.Effects.{arrival-occurs, arrival-leads, released-occurs}
-use Rattle.monitor.proofs.Solved.{solved-agree}
+use Rattle.releasing.specs.Step.{bySets, byTable, qualifies, release, arrival}
+use Rattle.releasing.proofs.Longest.{release-le, release-longest}
+use Rattle.releasing.proofs.Effects.{arrival-occurs, arrival-leads, released-occurs}
+use Rattle.releasing.proofs.Solved.{solved-agree}
 use Rattle.claims.specs.Moments.{Moment}
 use Rattle.claims.specs.Claims.{arrivalAt, rivalRelease, ourRelease, rivalOutput, rivalBuffer, LongerLoses, RivalsLose}
 use Rattle.claims.proofs.Moments.{Met, moments-all}

@@ -13,10 +13,10 @@ use Rattle.sets.specs.Claims.{Winning}
 use Rattle.sets.proofs.Total.{total}
 use Rattle.sets.proofs.Largest.{sets-are}
 use Rattle.configuration.specs.Carried.{heldEvents, initialOf}
-use Rattle.monitor.specs.Step.{bySets, byTable}
+use Rattle.releasing.specs.Step.{bySets, byTable}
 use Rattle.monitor.specs.Answers.{isWinning}
-use Rattle.monitor.proofs.Effects.{initial-occurs, accepted-facts, effect-same}
-use Rattle.monitor.proofs.Solved.{solved-agree}
+use Rattle.releasing.proofs.Effects.{initial-occurs, accepted-facts, effect-same}
+use Rattle.releasing.proofs.Solved.{solved-agree}
 use Rattle.claims.specs.Calls.{Call}
 use Rattle.claims.specs.Moments.{Moment, effectAt, moments}
 use Rattle.claims.specs.Claims.{winningAfter, outputAfter, Stays, WinningStays}

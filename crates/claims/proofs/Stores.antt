@@ -14,9 +14,9 @@ use Rattle.automaton.specs.Automaton.{controllable, run, valid}
 use Rattle.automaton.proofs.Running.{run-append}
 use Rattle.sets.proofs.Total.{Total}
 use Rattle.configuration.specs.Carried.{initialOf}
-use Rattle.monitor.specs.Step.{bySets, Effect, arrival, effect, eventRefusal, Run, runOf}
-use Rattle.monitor.proofs.Effects.{Occurs, initial-occurs, arrival-leads, effect-leads}
-use Rattle.monitor.proofs.Runs.{after, run-accepts, run-refuses, run-occurs, run-leads}
+use Rattle.releasing.specs.Step.{bySets, Effect, arrival, effect, eventRefusal, Run, runOf}
+use Rattle.releasing.proofs.Effects.{Occurs, initial-occurs, arrival-leads, effect-leads}
+use Rattle.releasing.proofs.Runs.{after, run-accepts, run-refuses, run-occurs, run-leads}
 use Rattle.claims.specs.Store.{Store, empty, stateOf, added, moved, store, storeAll, refusedOf}
 use Rattle.claims.specs.Calls.{configurationOf, since}
 

@@ -12,7 +12,7 @@ use Rattle.configuration.specs.declared.Configuration.{Configuration}
 use Rattle.configuration.specs.Carried.{configuration}
 use Rattle.monitor.specs.declared.Received.{Received}
 use Rattle.monitor.specs.declared.Ran.{Ran}
-use Rattle.monitor.specs.Step.{bySets, eventRefusal}
+use Rattle.releasing.specs.Step.{bySets, eventRefusal}
 use Rattle.monitor.specs.Answers.{received, ran, ranBuffer}
 use Rattle.claims.specs.Store.{Store, stateOf, store, storeAll, Feed, event, events, lacksRoom, feed, refusedOf}
 

@@ -8,7 +8,7 @@ use Rattle.automaton.specs.declared.Automaton.{Automaton}
 use Rattle.automaton.specs.Automaton.{valid, accepts, run}
 use Rattle.sets.specs.Table.{Solved}
 use Rattle.configuration.specs.Carried.{consistent, initialOf}
-use Rattle.monitor.specs.Step.{byTable, Effect, release, arrival}
+use Rattle.releasing.specs.Step.{byTable, Effect, release, arrival}
 use Rattle.monitor.specs.Answers.{isWinning}
 use Rattle.claims.specs.Store.{Store, empty, storeAll, feedAll, acceptedAll}
 use Rattle.claims.specs.Calls.{Call, Reply, replies, configurationAfter, emittedAll, fedBy, configurationOf, expectedAll}

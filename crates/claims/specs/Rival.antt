@@ -8,7 +8,7 @@ use Rattle.base.specs.Each.{count}
 use Rattle.automaton.specs.declared.Automaton.{Automaton}
 use Rattle.automaton.specs.Automaton.{accepts, run}
 use Rattle.sets.specs.Definition6.{AllUncontrollable}
-use Rattle.monitor.specs.Step.{remaining}
+use Rattle.releasing.specs.Step.{remaining}
 
 -- A rule, fixed beforehand: from all events and its own whole output so far, how many of its held events it emits then. What is
 -- emitted is clipped to what it holds.

@@ -7,7 +7,7 @@ use lib.ListN.{length, take, drop}
 use lib.Dec.{eqb, ltb}
 use Rattle.automaton.specs.declared.Automaton.{Automaton}
 use Rattle.automaton.specs.Automaton.{controllable, run}
-use Rattle.monitor.specs.Step.{bySets, release, remaining, eventRefusal}
+use Rattle.releasing.specs.Step.{bySets, release, remaining, eventRefusal}
 use Rattle.monitor.specs.Answers.{room}
 
 pub record Store : Type 0 where

@@ -14,10 +14,16 @@ use Rattle.base.proofs.Bools.{by}
 use Rattle.base.proofs.Padding.{pad-sets, pad-stored}
 use Rattle.automaton.specs.declared.Automaton.{Automaton}
 use Rattle.automaton.specs.Automaton.{step, run}
-use Rattle.monitor.specs.Step.{Rest, qualifies, release}
-use Rattle.monitor.specs.Answers.{Received}
-use Rattle.monitor.specs.Parts.{Front, front, placeIn, restIn, over, Lent, releasedFrom}
-use Rattle.monitor.proofs.Release.{release-le}
+use Rattle.releasing.specs.Step.{byTable, Rest, qualifies, release}
+use Rattle.monitor.specs.declared.Received.{Received}
+use Rattle.releasing.specs.declared.Front.{Front}
+use Rattle.releasing.specs.Parts.{rankingOf, front, placeIn, restIn, over, Lent}
+use Rattle.monitor.specs.Parts.{releasedFrom}
+use Rattle.releasing.proofs.Longest.{release-le}
+use Rattle.releasing.proofs.Tabled.{release-tabled, run-over, asked}
+use Rattle.releasing.specs.declared.Ranking.{Ranking}
+use Rattle.automaton.proofs.Facts.{Valid}
+use Rattle.sets.specs.Table.{Buffer}
 
 -- what the release found
 module _ (rest : Rest) (a : Automaton) (q : ℕ) (w : List ℕ) (f : Front) (e : f ≡ front rest a q w) where
@@ -111,3 +117,14 @@ module _ {next ranks : List ℕ} {k : ℕ} {t : List ℕ} {q : ℕ} {buffer : Li
 -- one more event at the end of the buffer
 pub longer : (buffer : List ℕ) (held e : ℕ) → held < length buffer → take (held + 1) (set buffer held e) ≡ take held buffer ++ e ∷ []
 longer buffer held e h = rw (add-one held) (take-suc-set buffer held e h)
+
+-- with the automaton's own ranks and next states it is the rule read from the table
+module _ (a : Automaton) (v : Valid a) (t : List ℕ) (w : List ℕ) (b : Buffer a w) (q : ℕ) where
+  abbrev ranking : Ranking
+  ranking = rankingOf (a .classes) (a .symbols)
+
+  pub released-tabled : (emitted : List ℕ)
+      → releasedFrom (restIn t (ranking .ranks) (ranking .count)) (over (a .next)) q w emitted ≡ releasedFrom (byTable a t) a q w emitted
+  unfolding releasedFrom
+  released-tabled emitted =
+      rw (release-tabled a v t w b q, run-over a (take (release (byTable a t) a q w) w) q, asked a v t w b q (release (byTable a t) a q w))

@@ -16,7 +16,10 @@ use Rattle.sets.specs.Table.{shorter, buffersCount, short}
 use Rattle.configuration.specs.declared.Configuration.{Configuration}
 use Rattle.configuration.specs.Carried.{consistent}
 use Rattle.monitor.specs.Answers.{guardRefusal}
-use Rattle.monitor.specs.Parts.{Ranking, Entry, rankingOf, entryOf}
+use Rattle.releasing.specs.declared.Ranking.{Ranking}
+use Rattle.releasing.specs.Parts.{rankingOf}
+use Rattle.monitor.specs.declared.Entry.{Entry}
+use Rattle.monitor.specs.Parts.{entryOf}
 use Rattle.monitor.proofs.Refusals.{guard-invalid, guard-short, guard-inconsistent, guard-clear}
 
 -- the count of a ranking

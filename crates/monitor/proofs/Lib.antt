@@ -1,12 +1,4 @@
-pub mod Places
-pub mod Searching
+pub mod Refusals
 pub mod Answering
 pub mod Entries
-pub mod Tabled
 pub mod Receiving
-pub mod Days
-pub mod Release
-pub mod Effects
-pub mod Runs
-pub mod Refusals
-pub mod Solved

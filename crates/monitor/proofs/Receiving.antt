@@ -19,12 +19,17 @@ use Rattle.sets.proofs.Buffers.{buffer-end}
 use Rattle.configuration.specs.declared.Configuration.{Configuration}
 use Rattle.configuration.specs.Carried.{heldEvents, consistent}
 use Rattle.configuration.proofs.Facts.{Consistent, consistent-facts, held-buffer, held-event, unused-place}
-use Rattle.monitor.specs.Step.{byTable, qualifies, release, remaining, arrival, effect, eventRows, eventRefusal}
-use Rattle.monitor.specs.Answers.{Received, callRows, guardRefusal, receiveRefusal, received, isWinning, Guard, guard}
-use Rattle.monitor.specs.Parts.{Ranking, Entry, rankingOf, restIn, over, Lent, entryOf, refusedEvent, releasedFrom}
+use Rattle.releasing.specs.Step.{byTable, qualifies, release, remaining, arrival, effect, eventRows, eventRefusal}
+use Rattle.monitor.specs.declared.Received.{Received}
+use Rattle.monitor.specs.declared.Guard.{Guard}
+use Rattle.monitor.specs.Answers.{callRows, guardRefusal, receiveRefusal, received, isWinning, guard}
+use Rattle.releasing.specs.declared.Ranking.{Ranking}
+use Rattle.releasing.specs.Parts.{rankingOf, restIn, over, Lent}
+use Rattle.monitor.specs.declared.Entry.{Entry}
+use Rattle.monitor.specs.Parts.{entryOf, refusedEvent, releasedFrom}
 use Rattle.monitor.proofs.Refusals.{Clear, clear, guard-clear, rows-stand, rows-pass}
-use Rattle.monitor.proofs.Tabled.{rank-controllable, rank-uncontrollable, released-tabled, rest-tabled, lent}
-use Rattle.monitor.proofs.Answering.{longer}
+use Rattle.releasing.proofs.Tabled.{rank-controllable, rank-uncontrollable, rest-tabled, lent}
+use Rattle.monitor.proofs.Answering.{longer, released-tabled}
 
 module _ (a : Automaton) (t : List ℕ) (c : Configuration) where
   -- an accepted event's answer is the release after its arrival

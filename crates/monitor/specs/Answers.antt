@@ -11,7 +11,7 @@ use Rattle.automaton.specs.Automaton.{valid}
 use Rattle.sets.specs.Table.{short}
 use Rattle.configuration.specs.declared.Configuration.{Configuration}
 use Rattle.configuration.specs.Carried.{configuration, heldEvents, consistent}
-use Rattle.monitor.specs.Step.{byTable, effect, eventRows, Run, runOf}
+use Rattle.releasing.specs.Step.{byTable, effect, eventRows, Run, runOf}
 pub use Rattle.monitor.specs.declared.Guard.{Guard}
 pub use Rattle.monitor.specs.declared.Received.{Received}
 pub use Rattle.monitor.specs.declared.Ran.{Ran}

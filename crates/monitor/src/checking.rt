@@ -1,10 +1,10 @@
 // Rows 11 to 13, which every call checks first, and whether a configuration is winning.
 use crate::Entry;
 use crate::Guard;
-use crate::Ranking;
-use crate::releasing::in_set;
-use crate::releasing::places;
-use crate::releasing::ranking;
+use releasing::Ranking;
+use releasing::in_set;
+use releasing::places;
+use releasing::rank_symbols;
 use automaton::Automaton;
 use base::size;
 use configuration::Configuration;
@@ -24,7 +24,7 @@ pub fn enter(a: Automaton, table: &[u32], c: Configuration) -> Entry
             },
         };
     }
-    let ranking = ranking(&a.classes, size(a.symbols));
+    let ranking = rank_symbols(&a.classes, size(a.symbols));
     let buffers = winning::buffers_to(ranking.count as usize, size(a.capacity));
     if table.len() < 2 * buffers {
         return Entry {

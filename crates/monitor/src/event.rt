@@ -1,7 +1,7 @@
 // One event.
 use crate::Received;
 use crate::checking::enter;
-use crate::releasing::release;
+use releasing::release;
 use automaton::Automaton;
 use base::copy;
 use base::size;
@@ -13,7 +13,8 @@ ghost use mathlib.Core.List.{List, [], _∷_, _++_};
 ghost use lib.ListN.{length, getD, set, take, drop};
 ghost use Rattle.base.specs.Pad.{pad};
 ghost use Rattle.monitor.specs.Answers.{received};
-ghost use Rattle.monitor.specs.Parts.{restIn, over, Lent, refusedEvent, releasedFrom};
+ghost use Rattle.releasing.specs.Parts.{restIn, over, Lent};
+ghost use Rattle.monitor.specs.Parts.{refusedEvent, releasedFrom};
 
 fn refused(row: u8, c: Configuration) -> Received
     ensures { λ r. ⌜ r ≡ refusedEvent row c ⌝ }

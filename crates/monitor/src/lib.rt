@@ -1,14 +1,13 @@
-// The enforcement monitor: one event, and a whole day of them, over a lent table.
+// The enforcement monitor: one event over a lent table. (A whole day of them is crate `batch`.)
 mod checking;
-mod day;
 mod event;
-mod releasing;
 
-use automaton::Automaton;
+pub use checking::enter;
 pub use checking::winning;
 use configuration::Configuration;
-pub use day::run;
 pub use event::receive;
+pub use event::shifted;
+use releasing::Ranking;
 
 // Whether a configuration is winning (document 01's guarded), or the refusing row with no.
 pub struct Guard {
@@ -33,19 +32,6 @@ pub struct Ran {
     pub configuration: Configuration,
     pub length: usize,
     pub refused: usize,
-}
-
-// The controllable symbols: how many there are, and the rank of each from 1 (0: uncontrollable).
-pub struct Ranking {
-    pub count: u32,
-    pub ranks: [u8; 16],
-}
-
-// The front part of a buffer that is released: its length, the state after it, and whether the monitor may rest there.
-pub struct Front {
-    pub winning: bool,
-    pub count: usize,
-    pub state: usize,
 }
 
 // The refusing row of 11 to 13 (0: none), and the ranking of the symbols of a valid record.

@@ -2,7 +2,7 @@ use Rattle.monitor.proofs.Receiving.{held-long}
 use lib.Seq.{length-take-le}
 use lib.ListN.{length, getD, take}
 use mathlib.Core.Path.{_≡_, _∙_, sym, ap}
-use Rattle.monitor.proofs.Searching.{lent-below, lent-rest}
+use Rattle.releasing.proofs.Searching.{lent-below, lent-rest}
 use Rattle.monitor.proofs.Receiving.{entered, entered-clear, lent-here, guard-stands, guard-answers}
 use native.Mathlib.Omega.{arith}
 use borrow.Author.Needs.{needs}

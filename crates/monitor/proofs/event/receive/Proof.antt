@@ -1,7 +1,7 @@
 use Prim.Native.Nat.{_<_, _≤_}
 use lib.ListN.{getD}
 use mathlib.Core.Path.{_≡_, _∙_, sym, ap}
-use Rattle.monitor.specs.Parts.{rankingOf}
+use Rattle.releasing.specs.Parts.{rankingOf}
 use Rattle.automaton.proofs.Facts.{valid-facts}
 use Rattle.monitor.proofs.Receiving.{receive-stands, receive-unknown, receive-full, lent-here, passed-received, lent-longer, added-received, entered, entered-clear, ranked}
 use native.Mathlib.Omega.{arith}

@@ -1,0 +1,110 @@
+-- Laws of one event, over any rest test.
+use Prim.Native.Nat.{ℕ, suc, _+_, _<_}
+use mathlib.Core.Path.{_≡_, refl, _∙_, ap}
+use mathlib.Core.Bool.{true}
+use mathlib.Core.List.{List, [], _∷_}
+use native.Mathlib.Omega.{arith}
+use lib.Dec.{leb, ltb}
+use lib.ListN.{length, take, drop, length-append, length-drop}
+use lib.Seq.{length-take-le}
+use borrow.Author.Tests.{ltb-true, leb-false}
+use Rattle.base.specs.Rows.{first}
+use Rattle.base.proofs.Bools.{by}
+use Rattle.automaton.specs.declared.Automaton.{Automaton}
+use Rattle.automaton.specs.Automaton.{controllable, run, valid}
+use Rattle.automaton.proofs.Facts.{valid-facts}
+use Rattle.automaton.proofs.Running.{run-append}
+use Rattle.sets.specs.Table.{Buffer}
+use Rattle.sets.proofs.Total.{Total, run-below}
+use Rattle.sets.proofs.Buffers.{buffer-drop, buffer-end}
+use Rattle.releasing.specs.Step.{Rest, release, Effect, remaining, arrival, effect, eventRows, eventRefusal}
+use Rattle.releasing.proofs.Longest.{release-le, release-same}
+
+-- a state and a buffer that can occur
+pub record Occurs (a : Automaton) (q : ℕ) (w : List ℕ) : Type 0 where
+  pub state-below : q < a .states
+  pub buffer : Buffer a w
+
+pub initial-occurs : (a : Automaton) → valid a ≡ true → Occurs a (a .initial) []
+initial-occurs a v = record { state-below = valid-facts a v .initial-below; buffer = (tt, omega arith) }
+
+-- two rest tests that answer alike wherever they may be asked
+abbrev pub Agree : Automaton → Rest → Rest → Type 0
+Agree a rest other = (w : List ℕ) (q : ℕ) → Occurs a q w → rest w q ≡ other w q
+
+-- an accepted event: a symbol, and room for it where it is controllable
+pub accepted-facts : (a : Automaton) (w : List ℕ) (e : ℕ) → eventRefusal a w e ≡ 0 → (e < a .symbols) × (controllable a e ≡ true → length w < a .capacity)
+unfolding eventRefusal eventRows first
+accepted-facts a w e h = (
+  by (ltb e (a .symbols)) (ltb-true e (a .symbols)) (λ u. absurd (let z = rw u at h in omega arith)),
+  λ c. by (leb (a .capacity) (length w))
+      (λ u. by (ltb e (a .symbols))
+      (λ s. absurd (let z = rw (s, c, u) at h in omega arith))
+      (λ s. absurd (let z = rw s at h in omega arith)))
+      (leb-false (a .capacity) (length w)),
+)
+
+-- the buffer after an uncontrollable event
+remaining-buffer : (a : Automaton) (e : ℕ) (w : List ℕ) → Buffer a w → Buffer a (remaining a e w)
+unfolding remaining
+remaining-buffer a e w b = b
+
+remaining-length : (a : Automaton) (e : ℕ) (w : List ℕ) → length (remaining a e w) ≡ length w
+unfolding remaining
+remaining-length a e w = refl
+
+-- before the release
+module _ (a : Automaton) (q : ℕ) (w : List ℕ) (e : ℕ) where
+  pub arrival-occurs : Total a → Occurs a q w → eventRefusal a w e ≡ 0 → Occurs a (arrival a q w e .state) (arrival a q w e .buffer)
+  unfolding arrival
+  arrival-occurs t o h =
+      let f = accepted-facts a w e h in
+      by (controllable a e)
+      (λ c. rw c (record { state-below = o .state-below; buffer = buffer-end a w e (o .buffer) (f .0) c (f .1 c) }))
+      (λ c. rw c (record { state-below = t q e; buffer = remaining-buffer a e w (o .buffer) }))
+
+  -- what is emitted leads from the state before to the one after
+  pub arrival-leads : run a q (arrival a q w e .emitted) ≡ arrival a q w e .state
+  unfolding arrival run
+  arrival-leads = by (controllable a e) (λ c. rw c) (λ c. rw c)
+
+  -- what came in is emitted or held
+  arrival-length : length (arrival a q w e .emitted) + length (arrival a q w e .buffer) ≡ suc (length w)
+  unfolding arrival
+  arrival-length =
+      by (controllable a e)
+      (λ c. rw c (omega (arith, length-append w (e ∷ []))))
+      (λ c. rw c (omega (arith, remaining-length a e w)))
+
+-- after any front part
+pub released-occurs : (a : Automaton) → Total a → (q : ℕ) (w : List ℕ) → Occurs a q w → (k : ℕ) → Occurs a (run a q (take k w)) (drop k w)
+released-occurs a t q w o k = record { state-below = run-below a t q (take k w) (o .state-below); buffer = buffer-drop a k w (o .buffer) }
+
+-- after the release
+module _ (rest : Rest) (a : Automaton) (q : ℕ) (w : List ℕ) (e : ℕ) where
+  abbrev x : Effect
+  x = arrival a q w e
+
+  abbrev k : ℕ
+  k = release rest a (x .state) (x .buffer)
+
+  pub effect-occurs : Total a → Occurs a q w → eventRefusal a w e ≡ 0 → Occurs a (effect rest a q w e .state) (effect rest a q w e .buffer)
+  unfolding effect
+  effect-occurs t o h = released-occurs a t (x .state) (x .buffer) (arrival-occurs a q w e t o h) k
+
+  pub effect-leads : run a q (effect rest a q w e .emitted) ≡ effect rest a q w e .state
+  unfolding effect
+  effect-leads = run-append a q (x .emitted) (take k (x .buffer)) ∙ ap (λ p. run a p (take k (x .buffer))) (arrival-leads a q w e)
+
+  pub effect-length : length (effect rest a q w e .emitted) + length (effect rest a q w e .buffer) ≡ suc (length w)
+  unfolding effect
+  effect-length =
+      let few = release-le rest a (x .state) (x .buffer) in
+      omega (arith, length-append (x .emitted) (take k (x .buffer)), length-take-le k (x .buffer) few, length-drop k (x .buffer), arrival-length a q w e)
+
+  -- the rest test is asked only where it may be
+  pub effect-same : (other : Rest) → Agree a rest other → Total a → Occurs a q w → eventRefusal a w e ≡ 0 → effect rest a q w e ≡ effect other a q w e
+  unfolding effect
+  effect-same other agree t o h =
+      let at = released-occurs a t (x .state) (x .buffer) (arrival-occurs a q w e t o h) in
+      rw (release-same rest a (x .state) (x .buffer) other λ j _. agree (drop j (x .buffer)) (run a (x .state) (take j (x .buffer))) (at j))

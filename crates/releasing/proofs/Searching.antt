@@ -1,0 +1,102 @@
+-- The search for the longest front part that qualifies, from the empty one on.
+use Prim.Native.Nat.{ℕ, zero, suc, _+_, _*_, _<_, _≤_}
+use mathlib.Core.Path.{_≡_, refl, sym, _∙_, ap, ap₂}
+use mathlib.Core.Bool.{Bool, true, false, cond}
+use mathlib.Core.List.{List, [], _∷_, _++_}
+use native.Mathlib.Numerals.{add-one}
+use native.Mathlib.Omega.{arith}
+use lib.ListN.{length, getD, take, drop}
+use lib.Seq.{take-suc, getD-take}
+use Rattle.base.specs.Each.{those, lastOr}
+use Rattle.base.specs.Masks.{has}
+use Rattle.base.proofs.Bools.{by}
+use Rattle.base.proofs.Picking.{last-taken, last-kept}
+use Rattle.automaton.specs.declared.Automaton.{Automaton}
+use Rattle.automaton.specs.Automaton.{step, run}
+use Rattle.automaton.proofs.Running.{run-end}
+use Rattle.releasing.specs.Step.{Rest, qualifies, qualifying, release}
+use Rattle.base.specs.Pad.{pad}
+use Rattle.releasing.specs.declared.Front.{Front}
+use Rattle.releasing.specs.Parts.{front, placeIn, placesOf, restIn, over, Lent}
+use Rattle.releasing.proofs.Numbers.{place-at}
+
+pub record Searching (rest : Rest) (a : Automaton) (q : ℕ) (w : List ℕ) (winning : Bool) (count state p r : ℕ) : Type 0 where
+  pub within : r ≤ length w
+  pub below : count ≤ r
+  pub here : p ≡ run a q (take r w)
+  pub longest : count ≡ lastOr 0 (those (r + 1) (qualifies rest a q w))
+  pub state-is : state ≡ run a q (take count w)
+  pub winning-is : winning ≡ qualifies rest a q w count
+
+module _ (rest : Rest) (a : Automaton) (q : ℕ) (w : List ℕ) where
+  pub searching-begins : (b : Bool) → b ≡ rest w q → Searching rest a q w b 0 q q 0
+  unfolding qualifies run those lastOr
+  searching-begins b e =
+      record {
+        within = omega arith;
+        below = omega arith;
+        here = refl;
+        longest = by (rest w q) (λ h. sym (last-taken 0 0 (qualifies rest a q w) h)) (λ h. sym (last-kept 0 0 (qualifies rest a q w) h));
+        state-is = refl;
+        winning-is = e;
+      }
+
+  module _ {winning : Bool} {count state p r : ℕ} (g : Searching rest a q w winning count state p r) (h : r < length w) where
+    -- the next state on the way
+    next-state : step a p (getD w r 0) ≡ run a q (take (r + 1) w)
+    next-state =
+        ap (λ x. step a x (getD w r 0)) (g .here) ∙ sym (run-end a q (take r w) (getD w r 0)) ∙
+        ap (run a q) (sym (take-suc w r 0 h) ∙ ap (λ i. take i w) (sym (add-one r)))
+
+    module _ (s : ℕ) (e : s ≡ step a p (getD w r 0)) (b : Bool) (f : b ≡ rest (drop (r + 1) w) s) where
+      found : b ≡ qualifies rest a q w (r + 1)
+      unfolding qualifies
+      found = f ∙ ap (rest (drop (r + 1) w)) (e ∙ next-state)
+
+      pub searching-finds : b ≡ true → Searching rest a q w true (r + 1) s s (r + 1)
+      searching-finds t =
+          record {
+            within = omega arith;
+            below = omega arith;
+            here = e ∙ next-state;
+            longest = sym (last-taken 0 (r + 1) (qualifies rest a q w) (sym found ∙ t));
+            state-is = e ∙ next-state;
+            winning-is = sym t ∙ found;
+          }
+
+      pub searching-passes : b ≡ false → Searching rest a q w winning count state s (r + 1)
+      searching-passes t =
+          record {
+            within = omega arith;
+            below = omega (arith, g .below);
+            here = e ∙ next-state;
+            longest = g .longest ∙ sym (last-kept 0 (r + 1) (qualifies rest a q w) (sym found ∙ t));
+            state-is = g .state-is;
+            winning-is = g .winning-is;
+          }
+
+  pub searching-done : {winning : Bool} {count state p r : ℕ} → Searching rest a q w winning count state p r → length w ≤ r
+      → record { winning = winning; count = count; state = state } ≡ front rest a q w
+  unfolding front release qualifying
+  searching-done {r = r} g h =
+      let e : r ≡ length w = omega (arith, g .within) in
+      let k = rw (e, add-one (length w)) at (g .longest) in
+      rw (g .winning-is, g .state-is, k)
+
+-- what the release reads of the arrays that it is lent
+module _ {next ranks : List ℕ} {k : ℕ} {t : List ℕ} {q : ℕ} {buffer : List ℕ} {held : ℕ} (l : Lent next ranks k t q buffer held)
+    (long : length (take held buffer) ≡ held) where
+  module _ (places : List ℕ) (e : places ≡ pad 8 (placesOf ranks k (take held buffer))) (i : ℕ) (h : i ≤ held) where
+    lent-place : getD places i 0 ≡ placeIn ranks k (drop i (take held buffer))
+    lent-place = ap (λ x. getD x i 0) e ∙ place-at ranks k (take held buffer) i (omega arith)
+
+    pub lent-below : 2 * getD places i 0 < length t
+    lent-below = rw lent-place (l .long i h)
+
+    pub lent-rest : (s : ℕ) (b : Bool) → b ≡ has (getD t (2 * getD places i 0) 0) s → b ≡ restIn t ranks k (drop i (take held buffer)) s
+    unfolding restIn
+    lent-rest s b f = f ∙ ap (λ x. has (getD t (2 * x) 0) s) lent-place
+
+  pub lent-step : (p r x s : ℕ) → r < held → x ≡ getD buffer r 0 → s ≡ getD next (p * 16 + x) 0 → s ≡ step (over next) p (getD (take held buffer) r 0)
+  unfolding step
+  lent-step p r x s h e f = f ∙ ap (λ y. getD next (p * 16 + y) 0) (e ∙ sym (getD-take held buffer r 0 h))

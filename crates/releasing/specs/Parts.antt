@@ -1,0 +1,57 @@
+-- What the release's functions hand back. They are lent arrays of the automaton instead of the whole of it.
+use Prim.Native.Nat.{ℕ, zero, suc, _+_, _*_, _^_, _<_, _≤_}
+use mathlib.Core.Path.{_≡_}
+use mathlib.Core.Bool.{Bool, cond}
+use mathlib.Core.List.{List, [], _∷_, _++_}
+use lib.ListN.{length, getD, take, drop}
+use lib.Dec.{eqb}
+use Rattle.base.specs.Masks.{has}
+use Rattle.base.specs.Pad.{pad}
+use Rattle.automaton.specs.declared.Automaton.{Automaton}
+use Rattle.automaton.specs.Automaton.{run}
+use Rattle.automaton.specs.Parts.{controllableIn}
+use Rattle.releasing.specs.Step.{Rest, qualifies, release}
+pub use Rattle.releasing.specs.declared.Ranking.{Ranking}
+pub use Rattle.releasing.specs.declared.Front.{Front}
+
+-- the rank of each symbol below m among the controllable ones, from 1; 0 for an uncontrollable one
+unfoldable pub ranksTo : List ℕ → ℕ → List ℕ
+ranksTo classes zero = []
+ranksTo classes (suc e) = ranksTo classes e ++ cond (eqb (getD classes e 0) 1) (controllableIn classes (suc e)) 0 ∷ []
+
+unfoldable pub rankingOf : List ℕ → ℕ → Ranking
+rankingOf classes m = record { count = controllableIn classes m; ranks = pad 16 (ranksTo classes m) }
+
+-- the number of a buffer, by ranks from 1: shorter buffers, then base k, in one sum
+unfoldable pub placeIn : List ℕ → ℕ → List ℕ → ℕ
+placeIn ranks k [] = 0
+placeIn ranks k (e ∷ w) = getD ranks e 0 * k ^ length w + placeIn ranks k w
+
+-- the numbers of a buffer and of all that is left of it after a front part, but the empty one
+unfoldable pub placesOf : List ℕ → ℕ → List ℕ → List ℕ
+placesOf ranks k [] = []
+placesOf ranks k (e ∷ w) = placeIn ranks k (e ∷ w) ∷ placesOf ranks k w
+
+-- may the monitor rest, by a table's bits at those numbers?
+unfoldable pub restIn : List ℕ → List ℕ → ℕ → Rest
+restIn t ranks k w q = has (getD t (2 * placeIn ranks k w) 0) q
+
+-- an automaton of which only the next states are known
+abbrev pub over : List ℕ → Automaton
+over next = record { states = 0; symbols = 0; capacity = 0; initial = 0; classes = []; accepting = []; next = next }
+
+-- the longest front part that qualifies, where it leads, and whether the monitor may rest then
+unfoldable pub front : Rest → Automaton → ℕ → List ℕ → Front
+front rest a q w =
+    let k = release rest a q w in
+    record { winning = qualifies rest a q w k; count = k; state = run a q (take k w) }
+
+-- what the release asks of its arguments
+pub record Lent (next ranks : List ℕ) (k : ℕ) (t : List ℕ) (q : ℕ) (buffer : List ℕ) (held : ℕ) : Type 0 where
+  pub few : held ≤ 6
+  pub radix : k ≤ 8
+  pub rank-high : (e : ℕ) → getD ranks e 0 ≤ 8
+  pub state-low : q < 32
+  pub next-low : (i : ℕ) → getD next i 0 < 32
+  pub symbol-low : (i : ℕ) → getD buffer i 0 < 16
+  pub long : (i : ℕ) → i ≤ held → 2 * placeIn ranks k (drop i (take held buffer)) < length t
