@@ -59,10 +59,11 @@ module _ (a : Automaton) (t : Total a) where
   releasing e w driven zero q l h = inl (refl, refl)
   releasing e w driven (suc k) q l h =
       let p = run a (step a q e) (take k w) in
-      let few : suc (length (drop k w)) ≤ suc (length w) = omega (arith, length-drop k w) in
+      let few : length (drop k w) ≤ length w = omega (arith, length-drop k w) in
+      let less : lostBound a (drop k w) ≤ suc (length w) * F = omega (arith, mul-le-mul-right F few, suc-mul (length (drop k w)) F, suc-mul (length w) F) in
       let out = refuted (has (sets a (drop k w) .winning) p) (λ x. clash (first-intermediate a e w q l (by-comes a t w k (step a q e) (t q e) x)) h) in
       inr (λ rule events output led.
-      lost-sooner a rule (mul-le-mul-right F few) (driven k p (run-below a t (step a q e) (take k w) (t q e)) out rule events output led))
+      lost-sooner a rule less (driven k p (run-below a t (step a q e) (take k w) (t q e)) out rule events output led))
 
   -- one more event
   back : (w : List ℕ) → Releasing w → (r q u : ℕ) → Uncontrollable a u → has (sets a w .intermediate) (step a q u) ≡ false
