@@ -7,5 +7,6 @@ pub mod Resting
 pub mod Staying
 pub mod Driven
 pub mod Rivals
+pub mod Demand3
 pub mod Tables
 pub mod Cases
