@@ -8,5 +8,6 @@ pub mod Staying
 pub mod Driven
 pub mod Rivals
 pub mod Demand3
+pub mod Answers
 pub mod Tables
 pub mod Cases
