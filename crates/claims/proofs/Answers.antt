@@ -3,7 +3,6 @@ use Prim.Native.Nat.{ℕ}
 use mathlib.Core.Path.{_≡_, refl, sym, _∙_, ap, ap₂}
 use mathlib.Core.Bool.{Bool, true, false}
 use mathlib.Core.List.{List, [], _∷_, _++_}
-use native.Mathlib.Omega.{arith}
 use lib.Dec.{eqb}
 use borrow.Author.Tests.{eqb-true, eqb-false}
 use Rattle.base.specs.Rows.{first}
@@ -16,7 +15,7 @@ use Rattle.sets.specs.Table.{short, Solved}
 use Rattle.sets.specs.Claims.{Winning}
 use Rattle.sets.proofs.Total.{total}
 use Rattle.configuration.specs.declared.Configuration.{Configuration}
-use Rattle.configuration.specs.Carried.{heldEvents, configuration, consistent}
+use Rattle.configuration.specs.Carried.{heldEvents, configuration}
 use Rattle.configuration.proofs.Facts.{consistent-facts, consistent-of, held-buffer, configuration-consistent}
 use Rattle.releasing.specs.Step.{bySets, byTable, effect, eventRows, eventRefusal, runOf}
 use Rattle.releasing.proofs.Effects.{Occurs, Agree, accepted-facts, effect-occurs, effect-same}
@@ -36,11 +35,10 @@ module _ (a : Automaton) (t : List ℕ) (c : Configuration) where
       (λ z. clear a t c (eqb-true (guardRefusal a t c) 0 z))
       (λ z. let n = eqb-false (guardRefusal a t c) 0 z in absurd (n (sym (rows-stand a t c rows n) ∙ h)))
 
-  module _ (k : Clear a t c) where
-    clear-occurs : Occurs a (c .state) (heldEvents c)
-    clear-occurs =
-        let f = consistent-facts a c (valid-facts a (k .record-valid)) (k .configuration-consistent) in
-        record { state-below = f .state-below; buffer = held-buffer a c f }
+  clear-occurs : Clear a t c → Occurs a (c .state) (heldEvents c)
+  clear-occurs k =
+      let f = consistent-facts a c (valid-facts a (k .record-valid)) (k .configuration-consistent) in
+      record { state-below = f .state-below; buffer = held-buffer a c f }
 
   -- an accepted event
   receive-clear : (e : ℕ) → receiveRefusal a t c e ≡ 0 → Clear a t c
@@ -112,12 +110,12 @@ module _ (a : Automaton) (t : List ℕ) (sv : Solved a t) where
       rw (guard-clear a t c (k .record-valid) (k .table-long) (k .configuration-consistent))
       (solved-agree a t sv (heldEvents c) (c .state) (clear-occurs a t c k) ∙ g .wins)
 
-  module _ (v : valid a ≡ true) (s : short a t ≡ false) where
-    made-good : (q : ℕ) (w : List ℕ) → Occurs a q w → Winning a w q → Good (configuration q w)
-    unfolding heldEvents
-    made-good q w o h = record { rows = made-clear a t v s q w o; wins = rw (take-pad 6 w) h }
+  made-good : valid a ≡ true → short a t ≡ false → (q : ℕ) (w : List ℕ) → Occurs a q w → Winning a w q → Good (configuration q w)
+  unfolding heldEvents
+  made-good v s q w o h = record { rows = made-clear a t v s q w o; wins = rw (take-pad 6 w) h }
 
-    -- one accepted event, and a list of events
+  -- one accepted event, and a list of events
+  module _ (v : valid a ≡ true) where
     event-wins : (q : ℕ) (w : List ℕ) (e : ℕ) → Occurs a q w → eventRefusal a w e ≡ 0 → Winning a w q
         → Winning a (effect (byTable a t) a q w e .buffer) (effect (byTable a t) a q w e .state)
     event-wins q w e o h i =
@@ -143,7 +141,7 @@ module _ (a : Automaton) (t : List ℕ) (sv : Solved a t) where
       let h = receive-event a t c e (eqb-true n 0 z) in
       rw z (made-good (k .record-valid) (k .table-long) _ _
       (effect-occurs (byTable a t) a (c .state) (heldEvents c) e (total a (k .record-valid)) o h)
-      (event-wins (k .record-valid) (k .table-long) (c .state) (heldEvents c) e o h (g .wins))))
+      (event-wins (k .record-valid) (c .state) (heldEvents c) e o h (g .wins))))
       (λ z. rw z g)
   good-on c g (day es out) =
       let k = g .rows in
@@ -151,7 +149,7 @@ module _ (a : Automaton) (t : List ℕ) (sv : Solved a t) where
       by (eqb (runRefusal a t c es out) 0)
       (λ z. rw z (made-good (k .record-valid) (k .table-long) _ _
       (run-occurs (byTable a t) a (total a (k .record-valid)) es (c .state) (heldEvents c) o)
-      (run-wins (k .record-valid) (k .table-long) es (c .state) (heldEvents c) o (g .wins))))
+      (run-wins (k .record-valid) es (c .state) (heldEvents c) o (g .wins))))
       (λ z. rw z g)
 
   good-all : (xs : List Call) (c : Configuration) → Good c → Good (configurationAfter a t c xs)
@@ -213,10 +211,7 @@ module _ (a : Automaton) (t u : List ℕ) (s : short a t ≡ short a u) (b : Sam
         (λ z. rw (same-receive e, z))
 
     module _ (es out : List ℕ) where
-      abbrev day-same : Type 0
-      day-same = runOf (byTable a t) a (c .state) (heldEvents c) es ≡ runOf (byTable a u) a (c .state) (heldEvents c) es
-
-      same-day : runRefusal a u c es out ≡ 0 → day-same
+      same-day : runRefusal a u c es out ≡ 0 → runOf (byTable a t) a (c .state) (heldEvents c) es ≡ runOf (byTable a u) a (c .state) (heldEvents c) es
       same-day h =
           let k = run-clear a u c es out h in
           run-same (byTable a t) (byTable a u) a agree (total a (k .record-valid)) es (c .state) (heldEvents c) (clear-occurs a u c k)

@@ -13,8 +13,8 @@ use Rattle.winning.specs.Solving.{solveRefusal, solvedTable}
 use Rattle.configuration.specs.Carried.{consistent, initialOf}
 use Rattle.releasing.specs.Step.{byTable, Effect, release, arrival}
 use Rattle.monitor.specs.Answers.{isWinning}
-use Rattle.claims.specs.Store.{Store, empty, storeAll, feedAll, acceptedAll}
-use Rattle.claims.specs.Calls.{Call, Reply, replies, configurationAfter, emittedAll, fedBy, configurationOf, expectedAll}
+use Rattle.claims.specs.Store.{empty, storeAll, feedAll, acceptedAll}
+use Rattle.claims.specs.Calls.{Call, replies, configurationAfter, emittedAll, fedBy, configurationOf, expectedAll}
 use Rattle.claims.specs.Moments.{Moment, AllOf, effectAt, emittedAt, moments}
 use Rattle.claims.specs.Rival.{Strategy, Lost, lostBound}
 
