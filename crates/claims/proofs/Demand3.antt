@@ -12,7 +12,7 @@ use Rattle.claims.specs.Store.{empty, storeAll, feedAll}
 use Rattle.claims.specs.Calls.{Call, fedBy, configurationOf}
 use Rattle.claims.specs.Claims.{acceptedEvents, Demand3, Demand3Solved}
 use Rattle.claims.proofs.Alone.{accepted-alone}
-use Rattle.claims.proofs.Replies.{each-reply-is}
+use Rattle.claims.proofs.Replies.{each-reply}
 use Rattle.claims.proofs.Brought.{moments-accounted}
 use Rattle.claims.proofs.Staying.{winning-stays}
 use Rattle.claims.proofs.Rivals.{rivals-lose}
@@ -24,7 +24,7 @@ afresh a t v s calls = sym (ap (storeAll a empty) (moments-accounted a t v s cal
 
 pub demand3 : Demand3
 demand3 a t v s calls =
-    let r = each-reply-is a t v s calls in
+    let r = each-reply a t v s calls in
     let f = afresh a t v s calls in
     record {
       enforces = r;

@@ -154,8 +154,8 @@ module _ (a : Automaton) (t : List ℕ) (v : valid a ≡ true) (sv : Solved a t)
         last-sound = k .last-sound;
       }
 
-pub each-reply-is : EachReply
-each-reply-is a t v sv calls =
+pub each-reply : EachReply
+each-reply a t v sv calls =
     let k = together a t v sv calls empty (initial-sound a v) in
     record {
       each-reply = rw (initially a) (k .each-reply);
