@@ -1,5 +1,4 @@
 -- The marked cases compute.
-use Prim.Native.Nat.{ℕ}
 use mathlib.Core.Path.{refl}
 use Rattle.base.specs.Each.{each, count, those, lastOr}
 use Rattle.base.specs.Rows.{first}
@@ -17,8 +16,7 @@ use Rattle.monitor.specs.Answers.{callRows, isWinning, guardRefusal, guard, rec
 use Rattle.claims.specs.Calls.{handedBack, reply, replies}
 use Rattle.claims.specs.Cases.{sheetV, sheetW, sized, MarkedCases}
 
--- the definitions of the rows
-unfoldable rules : ℕ
+pub marked-cases : MarkedCases
 unfolding
     each count those lastOr first pad has mask
     groups read encode bytes
@@ -30,9 +28,5 @@ unfolding
     byTable qualifies qualifying release remaining arrival effect eventRows
     callRows isWinning guardRefusal guard receiveRefusal received handedBack reply replies
     sheetV sheetW sized
-rules = 0
-
-pub marked-cases : MarkedCases
-unfolding rules
 marked-cases =
     (refl, (refl, ((refl, refl), ((refl, refl), (refl, (refl, (refl, (refl, (refl, (refl, (refl, ((refl, refl), ((refl, refl), ((refl, refl), (refl, ((refl, refl), ((refl, refl), ((refl, refl), tt))))))))))))))))))

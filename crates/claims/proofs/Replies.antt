@@ -72,9 +72,13 @@ module _ (a : Automaton) (t : List ℕ) (v : valid a ≡ true) (sv : Solved a t)
     abbrev answer : ℕ → ℕ → List ℕ → List ℕ → Bool → Received
     answer n q w out b = record { refusal = n; configuration = configuration q w; emitted = pad 7 out; count = length out; winning = b }
 
-    one-accepted : (e : ℕ) → eventRefusal a (s .buffer) e ≡ 0 → received a t c e ≡ answer 0 (byStore a s e .state) (byStore a s e .buffer) (byStore a s e .emitted) (byTable a t (byStore a s e .buffer) (byStore a s e .state))
+    one-accepted : (e : ℕ) → eventRefusal a (s .buffer) e ≡ 0
+        → let f = byStore a s e in received a t c e ≡ answer 0 (f .state) (f .buffer) (f .emitted) (bySets a (f .buffer) (f .state))
     unfolding received
-    one-accepted e h = rw (one-refusal e ∙ h, one-effect e h)
+    one-accepted e h =
+        let f = byStore a s e in
+        let b = solved-agree a t sv (f .buffer) (f .state) (effect-occurs (bySets a) a (stateOf a s) (s .buffer) e (total a v) o h) in
+        rw (one-refusal e ∙ h, one-effect e h, b)
 
     one-refused : (e : ℕ) → eqb (eventRefusal a (s .buffer) e) 0 ≡ false → received a t c e ≡ answer (eventRefusal a (s .buffer) e) (stateOf a s) (s .buffer) [] false
     unfolding received configurationOf pad
@@ -88,8 +92,7 @@ module _ (a : Automaton) (t : List ℕ) (v : valid a ≡ true) (sv : Solved a t)
         by (eqb n 0)
         (λ h.
         let z = eqb-true n 0 h in
-        let b = solved-agree a t sv (f .buffer) (f .state) (effect-occurs (bySets a) a (stateOf a s) (s .buffer) e (total a v) o z) in
-        rw (one-accepted e z, store-accepts a s e z, since-grown s (f .emitted) (f .buffer), store-state a s e, b, z))
+        rw (one-accepted e z, store-accepts a s e z, since-grown s (f .emitted) (f .buffer), store-state a s e, z))
         (λ h. rw (one-refused e h, store-refuses a s e (eqb-false n 0 h), since-same s, h))
 
     day-reply : (es out : List ℕ) → reply a t c (day es out) ≡ expected a s (day es out)
