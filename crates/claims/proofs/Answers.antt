@@ -45,7 +45,7 @@ module _ (a : Automaton) (t : List ℕ) (c : Configuration) where
   unfolding receiveRefusal
   receive-clear e h = rows-clear (eventRows a (heldEvents c) e) h
 
-  receive-event : (e : ℕ) → receiveRefusal a t c e ≡ 0 → eventRefusal a (heldEvents c) e ≡ 0
+  pub receive-event : (e : ℕ) → receiveRefusal a t c e ≡ 0 → eventRefusal a (heldEvents c) e ≡ 0
   unfolding receiveRefusal eventRefusal
   receive-event e h =
       let k = rows-clear (eventRows a (heldEvents c) e) h in

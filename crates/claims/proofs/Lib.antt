@@ -9,5 +9,6 @@ pub mod Driven
 pub mod Rivals
 pub mod Demand3
 pub mod Answers
+pub mod Said
 pub mod Tables
 pub mod Cases

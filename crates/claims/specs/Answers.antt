@@ -2,14 +2,18 @@
 use Prim.Native.Nat.{ℕ, _*_, _<_}
 use mathlib.Core.Path.{_≡_}
 use mathlib.Core.Bool.{true}
-use mathlib.Core.List.{List}
+use mathlib.Core.List.{List, _∷_, _++_}
 use lib.ListN.{getD}
 use Rattle.base.specs.Masks.{has}
 use Rattle.automaton.specs.declared.Automaton.{Automaton}
+use Rattle.automaton.specs.Automaton.{valid}
 use Rattle.sets.specs.Table.{index, short, Buffer, Solved}
 use Rattle.configuration.specs.declared.Configuration.{Configuration}
+use Rattle.configuration.specs.Carried.{initialOf}
 use Rattle.monitor.specs.Answers.{guard, received, ran, ranBuffer}
 use Rattle.claims.specs.Calls.{Call, replies, configurationAfter}
+use Rattle.claims.specs.Moments.{Moment, moments}
+use Rattle.claims.specs.Claims.{winningAfter}
 
 -- Over any table: what an accepted event's answer says of winning is what `guard` answers for the configuration that it hands back.
 abbrev pub FlagIsGuard : Type 0
@@ -26,6 +30,13 @@ abbrev pub FlagStays : Type 0
 FlagStays =
     (a : Automaton) (t : List ℕ) → Solved a t → (c : Configuration) → guard a t c .winning ≡ true
     → (calls : List Call) → SaysWinning a t (configurationAfter a t c calls)
+
+-- .. and so once any accepted event, also inside a day, left the monitor winning
+abbrev pub OnceWinningSaid : Type 0
+OnceWinningSaid =
+    (a : Automaton) (t : List ℕ) → valid a ≡ true → Solved a t → (calls : List Call) (before : List Moment) (m : Moment) (after : List Moment)
+    → moments a t (initialOf a) calls ≡ before ++ m ∷ after → winningAfter a t m ≡ true
+    → SaysWinning a t (configurationAfter a t (initialOf a) calls)
 
 -- two tables have the same bits below n at each buffer's S
 abbrev pub SameBits : Automaton → List ℕ → List ℕ → Type 0
