@@ -206,8 +206,12 @@ module _ (a : Automaton) (t u : List ℕ) (s : short a t ≡ short a u) (b : Sam
         let l = total a (k .record-valid) in
         let o = clear-occurs a u c k in
         let f = effect (byTable a u) a (c .state) (heldEvents c) e in
-        rw (same-receive e, z, effect-same (byTable a t) a (c .state) (heldEvents c) e (byTable a u) agree l o (receive-event a u c e h),
-        agree (f .buffer) (f .state) (effect-occurs (byTable a u) a (c .state) (heldEvents c) e l o (receive-event a u c e h))))
+        rw (
+          same-receive e,
+          z,
+          effect-same (byTable a t) a (c .state) (heldEvents c) e (byTable a u) agree l o (receive-event a u c e h),
+          agree (f .buffer) (f .state) (effect-occurs (byTable a u) a (c .state) (heldEvents c) e l o (receive-event a u c e h)),
+        ))
         (λ z. rw (same-receive e, z))
 
     module _ (es out : List ℕ) where

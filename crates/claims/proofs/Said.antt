@@ -9,8 +9,7 @@ use borrow.Author.Tests.{eqb-true, le-ltb, eq-eqb}
 use Rattle.base.proofs.Bools.{by}
 use Rattle.base.proofs.Padding.{take-pad}
 use Rattle.automaton.specs.declared.Automaton.{Automaton}
-use Rattle.automaton.specs.Automaton.{valid}
-use Rattle.sets.specs.Table.{short, Solved}
+use Rattle.sets.specs.Table.{short}
 use Rattle.configuration.specs.declared.Configuration.{Configuration}
 use Rattle.configuration.specs.Carried.{heldEvents, configuration, initialOf}
 use Rattle.releasing.specs.Step.{byTable, effect, eventRefusal, runOf}
