@@ -21,7 +21,7 @@ use Rattle.claims.specs.Moments.{Moment, AllOf, effectAt, emittedAt, wit
 use Rattle.claims.specs.Claims.{MomentsAccounted}
 use Rattle.claims.proofs.Stores.{Sound, grown, initially, initial-sound, byStore, store-accepts, store-refuses, store-state, store-sound}
 use Rattle.claims.proofs.Alone.{store-append, accepted-append}
-use Rattle.claims.proofs.Replies.{held, one-refusal, day-refusal, reply-hands, feed-sound, demand3}
+use Rattle.claims.proofs.Replies.{held, one-refusal, day-refusal, reply-hands, feed-sound, each-reply}
 use Rattle.claims.proofs.Moments.{moments-all}
 
 module _ (a : Automaton) (t : List ℕ) (v : valid a ≡ true) (sv : Solved a t) where
@@ -141,7 +141,7 @@ moments-accounted a t v sv calls =
     let go : moments a t (initialOf a) calls ≡ within a t [] [] (stateOf a empty) [] es = rw (initially a, held a empty) in
     record {
       events = rw go (w .events ∙ sym (b .accepted));
-      emitted = rw go (sym (w .emitted) ∙ ap (λ s. s .output) (sym (b .fed)) ∙ sym (demand3 a t v sv calls .all-emitted));
+      emitted = rw go (sym (w .emitted) ∙ ap (λ s. s .output) (sym (b .fed)) ∙ sym (each-reply a t v sv calls .all-emitted));
       leads = moments-all a t v (λ m. run a (a .initial) (m .output) ≡ m .state) (λ m k. k .leads) calls;
       fed = rw go (within-fed a t v sv es [] empty (initial-sound a v) refl);
     }

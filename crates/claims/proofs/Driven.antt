@@ -16,11 +16,12 @@ use Rattle.automaton.specs.Automaton.{accepts, step, run}
 use Rattle.automaton.proofs.Running.{run-append, run-end}
 use Rattle.sets.specs.Sets.{sets}
 use Rattle.sets.specs.Definition6.{Uncontrollable}
-use Rattle.sets.proofs.Total.{Total, run-below}
+use Rattle.sets.proofs.Total.{Total, total, run-below}
 use Rattle.sets.proofs.Largest.{sets-are}
 use Rattle.sets.proofs.Growth.{first-intermediate}
 use Rattle.releasing.specs.Step.{remaining}
 use Rattle.claims.specs.Rival.{Strategy, play, Lost, lostBound}
+use Rattle.claims.specs.Claims.{DrivenOut}
 use Rattle.claims.proofs.Resting.{by-comes}
 
 module _ (a : Automaton) (rule : Strategy) where
@@ -97,5 +98,5 @@ module _ (a : Automaton) (t : Total a) where
   driven (e ∷ w) zero = level (e ∷ w) (releasing e w (driven w))
   driven (e ∷ w) (suc k) = driven w k
 
-  pub driven-out : (w : List ℕ) → Driven w
-  driven-out w = driven w zero
+pub driven-out : DrivenOut
+driven-out a v w = driven a (total a v) w zero

@@ -7,5 +7,8 @@ pub mod Resting
 pub mod Staying
 pub mod Driven
 pub mod Rivals
+pub mod Demand3
+pub mod Answers
+pub mod Said
 pub mod Tables
 pub mod Cases

@@ -1,4 +1,4 @@
--- Demand 3: the calls' replies are the published function's.
+-- The calls' replies are the published function's.
 use Prim.Native.Nat.{ℕ}
 use mathlib.Core.Path.{_≡_, refl, sym, _∙_, ap, ap₂}
 use mathlib.Core.Bool.{Bool, true, false, cond}
@@ -28,7 +28,7 @@ use Rattle.monitor.proofs.Refusals.{rows-pass}
 use Rattle.releasing.proofs.Solved.{solved-agree}
 use Rattle.claims.specs.Store.{Store, empty, stateOf, store, storeAll, lacksRoom, feed, feedAll}
 use Rattle.claims.specs.Calls.{Call, one, day, handedBack, emittedBy, reply, replies, configurationAfter, emittedAll, fedBy, configurationOf, since, expected, expectedAll}
-use Rattle.claims.specs.Claims.{Demand3}
+use Rattle.claims.specs.Claims.{EachReply}
 use Rattle.claims.proofs.Stores.{Sound, initially, initial-sound, store-since, store-sound, since-grown, since-same, byStore, runStore, store-accepts, store-refuses, store-state, runs-state, store-runs}
 
 pub held : (a : Automaton) (s : Store) → heldEvents (configurationOf a s) ≡ s .buffer
@@ -157,8 +157,8 @@ module _ (a : Automaton) (t : List ℕ) (v : valid a ≡ true) (sv : Solved a t)
         last-sound = k .last-sound;
       }
 
-pub demand3 : Demand3
-demand3 a t v sv calls =
+pub each-reply : EachReply
+each-reply a t v sv calls =
     let k = together a t v sv calls empty (initial-sound a v) in
     record {
       each-reply = rw (initially a) (k .each-reply);

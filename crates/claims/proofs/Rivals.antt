@@ -36,7 +36,7 @@ longer-loses a t v sv m k rule h =
     let out = refuted (has (sets a (drop j (x .buffer)) .winning) p) (λ y.
     let z = release-longest (byTable a t) a (x .state) (x .buffer) j (part-length n (x .buffer)) (solved-agree a t sv (drop j (x .buffer)) p at ∙ y) .1 in
     omega arith) in
-    driven-out a (total a v) (drop j (x .buffer)) p (at .state-below) out rule (m .past ++ m .event ∷ []) ((m .output ++ x .emitted) ++ take n (x .buffer))
+    driven-out a v (drop j (x .buffer)) p (at .state-below) out rule (m .past ++ m .event ∷ []) ((m .output ++ x .emitted) ++ take n (x .buffer))
     (run-append a (a .initial) (m .output ++ x .emitted) (take n (x .buffer)) ∙
     ap (λ q. run a q (take n (x .buffer)))
     (run-append a (a .initial) (m .output) (x .emitted) ∙ ap (λ q. run a q (x .emitted)) (k .leads) ∙ arrival-leads a (m .state) (m .buffer) (m .event)) ∙

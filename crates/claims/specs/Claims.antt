@@ -1,21 +1,24 @@
 -- Demand 3.
 use Prim.Native.Nat.{ℕ, _<_}
 use mathlib.Core.Path.{_≡_}
-use mathlib.Core.Bool.{Bool, true}
+use mathlib.Core.Bool.{Bool, true, false}
 use mathlib.Core.List.{List, [], _∷_, _++_, map}
 use lib.ListN.{length, take, drop}
+use Rattle.base.specs.Masks.{has}
 use Rattle.automaton.specs.declared.Automaton.{Automaton}
 use Rattle.automaton.specs.Automaton.{valid, accepts, run}
+use Rattle.sets.specs.Sets.{sets}
 use Rattle.sets.specs.Table.{Solved}
+use Rattle.winning.specs.Solving.{solveRefusal, solvedTable}
 use Rattle.configuration.specs.Carried.{consistent, initialOf}
 use Rattle.releasing.specs.Step.{byTable, Effect, release, arrival}
 use Rattle.monitor.specs.Answers.{isWinning}
-use Rattle.claims.specs.Store.{Store, empty, storeAll, feedAll, acceptedAll}
-use Rattle.claims.specs.Calls.{Call, Reply, replies, configurationAfter, emittedAll, fedBy, configurationOf, expectedAll}
+use Rattle.claims.specs.Store.{empty, storeAll, feedAll, acceptedAll}
+use Rattle.claims.specs.Calls.{Call, replies, configurationAfter, emittedAll, fedBy, configurationOf, expectedAll}
 use Rattle.claims.specs.Moments.{Moment, AllOf, effectAt, emittedAt, moments}
 use Rattle.claims.specs.Rival.{Strategy, Lost, lostBound}
 
--- One claim about any list of calls over a solved table: every call's whole reply is the published function's; all that was emitted,
+-- The replies to any list of calls over a solved table: every call's whole reply is the published function's; all that was emitted,
 -- end to end, is its output; the configuration handed back is its own, and one that row 13 lets pass.
 pub record Enforces (a : Automaton) (t : List ℕ) (calls : List Call) : Type 0 where
   pub each-reply : replies a t (initialOf a) calls ≡ expectedAll a empty calls
@@ -23,8 +26,12 @@ pub record Enforces (a : Automaton) (t : List ℕ) (calls : List Call) : Type 0 
   pub last-configuration : configurationAfter a t (initialOf a) calls ≡ configurationOf a (feedAll a empty (map fedBy calls))
   pub last-consistent : consistent a (configurationAfter a t (initialOf a) calls) ≡ true
 
-abbrev pub Demand3 : Type 0
-Demand3 = (a : Automaton) (t : List ℕ) → valid a ≡ true → Solved a t → (calls : List Call) → Enforces a t calls
+abbrev pub EachReply : Type 0
+EachReply = (a : Automaton) (t : List ℕ) → valid a ≡ true → Solved a t → (calls : List Call) → Enforces a t calls
+
+-- the accepted events of the calls
+abbrev pub acceptedEvents : Automaton → List ℕ → List Call → List ℕ
+acceptedEvents a t calls = map (λ (m : Moment). m .event) (moments a t (initialOf a) calls)
 
 -- Fed the accepted events alone, one by one, the function ends with the same output and buffer.
 abbrev pub AcceptedAlone : Type 0
@@ -44,7 +51,7 @@ outputAfter a t m = m .output ++ effectAt a t m .emitted
 -- emitted; the state that each of them meets is where the output leads; and fed the events before it, the function has the output and
 -- buffer that it meets.
 pub record Accounted (a : Automaton) (t : List ℕ) (calls : List Call) : Type 0 where
-  pub events : map (λ (m : Moment). m .event) (moments a t (initialOf a) calls) ≡ acceptedAll a empty (map fedBy calls)
+  pub events : acceptedEvents a t calls ≡ acceptedAll a empty (map fedBy calls)
   pub emitted : emittedAt a t (moments a t (initialOf a) calls) ≡ emittedAll (replies a t (initialOf a) calls)
   pub leads : AllOf (λ m. run a (a .initial) (m .output) ≡ m .state) (moments a t (initialOf a) calls)
   pub fed : AllOf (λ m. storeAll a empty (m .past) ≡ record { output = m .output; buffer = m .buffer }) (moments a t (initialOf a) calls)
@@ -94,6 +101,29 @@ LongerLoses a t m =
 abbrev pub RivalsLose : Type 0
 RivalsLose =
     (a : Automaton) (t : List ℕ) → valid a ≡ true → Solved a t → (calls : List Call) → AllOf (LongerLoses a t) (moments a t (initialOf a) calls)
+
+-- Whoever rests with a buffer in a state outside its S is lost within the bound, whatever its rule and its past.
+abbrev pub DrivenOut : Type 0
+DrivenOut =
+    (a : Automaton) → valid a ≡ true → (w : List ℕ) (q : ℕ) → q < a .states → has (sets a w .winning) q ≡ false
+    → (rule : Strategy) (events output : List ℕ) → run a (a .initial) output ≡ q → Lost a rule events output w (lostBound a w)
+
+-- Demand 3 as one statement: for any list of calls over a solved table, all of the above; and all that was emitted and the
+-- configuration handed back are the published function's, worked out afresh from the accepted events alone.
+pub record Enforced (a : Automaton) (t : List ℕ) (calls : List Call) : Type 0 where
+  pub enforces : Enforces a t calls
+  pub alone-emitted : emittedAll (replies a t (initialOf a) calls) ≡ storeAll a empty (acceptedEvents a t calls) .output
+  pub alone-configuration : configurationAfter a t (initialOf a) calls ≡ configurationOf a (storeAll a empty (acceptedEvents a t calls))
+  pub accounted : Accounted a t calls
+  pub once-winning : OnceWinning a t calls
+  pub rivals : AllOf (LongerLoses a t) (moments a t (initialOf a) calls)
+
+abbrev pub Demand3 : Type 0
+Demand3 = (a : Automaton) (t : List ℕ) → valid a ≡ true → Solved a t → (calls : List Call) → Enforced a t calls
+
+-- It holds over what the solver leaves in any table that it does not refuse.
+abbrev pub Demand3Solved : Type 0
+Demand3Solved = (a : Automaton) (t : List ℕ) → solveRefusal a t ≡ 0 → (calls : List Call) → Enforced a (solvedTable a t) calls
 
 -- The hypotheses can be met: a solved table exists for every automaton that row 11 lets pass.
 abbrev pub TableExists : Type 0

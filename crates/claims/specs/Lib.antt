@@ -3,4 +3,5 @@ pub mod Calls
 pub mod Moments
 pub mod Rival
 pub mod Claims
+pub mod Answers
 pub mod Cases

@@ -16,11 +16,12 @@ use Rattle.automaton.specs.Automaton.{valid, controllables}
 use Rattle.automaton.proofs.Facts.{valid-facts}
 use Rattle.sets.specs.Table.{shorter, buffersCount, table, rounds, short}
 use Rattle.sets.proofs.Tables.{table-is-solved}
+use Rattle.sets.proofs.Paper.{only-definition6}
 use Rattle.winning.specs.declared.Count.{Count}
 use Rattle.refinement.specs.declared.Symbols.{Symbols}
 use Rattle.refinement.specs.Parts.{freeOf}
 use Rattle.winning.specs.Solving.{solveRefusal, solution, solvedTable, countAnswer}
-use Rattle.winning.specs.Claims.{LeavesSolved}
+use Rattle.winning.specs.Claims.{LeavesSolved, SolvesDefinition6}
 use Rattle.winning.proofs.Bounds.{pow-small, shorter-small, shorter-one, controllables-count}
 
 -- a loop that counts the buffers length by length
@@ -121,9 +122,17 @@ module _ (a : Automaton) where
     unfolding solution solvedTable
     solve-done h l t′ r p q = rw (row0 h l, q) (refl, p)
 
+pub solved-valid : (a : Automaton) (t : List ℕ) → solveRefusal a t ≡ 0 → valid a ≡ true
+solved-valid a t h = by (valid a) (λ b. b) (λ b. let z : 11 ≡ 0 = sym (row11 a t b) ∙ h in absurd (omega arith))
+
 pub leaves-solved : LeavesSolved
 unfolding solvedTable
-leaves-solved a t h =
-    by (valid a)
-    (λ b. rw h (table-is-solved a b .1 (drop (2 * buffersCount a) t)))
-    (λ b. let z : 11 ≡ 0 = sym (row11 a t b) ∙ h in absurd (omega arith))
+leaves-solved a t h = rw h (table-is-solved a (solved-valid a t h) .1 (drop (2 * buffersCount a) t))
+
+pub solves-definition6 : SolvesDefinition6
+solves-definition6 a t h S I d w b q l =
+    let s = leaves-solved a t h in
+    let r = only-definition6 a (solved-valid a t h) S I d w b q l in
+    let x = s .winning w b q l in
+    let y = s .intermediate w b q l in
+    ((λ m. x ∙ r .0 .0 m, λ m. r .0 .1 (sym x ∙ m)), (λ m. y ∙ r .1 .0 m, λ m. r .1 .1 (sym y ∙ m)))
