@@ -1,14 +1,14 @@
 // A whole day: a list of events from a configuration on. The record, the table and the configuration are checked once.
-use monitor::Ran;
-use releasing::Ranking;
-use monitor::enter;
-use monitor::shifted;
-use releasing::release;
 use automaton::Automaton;
 use base::copy;
 use base::size;
 use base::wide;
 use configuration::Configuration;
+use monitor::Ran;
+use monitor::enter;
+use monitor::shifted;
+use releasing::Ranking;
+use releasing::release;
 ghost use mathlib.Core.Path.{_≡_};
 ghost use mathlib.Core.Bool.{Bool, true, false, cond};
 ghost use mathlib.Core.List.{List, [], _∷_, _++_};

@@ -1,13 +1,13 @@
 // Rows 11 to 13, which every call checks first, and whether a configuration is winning.
 use crate::Entry;
 use crate::Guard;
+use automaton::Automaton;
+use base::size;
+use configuration::Configuration;
 use releasing::Ranking;
 use releasing::in_set;
 use releasing::places;
 use releasing::rank_symbols;
-use automaton::Automaton;
-use base::size;
-use configuration::Configuration;
 ghost use mathlib.Core.Path.{_≡_};
 ghost use Rattle.monitor.specs.Answers.{guard};
 ghost use Rattle.monitor.specs.Parts.{entryOf};

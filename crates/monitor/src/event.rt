@@ -1,12 +1,12 @@
 // One event.
 use crate::Received;
 use crate::checking::enter;
-use releasing::release;
 use automaton::Automaton;
 use base::copy;
 use base::size;
 use base::wide;
 use configuration::Configuration;
+use releasing::release;
 ghost use mathlib.Core.Path.{_≡_};
 ghost use Prim.Native.Nat.{ℕ, _+_, _*_, _≤_, _<_};
 ghost use mathlib.Core.List.{List, [], _∷_, _++_};
