@@ -1,0 +1,4 @@
+pub mod Digits
+pub mod Appending
+pub mod Spacing
+pub mod Rooms
