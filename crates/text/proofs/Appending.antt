@@ -30,10 +30,7 @@ one-byte out at b = record { content = refl; place = refl }
 pub kept : {out₀ : List ℕ} {at : ℕ} {p out₁ : List ℕ} {n : ℕ} → Appended out₀ at p out₁ n → length out₁ ≡ length out₀
 kept {out₀} {at} {p} x = ap length (x .content) ∙ length-sets out₀ at p
 
--- the room of a text is room for its front part, and what is left of it for the rest
-pub room-front : (at : ℕ) (p q : List ℕ) {n : ℕ} → at + length (p ++ q) ≤ n → at + length p ≤ n
-room-front at p q h = omega (arith, length-append p q)
-
+-- room for a text in two parts, after the first
 pub room-left : {out₀ : List ℕ} {at : ℕ} {p out₁ : List ℕ} {n : ℕ} (q : List ℕ) → Appended out₀ at p out₁ n
     → at + length (p ++ q) ≤ length out₀ → n + length q ≤ length out₁
 room-left {out₀} {at} {p} {out₁} {n} q x h = omega (arith, length-append p q, kept x, x .place)

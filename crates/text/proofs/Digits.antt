@@ -50,3 +50,10 @@ decimal-some n =
 
 pub decimal-longer : (n : ℕ) → 10 ≤ n → length (decimal n) ≡ length (decimal (n / 10)) + 1
 decimal-longer n h = ap length (decimal-more n h) ∙ length-append (decimal (n / 10)) (digit (n % 10) ∷ [])
+
+-- a byte, and any number of a program
+pub byte-length : (n : ℕ) → n < 256 → length (decimal n) ≤ 3
+byte-length n h = decimal-length 2 n (omega arith)
+
+pub word-length : (n : ℕ) → n < 2 ^ 64 → length (decimal n) ≤ 20
+word-length n h = decimal-length 19 n (omega arith)

@@ -50,3 +50,7 @@ faultLine row at = ascii "refused " ++ (decimal row ++ (ascii " at " ++ (decimal
 
 unfoldable pub refusalLine : ℕ → List ℕ
 refusalLine row = ascii "refused " ++ (decimal row ++ ascii "\n")
+
+-- The room that a line can take, whatever its numbers: a number below 2 ^ 64 has 20 digits at most, a byte 3.
+abbrev pub lineRoom : ℕ
+lineRoom = 96

@@ -1,13 +1,14 @@
-// The lines that a program prints, each with its newline.
+// The lines that a program prints, each with its newline. Each asks for the room that a line can take; a kind takes four bytes at
+// most.
 use crate::labelled;
 use crate::word;
-ghost use Prim.Native.Nat.{_+_, _≤_};
+ghost use Prim.Native.Nat.{_+_, _*_, _≤_};
 ghost use lib.ListN.{length, take};
 ghost use Rattle.text.specs.Decimal.{Appended};
-ghost use Rattle.text.specs.Lines.{guardedEnd, sheetLine, spaced, kinds, eventLine, refusedEventLine, endLine, faultLine, refusalLine};
+ghost use Rattle.text.specs.Lines.{guardedEnd, sheetLine, spaced, kinds, eventLine, refusedEventLine, endLine, faultLine, refusalLine, lineRoom};
 
 fn guarded_end(out: &mut [u8], at: usize, guarded: bool) -> usize
-    requires { ⌜ at + length (guardedEnd guarded) ≤ length (now out) ⌝ }
+    requires { ⌜ at + 13 ≤ length (now out) ⌝ }
     ensures { λ r. ⌜ Appended (now (out .entry)) at (guardedEnd guarded) (now (out .exit)) r ⌝ }
 {
     if guarded {
@@ -17,7 +18,7 @@ fn guarded_end(out: &mut [u8], at: usize, guarded: bool) -> usize
 }
 
 pub fn sheet_line(out: &mut [u8], at: usize, n: u8, m: u8, b: u8, q: u8, guarded: bool) -> usize
-    requires { ⌜ at + length (sheetLine n m b q guarded) ≤ length (now out) ⌝ }
+    requires { ⌜ at + lineRoom ≤ length (now out) ⌝ }
     ensures { λ r. ⌜ Appended (now (out .entry)) at (sheetLine n m b q guarded) (now (out .exit)) r ⌝ }
 {
     let states = labelled(out, at, b"sheet ", n as usize);
@@ -29,8 +30,8 @@ pub fn sheet_line(out: &mut [u8], at: usize, n: u8, m: u8, b: u8, q: u8, guarded
 
 // The first `count` kinds of a list, each with a space before it.
 fn spaced(out: &mut [u8], at: usize, list: [u8; 7], count: usize) -> usize
-    requires { ⌜ (count ≤ 7) × (at + length (spaced (take count list)) ≤ length (now out)) ⌝ }
-    ensures { λ r. ⌜ Appended (now (out .entry)) at (spaced (take count list)) (now (out .exit)) r ⌝ }
+    requires { ⌜ (count ≤ 7) × (at + 4 * count ≤ length (now out)) ⌝ }
+    ensures { λ r. ⌜ Appended (now (out .entry)) at (spaced (take count list)) (now (out .exit)) r × (r ≤ at + 4 * count) ⌝ }
 {
     let mut place = at;
     let mut i: usize = 0;
@@ -43,8 +44,8 @@ fn spaced(out: &mut [u8], at: usize, list: [u8; 7], count: usize) -> usize
 
 // .. and `-` for none.
 fn kinds(out: &mut [u8], at: usize, list: [u8; 7], count: usize) -> usize
-    requires { ⌜ (count ≤ 7) × (at + length (kinds (take count list)) ≤ length (now out)) ⌝ }
-    ensures { λ r. ⌜ Appended (now (out .entry)) at (kinds (take count list)) (now (out .exit)) r ⌝ }
+    requires { ⌜ (count ≤ 7) × (at + 28 ≤ length (now out)) ⌝ }
+    ensures { λ r. ⌜ Appended (now (out .entry)) at (kinds (take count list)) (now (out .exit)) r × (r ≤ at + 28) ⌝ }
 {
     if count == 0 {
         return word(out, at, b" -");
@@ -62,7 +63,7 @@ pub fn event_line(
     held: u8,
     guarded: bool,
 ) -> usize
-    requires { ⌜ (count ≤ 7) × (at + length (eventLine event (take count list) q held guarded) ≤ length (now out)) ⌝ }
+    requires { ⌜ (count ≤ 7) × (at + lineRoom ≤ length (now out)) ⌝ }
     ensures { λ r. ⌜ Appended (now (out .entry)) at (eventLine event (take count list) q held guarded) (now (out .exit)) r ⌝ }
 {
     let received = labelled(out, at, b"in ", event as usize);
@@ -74,7 +75,7 @@ pub fn event_line(
 }
 
 pub fn refused_event_line(out: &mut [u8], at: usize, event: u32, row: u8) -> usize
-    requires { ⌜ at + length (refusedEventLine event row) ≤ length (now out) ⌝ }
+    requires { ⌜ at + lineRoom ≤ length (now out) ⌝ }
     ensures { λ r. ⌜ Appended (now (out .entry)) at (refusedEventLine event row) (now (out .exit)) r ⌝ }
 {
     let received = labelled(out, at, b"in ", event as usize);
@@ -83,7 +84,7 @@ pub fn refused_event_line(out: &mut [u8], at: usize, event: u32, row: u8) -> usi
 }
 
 pub fn end_line(out: &mut [u8], at: usize, accepted: usize, refused: usize) -> usize
-    requires { ⌜ at + length (endLine accepted refused) ≤ length (now out) ⌝ }
+    requires { ⌜ at + lineRoom ≤ length (now out) ⌝ }
     ensures { λ r. ⌜ Appended (now (out .entry)) at (endLine accepted refused) (now (out .exit)) r ⌝ }
 {
     let first = labelled(out, at, b"end ", accepted);
@@ -92,7 +93,7 @@ pub fn end_line(out: &mut [u8], at: usize, accepted: usize, refused: usize) -> u
 }
 
 pub fn fault_line(out: &mut [u8], at: usize, row: u8, place: usize) -> usize
-    requires { ⌜ at + length (faultLine row place) ≤ length (now out) ⌝ }
+    requires { ⌜ at + lineRoom ≤ length (now out) ⌝ }
     ensures { λ r. ⌜ Appended (now (out .entry)) at (faultLine row place) (now (out .exit)) r ⌝ }
 {
     let refusal = labelled(out, at, b"refused ", row as usize);
@@ -101,7 +102,7 @@ pub fn fault_line(out: &mut [u8], at: usize, row: u8, place: usize) -> usize
 }
 
 pub fn refusal_line(out: &mut [u8], at: usize, row: u8) -> usize
-    requires { ⌜ at + length (refusalLine row) ≤ length (now out) ⌝ }
+    requires { ⌜ at + lineRoom ≤ length (now out) ⌝ }
     ensures { λ r. ⌜ Appended (now (out .entry)) at (refusalLine row) (now (out .exit)) r ⌝ }
 {
     let refusal = labelled(out, at, b"refused ", row as usize);

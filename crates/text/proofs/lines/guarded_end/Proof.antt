@@ -10,7 +10,7 @@ slice-aggregate-word c = search needs
 
 word-requires : tie.Need-word-requires
 unfolding ascii guardedEnd
-word-requires c κs = omega (arith, rw (c .before .before .if1 .taken) at (c .before .before .before .before .pre))
+word-requires c κs = omega arith
 
 same-length : tie.Need-same-length
 same-length c = search needs
@@ -24,7 +24,7 @@ slice-aggregate-word-2 c = search needs
 
 word-requires-2 : tie.Need-word-requires-2
 unfolding ascii guardedEnd
-word-requires-2 c κs = omega (arith, rw (c .before .before .if1 .left) at (c .before .before .before .before .pre))
+word-requires-2 c κs = omega arith
 
 same-length-2 : tie.Need-same-length-2
 same-length-2 c = search needs

@@ -14,23 +14,23 @@ slice-aggregate-word c = search needs
 
 word-requires : tie.Need-word-requires
 unfolding ascii
-word-requires c κs = let e = kinds-none (c .before .before .before .before .args .list) _ (c .before .before .if1 .taken) in omega (arith, rw e at (c .before .before .before .before .pre .1))
+word-requires c κs = omega arith
 
 same-length : tie.Need-same-length
 same-length c = search needs
 
 returns : tie.Need-returns
 unfolding ascii
-returns c = said (sym (kinds-none (c .before .before .before .before .before .before .before .args .list) _ (c .before .before .before .before .before .if1 .taken))) (c .before .before .word .ensures)
+returns c = (said (sym (kinds-none (c .before .before .before .before .before .before .before .args .list) _ (c .before .before .before .before .before .if1 .taken))) (c .before .before .word .ensures), omega (arith, c .before .before .word .ensures .place))
 
 spaced-requires : tie.Need-spaced-requires
-spaced-requires c κs = let long : c .before .before .before .args .count ≤ length (c .before .before .before .args .list) = search needs in (c .before .before .before .pre .0, rw (kinds-some (c .before .before .before .args .list) _ (c .before .if1 .left) long) at (c .before .before .before .pre .1))
+spaced-requires c κs = omega arith
 
 same-length-2 : tie.Need-same-length-2
 same-length-2 c = search needs
 
 returns-2 : tie.Need-returns-2
-returns-2 c = let long : c .before .before .before .before .before .before .args .count ≤ length (c .before .before .before .before .before .before .args .list) = search needs in said (sym (kinds-some (c .before .before .before .before .before .before .args .list) _ (c .before .before .before .before .if1 .left) long)) (c .before .before .spaced .ensures)
+returns-2 c = let long : c .before .before .before .before .before .before .args .count ≤ length (c .before .before .before .before .before .before .args .list) = search needs in (said (sym (kinds-some (c .before .before .before .before .before .before .args .list) _ (c .before .before .before .before .if1 .left) long)) (c .before .before .spaced .ensures .0), omega (arith, c .before .before .spaced .ensures .1))
 
 pub kinds-spec : {M : Type 1} → statement M
 kinds-spec =

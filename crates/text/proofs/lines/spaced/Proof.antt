@@ -2,7 +2,8 @@ use Rattle.text.proofs.Appending.{kept}
 use mathlib.Core.Path.{refl}
 use lib.ListN.{length}
 use Prim.Native.Nat.{_≤_}
-use Rattle.text.proofs.Spacing.{Spacing, spacing-begins, spacing-room, spacing-goes-on, spacing-done}
+use Rattle.text.proofs.Spacing.{Spacing, spacing-begins, spacing-goes-on, spacing-done}
+use Rattle.text.proofs.Digits.{byte-length}
 use Prim.Native.Nat.{_-_}
 use borrow.Author.Needs.{needs}
 use native.Mathlib.Omega.{arith}
@@ -28,7 +29,7 @@ size-requires : tie.Need-size-requires Inv-loop μ-loop
 size-requires c κs = search needs
 
 labelled-requires : tie.Need-labelled-requires Inv-loop μ-loop
-labelled-requires c κs = let long : c .before .before .before .before .before .before .args .count ≤ length (c .before .before .before .before .before .before .args .t3) = search needs in rw (c .size .ensures .0) (spacing-room (c .before .before .before .before .loop .inv) long (c .before .before .before .loop-test .taken) (c .before .before .before .before .before .before .pre .1))
+labelled-requires c κs = omega (arith, c .before .before .before .before .loop .inv .near, kept (c .before .before .before .before .loop .inv .so-far), byte-length (c .size .result) (c .size .ensures .1), c .before .before .before .before .before .before .pre .1)
 
 add-i : tie.Need-add-i Inv-loop μ-loop
 add-i c = search needs
@@ -37,13 +38,13 @@ loop-less : tie.Need-loop-less Inv-loop μ-loop
 loop-less c = search needs
 
 loop-again : tie.Need-loop-again Inv-loop μ-loop
-loop-again c = let long : c .before .before .before .before .before .before .before .before .before .args .count ≤ length (c .before .before .before .before .before .before .before .before .before .args .t3) = search needs in spacing-goes-on (c .before .before .before .before .before .before .before .loop .inv) long (c .before .before .before .before .before .before .loop-test .taken) (rw (c .before .before .before .size .ensures .0) at (c .before .before .labelled .ensures))
+loop-again c = let long : c .before .before .before .before .before .before .before .before .before .args .count ≤ length (c .before .before .before .before .before .before .before .before .before .args .t3) = search needs in spacing-goes-on (c .before .before .before .before .before .before .before .loop .inv) (c .before .before .before .before .before .before .loop-test .taken) long (rw (c .before .before .before .size .ensures .0) at (c .before .before .before .size .ensures .1)) (rw (c .before .before .before .size .ensures .0) at (c .before .before .labelled .ensures))
 
 same-length : tie.Need-same-length Inv-loop μ-loop
 same-length c = kept (c .before .loop .inv .so-far)
 
 returns : tie.Need-returns Inv-loop μ-loop
-returns c = let long : c .before .before .before .args .count ≤ length (c .before .before .before .args .t3) = search needs in spacing-done (c .before .loop .inv) long (omega arith)
+returns c = spacing-done (c .before .loop .inv) (omega arith)
 
 pub spaced-spec : {M : Type 1} → statement M
 spaced-spec =
