@@ -34,10 +34,10 @@ pub record Spacing (list out₀ : List ℕ) (at count : ℕ) (out : List ℕ) (p
   pub near : place ≤ at + 4 * i
   pub so-far : Appended out₀ at (spaced (take i list)) out place
 
-pub spacing-begins : (list out : List ℕ) (at count : ℕ) → Spacing list out at count out at 0
+pub spacing-begins : (list out : List ℕ) (at count : ℕ) → at ≤ length out → Spacing list out at count out at 0
 unfolding spaced
-spacing-begins list out at count =
-    record { within = omega arith; near = omega arith; so-far = record { content = refl; place = omega arith } }
+spacing-begins list out at count h =
+    record { within = omega arith; near = omega arith; so-far = record { content = refl; place = omega arith; inside = h } }
 
 module _ {list out₀ : List ℕ} {at count : ℕ} {out : List ℕ} {place i : ℕ} (g : Spacing list out₀ at count out place i) where
   pub spacing-goes-on : {out′ : List ℕ} {next : ℕ} → i < count → count ≤ length list → getD list i 0 < 256

@@ -1,5 +1,5 @@
 -- Text as bytes: quoted words, and numbers in decimal.
-use Prim.Native.Nat.{ℕ, zero, suc, _+_, _/_, _%_}
+use Prim.Native.Nat.{ℕ, zero, suc, _+_, _/_, _%_, _≤_}
 use Prim.Native.Char.{code}
 use Prim.Native.String.{String, [] as []ˢ, _∷_ as _∷ˢ_}
 use mathlib.Core.Path.{_≡_}
@@ -26,7 +26,8 @@ digits (suc k) n = cond (ltb n 10) (digit n ∷ []) (digits k (n / 10) ++ digit 
 unfoldable pub decimal : ℕ → List ℕ
 decimal n = digits (suc n) n
 
--- bytes were stored in a lent buffer from a place on, and nothing else in it changed; `next` is the place after them
+-- Bytes were stored in a lent buffer from a place on, all of them, and nothing else in it changed; `next` is the place after them.
 pub record Appended (before : List ℕ) (at : ℕ) (bytes after : List ℕ) (next : ℕ) : Type 0 where
   pub content : after ≡ sets before at bytes
   pub place : next ≡ at + length bytes
+  pub inside : next ≤ length before

@@ -46,7 +46,7 @@ number-same-length t c = search needs
 number-returns :
     (t : ℕ) → number-lts.Need-returns (number-below t, number.Post) (number-at t) number.Post
 unfolding digit
-number-returns t c = said (sym (decimal-one _ (c .if1 .taken))) (one-byte _ _ _)
+number-returns t c = said (sym (decimal-one _ (c .if1 .taken))) (one-byte _ _ _ (omega (arith, decimal-some (c .before .before .args .n))))
 
 number-number-requires :
     (t : ℕ) →
@@ -79,7 +79,7 @@ number-same-length-2 t c = search needs
 number-returns-2 :
     (t : ℕ) → number-lts.Need-returns-2 (number-below t, number.Post) (number-at t) number.Post
 unfolding digit
-number-returns-2 t c = said (sym (decimal-more _ (c .before .before .before .before .if1 .left))) (behind (c .before .before .number .ensures) (one-byte _ _ _))
+number-returns-2 t c = said (sym (decimal-more _ (c .before .before .before .before .if1 .left))) (behind (c .before .before .number .ensures) (one-byte _ _ _ (omega (arith, decimal-longer (c .before .before .before .before .before .before .args .n) (c .before .before .before .before .if1 .left), c .before .before .number .ensures .place, c .before .before .number .kept .0))))
 
 pub +number-spec : {M : Type 1} → statement M
 +number-spec =

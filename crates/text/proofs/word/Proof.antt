@@ -14,7 +14,7 @@ same-length : tie.Need-same-length
 same-length c = search needs
 
 returns : tie.Need-returns
-returns c = record { content = c .before .before .copy .ensures ∙ rw (take-length (c .before .before .before .before .before .before .args .text .now)); place = refl }
+returns c = record { content = c .before .before .copy .ensures ∙ rw (take-length (c .before .before .before .before .before .before .args .text .now)); place = refl; inside = search needs }
 
 pub word-spec : {M : Type 1} → statement M
 word-spec = tie.close (tie.spec copy-requires add-result same-length returns)

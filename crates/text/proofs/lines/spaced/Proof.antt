@@ -17,7 +17,7 @@ abbrev μ-loop : tie.MeasureT-loop
 μ-loop out₀ at count list place₀ i₀ t8 out place i = count - i
 
 loop-holds : tie.Need-loop-holds Inv-loop μ-loop
-loop-holds c = spacing-begins _ _ _ _
+loop-holds c = spacing-begins _ _ _ _ (omega arith)
 
 slice-aggregate-labelled : tie.Need-slice-aggregate-labelled Inv-loop μ-loop
 slice-aggregate-labelled c = refl
