@@ -3,7 +3,7 @@ use Prim.Native.Nat.{ℕ, suc, _+_, _<_, _≤_}
 use mathlib.Core.Path.{_≡_, refl, sym, _∙_, ap}
 use mathlib.Core.List.{List, [], _∷_, _++_, append-assoc, append-nil}
 use native.Mathlib.Omega.{arith}
-use lib.ListN.{length}
+use lib.ListN.{length, length-append}
 use Rattle.text.specs.Decimal.{Appended}
 use Rattle.text.proofs.Appending.{behind, kept}
 use Rattle.transcript.specs.Transcript.{Day}
@@ -88,3 +88,9 @@ line-as e x =
       continued = record { written = x .continued .written; stored = x .continued .stored; whole = x .continued .whole ∙ sym e };
       ended = λ h. e ∙ x .ended h;
     }
+
+-- a piece that writes leaves less to come
+pub less-left : {t s : List ℕ} {before : Progress} {out out′ : List ℕ} {after : Progress} {next : ℕ}
+    → Continued t s before out 0 out′ after next → (next ≡ 0 → ⊥) → length (toCome t s after) < length (toCome t s before)
+less-left {t} {s} {before} {out} {out′} {after} {next} g z =
+    omega (arith, ap length (g .whole), length-append (g .written) (toCome t s after), g .stored .place)
