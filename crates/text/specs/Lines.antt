@@ -1,0 +1,56 @@
+-- The lines that a program prints, as bytes (document 01, "The day program").
+use Prim.Native.Nat.{ℕ}
+use mathlib.Core.Bool.{Bool, cond}
+use mathlib.Core.List.{List, [], _∷_, _++_}
+use Rattle.text.specs.Decimal.{ascii, decimal}
+
+-- whether guarded, up to the line's end
+unfoldable pub guardedEnd : Bool → List ℕ
+guardedEnd g = ascii " guarded " ++ (cond g (ascii "yes") (ascii "no") ++ ascii "\n")
+
+-- n, m, B, the start, and whether fresh is guarded
+unfoldable pub sheetLine : ℕ → ℕ → ℕ → ℕ → Bool → List ℕ
+sheetLine n m b q g =
+    ascii "sheet " ++ (decimal n ++
+    (ascii " " ++ (decimal m ++
+    (ascii " " ++ (decimal b ++
+    (ascii " start " ++ (decimal q ++
+    guardedEnd g)))))))
+
+-- kinds, each with a space before it
+unfoldable pub spaced : List ℕ → List ℕ
+spaced [] = []
+spaced (e ∷ es) = ascii " " ++ (decimal e ++ spaced es)
+
+-- the kinds put out; `-` for none
+unfoldable pub kinds : List ℕ → List ℕ
+kinds [] = ascii " -"
+kinds (e ∷ es) = spaced (e ∷ es)
+
+-- an event: the kind received, the kinds put out, the state, the count held, whether guarded
+unfoldable pub eventLine : ℕ → List ℕ → ℕ → ℕ → Bool → List ℕ
+eventLine e out q h g =
+    ascii "in " ++ (decimal e ++
+    (ascii " out" ++ (kinds out ++
+    (ascii " state " ++ (decimal q ++
+    (ascii " held " ++ (decimal h ++
+    guardedEnd g)))))))
+
+-- a refused event
+unfoldable pub refusedEventLine : ℕ → ℕ → List ℕ
+refusedEventLine e row = ascii "in " ++ (decimal e ++ (ascii " refused " ++ (decimal row ++ ascii "\n")))
+
+-- the last line: how many events were accepted and refused
+unfoldable pub endLine : ℕ → ℕ → List ℕ
+endLine accepted refused = ascii "end " ++ (decimal accepted ++ (ascii " " ++ (decimal refused ++ ascii "\n")))
+
+-- a refusal outside one event: with the place of the fault, and alone
+unfoldable pub faultLine : ℕ → ℕ → List ℕ
+faultLine row at = ascii "refused " ++ (decimal row ++ (ascii " at " ++ (decimal at ++ ascii "\n")))
+
+unfoldable pub refusalLine : ℕ → List ℕ
+refusalLine row = ascii "refused " ++ (decimal row ++ ascii "\n")
+
+-- The room that a line can take, whatever its numbers: a number below 2 ^ 64 has 20 digits at most, a byte 3.
+abbrev pub lineRoom : ℕ
+lineRoom = 96

@@ -1,0 +1,3 @@
+pub mod Transcript
+pub mod Pieces
+pub mod Claims

@@ -1,0 +1,98 @@
+-- What the day program prints on an input: every line in order, as bytes (document 01, "The day program").
+use Prim.Native.Nat.{ℕ, zero, suc, _+_, _*_}
+use mathlib.Core.Bool.{Bool, cond}
+use mathlib.Core.List.{List, [], _++_}
+use lib.ListN.{length, take, drop}
+use lib.Dec.{eqb, ltb}
+use Rattle.varint.specs.declared.Number.{Number}
+use Rattle.varint.specs.Varint.{read}
+use Rattle.automaton.specs.declared.Automaton.{Automaton}
+use Rattle.encoding.specs.declared.Parsed.{Parsed}
+use Rattle.encoding.specs.Reading.{refused, parse}
+use Rattle.sets.specs.Table.{buffersCount, table}
+use Rattle.configuration.specs.Carried.{initialOf}
+use Rattle.monitor.specs.declared.Received.{Received}
+use Rattle.monitor.specs.Answers.{guard, received}
+use Rattle.text.specs.Lines.{sheetLine, eventLine, refusedEventLine, endLine, faultLine, refusalLine}
+pub use Rattle.transcript.specs.declared.Day.{Day}
+
+-- the sheet after L, at a place: the place after it, or its first fault, both from the input's first byte
+unfoldable pub sheetAt : ℕ → ℕ → Parsed → Parsed
+sheetAt from count p =
+    cond (eqb (p .refusal) 0)
+    (record { refusal = 0; place = from + count; automaton = p .automaton })
+    (refused (p .refusal) (from + p .place))
+
+-- What an input begins with, the number L and L bytes of sheet: the automaton and the place after it, or the first fault.
+unfoldable pub opening : List ℕ → Parsed
+opening s =
+    let l = read s 0 in
+    cond (eqb (l .refusal) 0)
+    (cond (ltb (length s) (l .place + l .value))
+    (refused 1 (l .place))
+    (sheetAt (l .place) (l .value) (parse (take (l .value) (drop (l .place) s)))))
+    (refused (l .refusal) (l .place))
+
+-- the day before its first event, which begins at a place
+unfoldable pub fresh : Automaton → ℕ → Day
+fresh a at = record { automaton = a; configuration = initialOf a; place = at; accepted = 0; refused = 0 }
+
+-- the first line
+unfoldable pub firstLine : List ℕ → Day → List ℕ
+firstLine t d =
+    let a = d .automaton in
+    sheetLine (a .states) (a .symbols) (a .capacity) (a .initial) (guard a t (d .configuration) .winning)
+
+-- the line of an event that was answered
+unfoldable pub answerLine : ℕ → Received → List ℕ
+answerLine e r =
+    cond (eqb (r .refusal) 0)
+    (eventLine e (take (r .count) (r .emitted)) (r .configuration .state) (r .configuration .held) (r .winning))
+    (refusedEventLine e (r .refusal))
+
+-- the day after it, with the place of the next event
+unfoldable pub after : Day → ℕ → Received → Day
+after d next r =
+    record {
+      automaton = d .automaton;
+      configuration = r .configuration;
+      place = next;
+      accepted = d .accepted + cond (eqb (r .refusal) 0) 1 0;
+      refused = d .refused + cond (eqb (r .refusal) 0) 0 1;
+    }
+
+-- The lines of the events from the day's place to the input's end, and the last line; a fault in an event's number ends them. (An
+-- event has a byte at least, so as many steps as there are bytes and one are enough.)
+unfoldable pub eventLines : ℕ → List ℕ → List ℕ → Day → List ℕ
+eventLines zero t s d = []
+eventLines (suc k) t s d =
+    let n = read s (d .place) in
+    let r = received (d .automaton) t (d .configuration) (n .value) in
+    cond (ltb (d .place) (length s))
+    (cond (eqb (n .refusal) 0)
+    (answerLine (n .value) r ++ eventLines k t s (after d (n .place) r))
+    (faultLine (n .refusal) (n .place)))
+    (endLine (d .accepted) (d .refused))
+
+-- a day's lines over a table
+unfoldable pub dayLines : List ℕ → List ℕ → Day → List ℕ
+dayLines t s d = firstLine t d ++ eventLines (suc (length s)) t s d
+
+-- row 18
+unfoldable pub tooLong : List ℕ → Bool
+tooLong s = ltb 60000 (length s)
+
+-- the table that the program has is shorter than 2T
+unfoldable pub tooLarge : Automaton → Bool
+tooLarge a = ltb 16384 (2 * buffersCount a)
+
+unfoldable pub transcript : List ℕ → List ℕ
+transcript s =
+    let p = opening s in
+    cond (tooLong s)
+    (refusalLine 18)
+    (cond (eqb (p .refusal) 0)
+    (cond (tooLarge (p .automaton))
+    (refusalLine 12)
+    (dayLines (table (p .automaton)) s (fresh (p .automaton) (p .place))))
+    (faultLine (p .refusal) (p .place)))
