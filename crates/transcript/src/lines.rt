@@ -132,7 +132,7 @@ fn running_line(day: Day, input: &[u8], table: &[u32], out: &mut [u8], from: usi
         let next = end_line(out, from, day.accepted, day.refused);
         return piece(Phase::Ended, day, next);
     }
-    let number = varint::read(input, place);
+    let number = reader::read_at(input, place);
     if number.refusal != 0 {
         let next = fault_line(out, from, number.refusal, number.place);
         return piece(Phase::Ended, day, next);

@@ -71,7 +71,7 @@ pub fn begin(input: &[u8], table: &mut [u32; 16384]) -> Progress
     if 60000 < input.len() {
         return without(Phase::Refused(18));
     }
-    let length = varint::read(input, 0);
+    let length = reader::read_at(input, 0);
     if length.refusal != 0 {
         return without(Phase::Faulted(length.refusal, length.place));
     }
