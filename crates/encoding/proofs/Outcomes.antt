@@ -12,7 +12,7 @@ use borrow.Author.Tests.{lt-ltb, le-ltb}
 use Rattle.base.specs.Rows.{first}
 use Rattle.automaton.specs.declared.Automaton.{Automaton}
 use Rattle.automaton.specs.Automaton.{valid}
-use Rattle.encoding.specs.Writing.{sheetNumbers, encoded, sheetBytes, writeRefusal, writeAnswer, writeBuffer}
+use Rattle.encoding.specs.Writing.{recordNumbers, encoded, recordBytes, writeRefusal, writeAnswer, writeBuffer}
 use Rattle.automaton.proofs.Facts.{valid-facts}
 use Rattle.encoding.proofs.Encoded.{encoded-small}
 use Rattle.encoding.proofs.Trips.{numbers-small}
@@ -28,32 +28,32 @@ module _ (a : Automaton) (out : List ℕ) where
   write-invalid h = refuses 11 (rw h) refl
 
   module _ (h : valid a ≡ true) where
-    pub sheet-bytes : sheetBytes a ≡ sheetNumbers a
-    unfolding sheetBytes
-    sheet-bytes = encoded-small (sheetNumbers a) (numbers-small a (valid-facts a h))
+    pub record-bytes : recordBytes a ≡ recordNumbers a
+    unfolding recordBytes
+    record-bytes = encoded-small (recordNumbers a) (numbers-small a (valid-facts a h))
 
     total : ℕ
     total = 4 + a .symbols + a .states + a .states * a .symbols
 
-    bytes-length : length (sheetBytes a) ≡ total
+    bytes-length : length (recordBytes a) ≡ total
     unfolding total
-    bytes-length = ap length sheet-bytes ∙ numbers-length a (valid-facts a h)
+    bytes-length = ap length record-bytes ∙ numbers-length a (valid-facts a h)
 
     pub write-short : length out < 4 + a .symbols + a .states + a .states * a .symbols
         → (record { refusal = 16; length = 0 } ≡ writeAnswer a out) × (out ≡ writeBuffer a out)
     unfolding writeRefusal first total
     write-short l =
-        let k : length out < length (sheetBytes a) = rw bytes-length l in
-        refuses 16 (rw (h, lt-ltb (length out) (length (sheetBytes a)) k)) refl
+        let k : length out < length (recordBytes a) = rw bytes-length l in
+        refuses 16 (rw (h, lt-ltb (length out) (length (recordBytes a)) k)) refl
 
     pub write-fits : 4 + a .symbols + a .states + a .states * a .symbols ≤ length out
         → (record { refusal = 0; length = 4 + a .symbols + a .states + a .states * a .symbols } ≡ writeAnswer a out)
-        × (sets out 0 (sheetNumbers a) ≡ writeBuffer a out)
+        × (sets out 0 (recordNumbers a) ≡ writeBuffer a out)
     unfolding writeRefusal first writeAnswer writeBuffer total
     write-fits l =
-        let k : length (sheetBytes a) ≤ length out = rw bytes-length l in
-        let e : writeRefusal a out ≡ 0 = rw (h, le-ltb (length out) (length (sheetBytes a)) k) in
-        let j : 0 + length (sheetBytes a) ≤ length out = omega arith in (
+        let k : length (recordBytes a) ≤ length out = rw bytes-length l in
+        let e : writeRefusal a out ≡ 0 = rw (h, le-ltb (length out) (length (recordBytes a)) k) in
+        let j : 0 + length (recordBytes a) ≤ length out = omega arith in (
           rw (e, bytes-length),
-          ap (λ x. sets out 0 x) (sym sheet-bytes) ∙ sets-eq (sheetBytes a) out 0 j ∙ rw (e, zero-add (length (sheetBytes a))),
+          ap (λ x. sets out 0 x) (sym record-bytes) ∙ sets-eq (recordBytes a) out 0 j ∙ rw (e, zero-add (length (recordBytes a))),
         )

@@ -14,7 +14,7 @@ use Rattle.varint.specs.declared.Number.{Number}
 use Rattle.automaton.specs.declared.Automaton.{Automaton}
 use Rattle.automaton.specs.Automaton.{controllable, controllables, flag, step}
 use Rattle.encoding.specs.Reading.{between, classRow, tally, numbers, runs, parsed, tables, sheet}
-use Rattle.encoding.specs.Writing.{nextNumbers, sheetNumbers}
+use Rattle.encoding.specs.Writing.{nextNumbers, recordNumbers}
 use Rattle.automaton.proofs.Facts.{Valid}
 use Rattle.encoding.proofs.Items.{inside, range-of}
 use Rattle.encoding.proofs.Follows.{done, Follows, Passes, one-done, one-read, many-done, many-read, follows-append, follows-split, numbers-done, numbers-all}
@@ -91,8 +91,8 @@ module _ (a : Automaton) (v : Valid a) where
         next-prefix states (drop (a .states * 16) (a .next)) (a .symbols) (a .states) (v .symbols-high) (omega (arith, states-length)) in
         runs-done (a .symbols) (between 0 (a .states) 9) (v .symbols-high) from (a .states) states [] at stop states-rows (rw e at f)
 
-    pub parsed-of : (end stop : ℕ) → Follows from (sheetNumbers a) 0 stop → end ≤ stop → sheet from 1 end ≡ parsed a
-    unfolding sheet tables sheetNumbers
+    pub parsed-of : (end stop : ℕ) → Follows from (recordNumbers a) 0 stop → end ≤ stop → sheet from 1 end ≡ parsed a
+    unfolding sheet tables recordNumbers
     parsed-of end stop f h =
         let s5 = follows-split from classes (flags ++ nextNumbers (a .next) (a .symbols) (a .states)) _ stop (f .2 .2 .2 .2) in
         let s6 = follows-split from flags (nextNumbers (a .next) (a .symbols) (a .states)) (s5 .0) stop (s5 .2) in
@@ -109,7 +109,7 @@ module _ (a : Automaton) (v : Valid a) where
 pub record Standing (from : ℕ → Number) (end : ℕ) (a : Automaton) : Type 0 where
   pub valid : Valid a
   pub stop : ℕ
-  pub follows : Follows from (sheetNumbers a) 0 stop
+  pub follows : Follows from (recordNumbers a) 0 stop
   pub reaches : end ≤ stop
 
 -- what the arrays hold after reading
@@ -160,8 +160,8 @@ module _ (n m b q : ℕ) (cs fs vs : List ℕ) where
               (λ u. made-after (s * 16 + e) (omega (arith, ltb-false s n u)));
         }
 
-    made-numbers : sheetNumbers made ≡ n ∷ m ∷ b ∷ q ∷ (cs ++ (fs ++ nextNumbers vs m n))
-    unfolding sheetNumbers pad
+    made-numbers : recordNumbers made ≡ n ∷ m ∷ b ∷ q ∷ (cs ++ (fs ++ nextNumbers vs m n))
+    unfolding recordNumbers pad
     made-numbers =
         let c : take m (pad 16 cs) ≡ cs = rw (← lc) (take-pad 16 cs) in
         let f : take n (pad 32 fs) ≡ fs = rw (← lf) (take-pad 32 fs) in

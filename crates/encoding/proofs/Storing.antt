@@ -9,7 +9,7 @@ use lib.ListN.{length, getD, set, take, drop, length-append, length-take, length
 use lib.Seq.{sets, length-sets, take-suc, getD-drop, length-take-le}
 use Rattle.automaton.specs.declared.Automaton.{Automaton}
 use Rattle.automaton.specs.Automaton.{valid}
-use Rattle.encoding.specs.Writing.{nextNumbers, sheetNumbers}
+use Rattle.encoding.specs.Writing.{nextNumbers, recordNumbers}
 use Rattle.base.proofs.Stores.{sets-join}
 use Rattle.automaton.proofs.Facts.{Valid}
 
@@ -54,8 +54,8 @@ module _ (a : Automaton) (v : Valid a) where
   flags-length : length (take (a .states) (a .accepting)) ≡ a .states
   flags-length = length-take-le (a .states) (a .accepting) (omega (arith, v .accepting-length, v .states-high))
 
-  pub numbers-length : length (sheetNumbers a) ≡ 4 + a .symbols + a .states + a .states * a .symbols
-  unfolding sheetNumbers
+  pub numbers-length : length (recordNumbers a) ≡ 4 + a .symbols + a .states + a .states * a .symbols
+  unfolding recordNumbers
   numbers-length =
       simp length-append
       (omega (arith, classes-length, flags-length, rows-length (a .next) (v .next-length) (a .symbols) (v .symbols-high) (a .states) (v .states-high)))
@@ -68,8 +68,8 @@ module _ (a : Automaton) (v : Valid a) where
       4 (take (a .symbols) (drop 0 (a .classes))))
       (4 + a .symbols) (take (a .states) (drop 0 (a .accepting))))
       (4 + a .symbols + a .states) (nextNumbers (a .next) (a .symbols) (a .states))
-      ≡ sets out 0 (sheetNumbers a)
-  unfolding sheetNumbers
+      ≡ sets out 0 (recordNumbers a)
+  unfolding recordNumbers
   parts-join out =
       let h = a .states ∷ a .symbols ∷ a .capacity ∷ a .initial ∷ [] in
       let c = take (a .symbols) (a .classes) in

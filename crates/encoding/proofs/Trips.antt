@@ -9,7 +9,7 @@ use Rattle.varint.specs.Varint.{read}
 use Rattle.automaton.specs.declared.Automaton.{Automaton}
 use Rattle.automaton.specs.Automaton.{step}
 use Rattle.encoding.specs.Reading.{parse}
-use Rattle.encoding.specs.Writing.{nextNumbers, sheetNumbers, encoded, sheetBytes}
+use Rattle.encoding.specs.Writing.{nextNumbers, recordNumbers, encoded, recordBytes}
 use Rattle.encoding.specs.Claims.{WrittenReadsBack, ReadIsValid, ReadAgain}
 use Rattle.automaton.proofs.Facts.{Valid, valid-facts, valid-of}
 use Rattle.encoding.proofs.Encoded.{encoded-follows, follows-fewest, follows-inside}
@@ -33,8 +33,8 @@ module _ (a : Automaton) (v : Valid a) where
       (front-small (a .symbols) (drop (k * 16) (a .next)) λ e l.
       rw (getD-drop (k * 16) (a .next) e 0) (omega (arith, v .step-below k e (omega arith) l, v .states-high)))
 
-  pub numbers-small : Every small (sheetNumbers a)
-  unfolding sheetNumbers
+  pub numbers-small : Every small (recordNumbers a)
+  unfolding recordNumbers
   numbers-small =
       let fs : List ℕ = take (a .states) (a .accepting) in
       let ns : List ℕ = nextNumbers (a .next) (a .symbols) (a .states) in
@@ -50,24 +50,24 @@ module _ (a : Automaton) (v : Valid a) where
       (next-small (a .states) (omega arith)))))))
 
 pub written-reads-back : WrittenReadsBack
-unfolding parse sheetBytes
+unfolding parse recordBytes
 written-reads-back a h =
     let v = valid-facts a h in
-    let s : List ℕ = encoded (sheetNumbers a) in
-    parsed-of a v (read s) (length s) (length s) (encoded-follows (sheetNumbers a) [] (λ i l. omega (arith, numbers-small a v i l))) (omega arith)
+    let s : List ℕ = encoded (recordNumbers a) in
+    parsed-of a v (read s) (length s) (length s) (encoded-follows (recordNumbers a) [] (λ i l. omega (arith, numbers-small a v i l))) (omega arith)
 
 pub read-is-valid : ReadIsValid
 unfolding parse
 read-is-valid s a h = valid-of a (parsed-facts (read s) (length s) a h .valid)
 
 pub read-again : ReadAgain
-unfolding parse sheetBytes
+unfolding parse recordBytes
 read-again s a h =
     let t = parsed-facts (read s) (length s) a h in (
       written-reads-back a (read-is-valid s a h),
       omega (
         arith,
-        follows-fewest s (sheetNumbers a) 0 (t .stop) (t .follows) (numbers-small a (t .valid)),
-        follows-inside s (sheetNumbers a) 0 (t .stop) (omega arith) (t .follows),
+        follows-fewest s (recordNumbers a) 0 (t .stop) (t .follows) (numbers-small a (t .valid)),
+        follows-inside s (recordNumbers a) 0 (t .stop) (omega arith) (t .follows),
       ),
     )

@@ -7,11 +7,11 @@ use lib.ListN.{length}
 use Rattle.automaton.specs.declared.Automaton.{Automaton}
 use Rattle.automaton.specs.Automaton.{valid}
 use Rattle.encoding.specs.Reading.{parsed, parse}
-use Rattle.encoding.specs.Writing.{sheetBytes}
+use Rattle.encoding.specs.Writing.{recordBytes}
 
 -- a sheet that is written reads back as itself
 abbrev pub WrittenReadsBack : Type 0
-WrittenReadsBack = (a : Automaton) → valid a ≡ true → parse (sheetBytes a) ≡ parsed a
+WrittenReadsBack = (a : Automaton) → valid a ≡ true → parse (recordBytes a) ≡ parsed a
 
 -- a record that was read passes row 11
 abbrev pub ReadIsValid : Type 0
@@ -20,4 +20,4 @@ ReadIsValid = (s : List ℕ) (a : Automaton) → parse s ≡ parsed a → valid 
 -- a sheet that is read and written again, padded or not, reads as the same record, and no bytes that read so are shorter
 abbrev pub ReadAgain : Type 0
 ReadAgain =
-    (s : List ℕ) (a : Automaton) → parse s ≡ parsed a → (parse (sheetBytes a) ≡ parsed a) × (length (sheetBytes a) ≤ length s)
+    (s : List ℕ) (a : Automaton) → parse s ≡ parsed a → (parse (recordBytes a) ≡ parsed a) × (length (recordBytes a) ≤ length s)

@@ -16,8 +16,8 @@ nextNumbers next m zero = []
 nextNumbers next m (suc k) = nextNumbers next m k ++ take m (drop (k * 16) next)
 
 -- the sheet's numbers: n, m, B, start, m classes, n flags, n × m next states
-unfoldable pub sheetNumbers : Automaton → List ℕ
-sheetNumbers a =
+unfoldable pub recordNumbers : Automaton → List ℕ
+recordNumbers a =
     a .states ∷ a .symbols ∷ a .capacity ∷ a .initial ∷
     (take (a .symbols) (a .classes) ++
     (take (a .states) (a .accepting) ++
@@ -28,20 +28,20 @@ unfoldable pub encoded : List ℕ → List ℕ
 encoded [] = []
 encoded (v ∷ vs) = bytes v ++ encoded vs
 
-unfoldable pub sheetBytes : Automaton → List ℕ
-sheetBytes a = encoded (sheetNumbers a)
+unfoldable pub recordBytes : Automaton → List ℕ
+recordBytes a = encoded (recordNumbers a)
 
 -- the rows that writing checks
 unfoldable pub writeRefusal : Automaton → List ℕ → ℕ
-writeRefusal a out = first ((11, not (valid a)) ∷ (16, ltb (length out) (length (sheetBytes a))) ∷ [])
+writeRefusal a out = first ((11, not (valid a)) ∷ (16, ltb (length out) (length (recordBytes a))) ∷ [])
 
 -- the answer, and the lent buffer afterwards
 unfoldable pub writeAnswer : Automaton → List ℕ → Written
 writeAnswer a out =
     cond (eqb (writeRefusal a out) 0)
-    (record { refusal = 0; length = length (sheetBytes a) })
+    (record { refusal = 0; length = length (recordBytes a) })
     (record { refusal = writeRefusal a out; length = 0 })
 
 unfoldable pub writeBuffer : Automaton → List ℕ → List ℕ
 writeBuffer a out =
-    cond (eqb (writeRefusal a out) 0) (sheetBytes a ++ drop (length (sheetBytes a)) out) out
+    cond (eqb (writeRefusal a out) 0) (recordBytes a ++ drop (length (recordBytes a)) out) out

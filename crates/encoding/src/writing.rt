@@ -8,7 +8,7 @@ ghost use Prim.Native.Nat.{ℕ, _+_, _*_, _≤_};
 ghost use lib.ListN.{length, take, drop};
 ghost use lib.Seq.{sets};
 ghost use Rattle.automaton.specs.Automaton.{valid};
-ghost use Rattle.encoding.specs.Writing.{nextNumbers, sheetNumbers, writeAnswer, writeBuffer};
+ghost use Rattle.encoding.specs.Writing.{nextNumbers, recordNumbers, writeAnswer, writeBuffer};
 
 // Stores four bytes at the front of `out`.
 fn store_four(out: &mut [u8], n: u8, m: u8, b: u8, q: u8)
@@ -35,8 +35,8 @@ fn store_rows(next: &[u8; 512], n: usize, m: usize, out: &mut [u8], at: usize)
 
 // Stores the record's numbers at the front of `out`.
 fn store(a: Automaton, out: &mut [u8])
-    requires { ⌜ (valid a ≡ true) × (length (sheetNumbers a) ≤ length (now out)) ⌝ }
-    ensures { λ _. ⌜ now (out .exit) ≡ sets (now (out .entry)) 0 (sheetNumbers a) ⌝ }
+    requires { ⌜ (valid a ≡ true) × (length (recordNumbers a) ≤ length (now out)) ⌝ }
+    ensures { λ _. ⌜ now (out .exit) ≡ sets (now (out .entry)) 0 (recordNumbers a) ⌝ }
 {
     let n = base::size(a.states);
     let m = base::size(a.symbols);

@@ -16,7 +16,7 @@ equal : {s t : Settled} → s .set ≡ t .set → s .rounds ≡ t .rounds → s 
 equal a b = λ j. record { set = a j; rounds = b j }
 
 -- a loop of rounds: what is settled on from the start is what is settled on from here, with the rounds that struck
-pub record Striking (round : ℕ → ℕ) (from set rounds : ℕ) : Type 0 where
+pub record Refining (round : ℕ → ℕ) (from set rounds : ℕ) : Type 0 where
   pub so-far : settle round from from ≡ more rounds (settle round set set)
   pub few : rounds + set ≤ from
 
@@ -42,8 +42,8 @@ module _ (round : ℕ → ℕ) where
       let one : r + (settle round k (round x) .rounds + 1) ≡ r + 1 + settle round k (round x) .rounds = omega arith in
       rw (e, one) (settle-keeps P keep k (r + 1) (round x) (keep r x (eqb-false (round x) x e) h)))
 
-  pub strike-none : (x : ℕ) → Striking round x x 0
-  strike-none x = record { so-far = equal refl (omega arith); few = omega arith }
+  pub refine-none : (x : ℕ) → Refining round x x 0
+  refine-none x = record { so-far = equal refl (omega arith); few = omega arith }
 
   module _ (less : (x : ℕ) → round x ≤ x) where
     -- the fuel does not matter where there is enough
@@ -68,13 +68,13 @@ module _ (round : ℕ → ℕ) where
         (λ e. let f = eqb-true (round x) x e in rw (settle-stops (suc k) x f) f)
         (λ e. let f = eqb-false (round x) x e in rw (settle-strikes k x f) (settle-fixed k (round x) (omega (arith, less x))))
 
-    module _ (from set rounds kept : ℕ) (s : Striking round from set rounds) (one : kept ≡ round set) where
-      pub strike-smaller : (kept ≡ set → ⊥) → kept < set
-      strike-smaller h = omega (arith, less set, h)
+    module _ (from set rounds kept : ℕ) (s : Refining round from set rounds) (one : kept ≡ round set) where
+      pub refine-smaller : (kept ≡ set → ⊥) → kept < set
+      refine-smaller h = omega (arith, less set, h)
 
-      pub strike-more : (kept ≡ set → ⊥) → Striking round from kept (rounds + 1)
-      strike-more h =
-          let fall = strike-smaller h in
+      pub refine-more : (kept ≡ set → ⊥) → Refining round from kept (rounds + 1)
+      refine-more h =
+          let fall = refine-smaller h in
           let turn = settle-fuel set (suc set) set (omega arith) (omega arith) ∙ settle-strikes set set (λ e. h (one ∙ e)) in
           let rest : settle round set (round set) ≡ settle round kept kept = rw (← one) (settle-fuel set kept kept (omega arith) (omega arith)) in
           record {
@@ -82,5 +82,5 @@ module _ (round : ℕ → ℕ) where
             few = omega arith;
           }
 
-      pub strike-done : kept ≡ set → record { set = set; rounds = rounds } ≡ settle round from from
-      strike-done h = sym (s .so-far ∙ ap (more rounds) (settle-stops set set (sym one ∙ h)) ∙ equal refl (omega arith))
+      pub refine-done : kept ≡ set → record { set = set; rounds = rounds } ≡ settle round from from
+      refine-done h = sym (s .so-far ∙ ap (more rounds) (settle-stops set set (sym one ∙ h)) ∙ equal refl (omega arith))
