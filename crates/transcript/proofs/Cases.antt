@@ -18,17 +18,29 @@ use Rattle.monitor.specs.Answers.{callRows, isWinning, guardRefusal, guard, rec
 use Rattle.text.specs.Decimal.{ascii, digit, digits, decimal}
 use Rattle.text.specs.Lines.{guardedEnd, sheetLine, spaced, emission, eventLine, refusedEventLine, endLine, faultLine, refusalLine}
 use Rattle.transcript.specs.Transcript.{sheetAt, opening, runFrom, firstLine, answerLine, after, eventLines, runLines, tooLong, tooLarge, transcript}
-use Rattle.transcript.specs.Claims.{v, w, large, printed, CasesPrinted, LongRefused}
+use Rattle.transcript.specs.Claims.{v, large, lines, CasesPrinted, LongRefused}
 
 -- every definition that the transcript rests on
 unfoldable all : ℕ
-unfolding each count those lastOr has mask pad first groups read controllable controllables accepts step run stands shaped ranged classesStand flagsStand nextStand valid checked between tally classRow numbers runs one many tables sheet parse acceptingSet admits stays refine settle settled setsOf emptySets into sets rank value shorter index buffersCount short controllableTo extended buffersAt buffersTo pairs table heldEvents holdable consistent initialOf byTable qualifies qualifying release remaining arrival effect eventRows callRows isWinning guardRefusal guard receiveRefusal received ascii digit digits decimal guardedEnd sheetLine spaced emission eventLine refusedEventLine endLine faultLine refusalLine sheetAt opening runFrom firstLine answerLine after eventLines runLines tooLong tooLarge transcript v w large printed
+unfolding each count those lastOr has mask pad first groups read controllable controllables accepts step run stands shaped ranged classesStand flagsStand nextStand valid checked between tally classRow numbers runs one many tables sheet parse acceptingSet admits stays refine settle settled setsOf emptySets into sets rank value shorter index buffersCount short controllableTo extended buffersAt buffersTo pairs table heldEvents holdable consistent initialOf byTable qualifies qualifying release remaining arrival effect eventRows callRows isWinning guardRefusal guard receiveRefusal received ascii digit digits decimal guardedEnd sheetLine spaced emission eventLine refusedEventLine endLine faultLine refusalLine sheetAt opening runFrom firstLine answerLine after eventLines runLines tooLong tooLarge transcript v large lines
 all = 0
 
 pub cases-printed : CasesPrinted
 unfolding all
-cases-printed = (refl, (refl, (refl, (refl, (refl, (refl, (refl, (refl, (refl, (refl, (refl, (refl, (refl, tt)))))))))))))
+cases-printed =
+    record {
+      sample = refl;
+      row-15 = refl;
+      event-unfinished = refl;
+      no-bytes = refl;
+      length-too-long = refl;
+      empty-sheet = refl;
+      padded-length = refl;
+      fewer-than-length = refl;
+      sheet-unfinished = refl;
+      too-large = refl;
+    }
 
 pub long-refused : LongRefused
-unfolding transcript tooLong refusalLine decimal digits digit ascii
+unfolding transcript tooLong refusalLine decimal digits digit ascii lines
 long-refused s h = rw (lt-ltb 60000 (length s) h)
