@@ -21,16 +21,16 @@ use Rattle.automaton.proofs.Facts.{Valid, valid-of}
 use Rattle.sets.specs.Table.{short, Buffer, Controllable}
 use Rattle.sets.proofs.Total.{Total, total}
 use Rattle.configuration.specs.declared.Configuration.{Configuration}
-use Rattle.configuration.specs.Carried.{heldEvents, configuration}
+use Rattle.configuration.specs.Configuration.{heldEvents, configuration}
 use Rattle.configuration.proofs.Facts.{controllable-every, held-buffer}
 use Rattle.releasing.specs.Step.{byTable, release, remaining, Effect, arrival, effect, eventRows, eventRefusal, Run, runOf}
 use Rattle.releasing.specs.declared.Ranking.{Ranking}
 use Rattle.releasing.specs.declared.Front.{Front}
 use Rattle.releasing.specs.Parts.{rankingOf, restIn, over, front, Lent}
-use Rattle.batch.specs.Parts.{acceptsBy, ranOf, ranBufferOf}
+use Rattle.batch.specs.Parts.{acceptsBy, completedRun}
 use Rattle.monitor.proofs.Refusals.{Clear, rows-stand, rows-pass}
 use Rattle.monitor.specs.declared.Ran.{Ran}
-use Rattle.monitor.specs.Answers.{callRows, guardRefusal, room, runRefusal, ran, ranBuffer}
+use Rattle.monitor.specs.Answers.{callRows, callRefusal, room, runRefusal, refusedRun, ran, ranOf, ranBuffer, ranBufferOf}
 use Rattle.monitor.proofs.Receiving.{facts, place}
 use Rattle.releasing.proofs.Effects.{Occurs, accepted-facts, arrival-occurs, effect-occurs}
 use Rattle.releasing.proofs.Runs.{run-accepts, run-refuses, after, passed}
@@ -363,9 +363,8 @@ module _ {a : Automaton} {t events out₀ : List ℕ} {q₀ : ℕ} {w₀ out : L
 
   -- its answer and its output
   pub day-answer : (c : Configuration) → c .state ≡ q₀ → heldEvents c ≡ w₀
-      → (record { refusal = 0; configuration = record { state = q; held = held; buffer = buffer }; length = written; refused = refused } ≡ ranOf a t c events)
+      → (completedRun q buffer held written refused ≡ ranOf a t c events)
       × (out ≡ ranBufferOf a t c events out₀)
-  unfolding ranOf ranBufferOf
   day-answer c es ew =
       let m : 0 + length (g .done) ≤ length out₀ = omega (arith, g .written-is, g .fits, g .enough, g .within) in
       let r : runOf (byTable a t) a (c .state) (heldEvents c) events ≡ record { emitted = g .done; refused = refused; state = q; buffer = take held buffer } =
@@ -418,12 +417,12 @@ day-starts a t c k events out q held eq eh room =
 -- the ways out of a whole day
 module _ (a : Automaton) (t : List ℕ) (c : Configuration) (events out : List ℕ) where
   stopped : (n : ℕ) → runRefusal a t c events out ≡ n → (n ≡ 0 → ⊥)
-      → (record { refusal = n; configuration = c; length = 0; refused = 0 } ≡ ran a t c events out) × (out ≡ ranBuffer a t c events out)
+      → (refusedRun n c ≡ ran a t c events out) × (out ≡ ranBuffer a t c events out)
   unfolding ran ranBuffer
   stopped n e z = (rw (e, ne-eqb n 0 z), rw (e, ne-eqb n 0 z))
 
-  pub run-stands : (n : ℕ) → n ≡ guardRefusal a t c → (n ≡ 0 → ⊥)
-      → (record { refusal = n; configuration = c; length = 0; refused = 0 } ≡ ran a t c events out) × (out ≡ ranBuffer a t c events out)
+  pub run-stands : (n : ℕ) → n ≡ callRefusal a t c → (n ≡ 0 → ⊥)
+      → (refusedRun n c ≡ ran a t c events out) × (out ≡ ranBuffer a t c events out)
   unfolding runRefusal
   run-stands n g z = stopped n (rows-stand a t c ((16, ltb (length out) (room events (c .held))) ∷ []) (rw g at z) ∙ sym g) z
 
@@ -434,10 +433,10 @@ module _ (a : Automaton) (t : List ℕ) (c : Configuration) (events out : List �
         rows-pass a t c (k .record-valid) (k .table-long) (k .configuration-consistent) ((16, ltb (length out) (room events (c .held))) ∷ []) ∙ rw e
 
     pub run-lacks-room : length out < length events + c .held
-        → (record { refusal = 16; configuration = c; length = 0; refused = 0 } ≡ ran a t c events out) × (out ≡ ranBuffer a t c events out)
+        → (refusedRun 16 c ≡ ran a t c events out) × (out ≡ ranBuffer a t c events out)
     unfolding room
     run-lacks-room l = stopped 16 (row-of true (lt-ltb (length out) (room events (c .held)) l)) (λ z. omega arith)
 
     pub run-goes : length events + c .held ≤ length out → (ranOf a t c events ≡ ran a t c events out) × (ranBufferOf a t c events out ≡ ranBuffer a t c events out)
-    unfolding room ran ranBuffer ranOf ranBufferOf
+    unfolding room ran ranBuffer
     run-goes l = let e = row-of false (le-ltb (length out) (room events (c .held)) l) in (rw e, rw e)

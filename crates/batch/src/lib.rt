@@ -16,9 +16,9 @@ ghost use Prim.Native.Nat.{ℕ, _+_, _*_, _≤_, _<_};
 ghost use lib.ListN.{length, getD, set, take, drop};
 ghost use lib.Seq.{sets};
 ghost use Rattle.base.specs.Pad.{pad};
-ghost use Rattle.monitor.specs.Answers.{guardRefusal, ran, ranBuffer};
+ghost use Rattle.monitor.specs.Answers.{callRefusal, refusedRun, ran, ranOf, ranBuffer, ranBufferOf};
 ghost use Rattle.releasing.specs.Parts.{rankingOf};
-ghost use Rattle.batch.specs.Parts.{acceptsBy, ranOf, ranBufferOf};
+ghost use Rattle.batch.specs.Parts.{acceptsBy, completedRun};
 
 // Whether an event is accepted with so many held: a symbol, and uncontrollable or with room for it.
 fn accepts(ranks: &[u8; 16], symbols: u8, capacity: usize, held: usize, event: u32) -> bool
@@ -98,6 +98,23 @@ fn left(buffer: [u8; 6], held: usize, count: usize) -> [u8; 6]
     buffer
 }
 
+// The answer after the last event.
+fn completed(q: usize, buffer: [u8; 6], held: usize, written: usize, refused: usize) -> Ran
+    requires { ⌜ (q < 256) × (held < 256) ⌝ }
+    ensures { λ r. ⌜ r ≡ completedRun q buffer held written refused ⌝ }
+{
+    Ran {
+        refusal: 0,
+        configuration: Configuration {
+            state: q as u8,
+            held: held as u8,
+            buffer,
+        },
+        length: written,
+        refused,
+    }
+}
+
 // The events in turn; those that are refused are passed over and counted.
 fn go(
     a: Automaton,
@@ -107,7 +124,7 @@ fn go(
     events: &[u32],
     out: &mut [u8],
 ) -> Ran
-    requires { ⌜ (guardRefusal a (now table) c ≡ 0) × (ranking ≡ rankingOf (a .classes) (a .symbols)) × (length (now events) + c .held ≤ length (now out)) ⌝ }
+    requires { ⌜ (callRefusal a (now table) c ≡ 0) × (ranking ≡ rankingOf (a .classes) (a .symbols)) × (length (now events) + c .held ≤ length (now out)) ⌝ }
     ensures { λ r. ⌜ (r ≡ ranOf a (now (table .entry)) c (now (events .entry))) × (now (out .exit) ≡ ranBufferOf a (now (table .entry)) c (now (events .entry)) (now (out .entry))) ⌝ }
 {
     let capacity = size(a.capacity);
@@ -147,15 +164,17 @@ fn go(
             refused = refused + 1;
         }
     }
+    completed(q, buffer, held, written, refused)
+}
+
+fn refused_run(row: u8, c: Configuration) -> Ran
+    ensures { λ r. ⌜ r ≡ refusedRun row c ⌝ }
+{
     Ran {
-        refusal: 0,
-        configuration: Configuration {
-            state: q as u8,
-            held: held as u8,
-            buffer,
-        },
-        length: written,
-        refused,
+        refusal: row,
+        configuration: c,
+        length: 0,
+        refused: 0,
     }
 }
 
@@ -164,29 +183,14 @@ pub fn run(a: Automaton, table: &[u32], c: Configuration, events: &[u32], out: &
 {
     let entry = enter(a, table, c);
     if entry.refusal != 0 {
-        return Ran {
-            refusal: entry.refusal,
-            configuration: c,
-            length: 0,
-            refused: 0,
-        };
+        return refused_run(entry.refusal, c);
     }
     let held = size(c.held);
     if out.len() < held {
-        return Ran {
-            refusal: 16,
-            configuration: c,
-            length: 0,
-            refused: 0,
-        };
+        return refused_run(16, c);
     }
     if out.len() - held < events.len() {
-        return Ran {
-            refusal: 16,
-            configuration: c,
-            length: 0,
-            refused: 0,
-        };
+        return refused_run(16, c);
     }
     let ranking = entry.ranking;
     go(a, ranking, table, c, events, out)

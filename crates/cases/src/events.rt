@@ -54,7 +54,7 @@ fn in_turn(
 }
 
 // Whether a configuration is winning.
-fn guard(label: &[u8], a: Automaton, table: &[u32], c: Configuration) {
+fn status(label: &[u8], a: Automaton, table: &[u32], c: Configuration) {
     text(label);
     let g = monitor::winning(a, table, c);
     text(b": refusal ");
@@ -81,7 +81,7 @@ fn with_v(v: Automaton) {
     let mut t = [0u32; 4];
     winning::solve(v, &mut t);
     started(b"V, initially", v);
-    guard(b"V, initially", v, &t, start(v));
+    status(b"V, initially", v, &t, start(v));
     in_turn(b"V: Answer, Query", v, &t, start(v), &[1, 0]);
     in_turn(b"V: Query, Answer", v, &t, start(v), &[0, 1]);
 }
@@ -116,7 +116,7 @@ fn noisy(w: Automaton) {
 }
 
 fn with_w(w: Automaton, t: &[u32]) {
-    guard(b"W, initially", w, t, start(w));
+    status(b"W, initially", w, t, start(w));
     in_turn(
         b"W: Page, Receipt, Sign, Page, Page, Page",
         w,
@@ -187,7 +187,7 @@ fn inconsistent(w: Automaton, t: &[u32]) {
         buffer: [2, 0, 0, 0, 0, 9],
     };
     in_turn(b"row 13, an unused place", w, t, unused, &[0]);
-    guard(b"row 13, an unused place", w, t, unused);
+    status(b"row 13, an unused place", w, t, unused);
 }
 
 // Two faults at once: the earlier row.
@@ -207,8 +207,8 @@ fn pairs(w: Automaton, t: &[u32]) {
     in_turn(b"row 12 before 13", w, &short, wrong, &[2]);
     in_turn(b"row 13 before 14", w, t, wrong, &[4]);
     in_turn(b"row 14 before 15", w, t, full, &[4]);
-    guard(b"row 11 before 12", samples::broken(), &short, full);
-    guard(b"row 12 before 13", w, &short, wrong);
+    status(b"row 11 before 12", samples::broken(), &short, full);
+    status(b"row 12 before 13", w, &short, wrong);
     started(b"row 11, a broken record", samples::broken());
 }
 

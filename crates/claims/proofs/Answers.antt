@@ -15,25 +15,25 @@ use Rattle.sets.specs.Table.{short, Solved}
 use Rattle.sets.specs.Claims.{Winning}
 use Rattle.sets.proofs.Total.{total}
 use Rattle.configuration.specs.declared.Configuration.{Configuration}
-use Rattle.configuration.specs.Carried.{heldEvents, configuration}
+use Rattle.configuration.specs.Configuration.{heldEvents, configuration}
 use Rattle.configuration.proofs.Facts.{consistent-facts, consistent-of, held-buffer, configuration-consistent}
 use Rattle.releasing.specs.Step.{bySets, byTable, effect, eventRows, eventRefusal, runOf}
 use Rattle.releasing.proofs.Effects.{Occurs, Agree, accepted-facts, effect-occurs, effect-same}
 use Rattle.releasing.proofs.Runs.{run-keeps, run-occurs, run-same}
 use Rattle.releasing.proofs.Solved.{solved-agree}
-use Rattle.monitor.specs.Answers.{callRows, isWinning, guardRefusal, guard, receiveRefusal, received, runRefusal, ran, ranBuffer}
-use Rattle.monitor.proofs.Refusals.{Clear, clear, rows-pass, rows-stand, guard-clear}
+use Rattle.monitor.specs.Answers.{callRows, isWinning, callRefusal, status, receiveRefusal, received, runRefusal, ran, ranBuffer}
+use Rattle.monitor.proofs.Refusals.{Clear, clear, rows-pass, rows-stand, status-clear}
 use Rattle.claims.specs.Calls.{Call, one, day, handedBack, reply, replies, configurationAfter}
-use Rattle.claims.specs.Answers.{FlagIsGuard, FlagStays, SameBits, OthersIgnored}
+use Rattle.claims.specs.Answers.{FlagIsStatus, FlagStays, SameBits, OthersIgnored}
 use Rattle.claims.proofs.Resting.{effect-wins}
 
 module _ (a : Automaton) (t : List ℕ) (c : Configuration) where
   -- where no row stands, none of the first rows does
   rows-clear : (rows : List (ℕ × Bool)) → first (callRows a t c ++ rows) ≡ 0 → Clear a t c
   rows-clear rows h =
-      by (eqb (guardRefusal a t c) 0)
-      (λ z. clear a t c (eqb-true (guardRefusal a t c) 0 z))
-      (λ z. let n = eqb-false (guardRefusal a t c) 0 z in absurd (n (sym (rows-stand a t c rows n) ∙ h)))
+      by (eqb (callRefusal a t c) 0)
+      (λ z. clear a t c (eqb-true (callRefusal a t c) 0 z))
+      (λ z. let n = eqb-false (callRefusal a t c) 0 z in absurd (n (sym (rows-stand a t c rows n) ∙ h)))
 
   clear-occurs : Clear a t c → Occurs a (c .state) (heldEvents c)
   clear-occurs k =
@@ -55,11 +55,11 @@ module _ (a : Automaton) (t : List ℕ) (c : Configuration) where
   unfolding runRefusal
   run-clear es out h = rows-clear _ h
 
-  guard-refusal : guard a t c .winning ≡ true → (guardRefusal a t c ≡ 0) × (isWinning a t c ≡ true)
-  unfolding guard
-  guard-refusal h =
-      by (eqb (guardRefusal a t c) 0)
-      (λ z. (eqb-true (guardRefusal a t c) 0 z, rw z at h))
+  status-refusal : status a t c .winning ≡ true → (callRefusal a t c ≡ 0) × (isWinning a t c ≡ true)
+  unfolding status
+  status-refusal h =
+      by (eqb (callRefusal a t c) 0)
+      (λ z. (eqb-true (callRefusal a t c) 0 z, rw z at h))
       (λ z. absurd (clash (rw z at h) refl))
 
 -- a configuration of a state and a buffer that can occur
@@ -71,22 +71,22 @@ module _ (a : Automaton) (t : List ℕ) (v : valid a ≡ true) (s : short a t �
     configuration-consistent = consistent-of a (configuration q w) (configuration-consistent a (valid-facts a v) q w (o .state-below) (o .buffer));
   }
 
-  made-guard : guard a t (configuration q w) ≡ record { refusal = 0; winning = byTable a t w q }
-  unfolding guard isWinning heldEvents
-  made-guard =
+  made-status : status a t (configuration q w) ≡ record { refusal = 0; winning = byTable a t w q }
+  unfolding status isWinning heldEvents
+  made-status =
       let k = made-clear in
-      rw (guard-clear a t (configuration q w) v s (k .configuration-consistent), take-pad 6 w)
+      rw (status-clear a t (configuration q w) v s (k .configuration-consistent), take-pad 6 w)
 
-pub flag-is-guard : FlagIsGuard
+pub flag-is-status : FlagIsStatus
 unfolding received
-flag-is-guard a t c e h =
+flag-is-status a t c e h =
     let n = receiveRefusal a t c e in
     by (eqb n 0)
     (λ z.
     let k = receive-clear a t c e (eqb-true n 0 z) in
     let f = effect (byTable a t) a (c .state) (heldEvents c) e in
     let o = effect-occurs (byTable a t) a (c .state) (heldEvents c) e (total a (k .record-valid)) (clear-occurs a t c k) (receive-event a t c e (eqb-true n 0 z)) in
-    rw z (made-guard a t (k .record-valid) (k .table-long) (f .state) (f .buffer) o))
+    rw z (made-status a t (k .record-valid) (k .table-long) (f .state) (f .buffer) o))
     (λ z. absurd (eqb-false n 0 z (rw z at h)))
 
 -- once winning, over a solved table
@@ -96,18 +96,18 @@ module _ (a : Automaton) (t : List ℕ) (sv : Solved a t) where
     rows : Clear a t c
     wins : Winning a (heldEvents c) (c .state)
 
-  good-guard : (c : Configuration) → guard a t c .winning ≡ true → Good c
+  good-status : (c : Configuration) → status a t c .winning ≡ true → Good c
   unfolding isWinning bySets
-  good-guard c h =
-      let g = guard-refusal a t c h in
+  good-status c h =
+      let g = status-refusal a t c h in
       let k = clear a t c (g .0) in
       record { rows = k; wins = sym (solved-agree a t sv (heldEvents c) (c .state) (clear-occurs a t c k)) ∙ g .1 }
 
-  guard-good : (c : Configuration) → Good c → guard a t c .winning ≡ true
-  unfolding guard isWinning bySets
-  guard-good c g =
+  status-good : (c : Configuration) → Good c → status a t c .winning ≡ true
+  unfolding status isWinning bySets
+  status-good c g =
       let k = g .rows in
-      rw (guard-clear a t c (k .record-valid) (k .table-long) (k .configuration-consistent))
+      rw (status-clear a t c (k .record-valid) (k .table-long) (k .configuration-consistent))
       (solved-agree a t sv (heldEvents c) (c .state) (clear-occurs a t c k) ∙ g .wins)
 
   made-good : valid a ≡ true → short a t ≡ false → (q : ℕ) (w : List ℕ) → Occurs a q w → Winning a w q → Good (configuration q w)
@@ -160,13 +160,13 @@ module _ (a : Automaton) (t : List ℕ) (sv : Solved a t) where
   flagged : (c : Configuration) → Good c → (e : ℕ) → received a t c e .refusal ≡ 0 → received a t c e .winning ≡ true
   unfolding reply handedBack
   flagged c g e h =
-      sym (ap (λ r. r .winning) (flag-is-guard a t c e h)) ∙ guard-good (received a t c e .configuration) (good-on c g (one e))
+      sym (ap (λ r. r .winning) (flag-is-status a t c e h)) ∙ status-good (received a t c e .configuration) (good-on c g (one e))
 
 pub flag-stays : FlagStays
 flag-stays a t sv c h calls =
     let d = configurationAfter a t c calls in
-    let g = good-all a t sv calls c (good-guard a t sv c h) in
-    record { guarded = guard-good a t sv d g; flagged = flagged a t sv d g }
+    let g = good-all a t sv calls c (good-status a t sv c h) in
+    record { guarded = status-good a t sv d g; flagged = flagged a t sv d g }
 
 -- what is read of a table
 module _ (a : Automaton) (t u : List ℕ) (s : short a t ≡ short a u) (b : SameBits a t u) where
@@ -179,10 +179,10 @@ module _ (a : Automaton) (t u : List ℕ) (s : short a t ≡ short a u) (b : Sam
   same-rows c = rw s
 
   module _ (c : Configuration) where
-    same-guard : guard a t c ≡ guard a u c
-    unfolding guard guardRefusal isWinning
-    same-guard =
-        let n = guardRefusal a u c in
+    same-status : status a t c ≡ status a u c
+    unfolding status callRefusal isWinning
+    same-status =
+        let n = callRefusal a u c in
         by (eqb n 0)
         (λ z. rw (same-rows c, z, agree (heldEvents c) (c .state) (clear-occurs a u c (clear a u c (eqb-true n 0 z)))))
         (λ z. rw (same-rows c, z))
@@ -249,7 +249,7 @@ module _ (a : Automaton) (t u : List ℕ) (s : short a t ≡ short a u) (b : Sam
 
 pub others-ignored : OthersIgnored
 others-ignored a t u s b c = record {
-  guards = same-guard a t u s b c;
+  statuses = same-status a t u s b c;
   receives = same-received a t u s b c;
   runs = same-ran a t u s b c;
   outputs = same-output a t u s b c;

@@ -11,7 +11,7 @@ use Rattle.automaton.specs.declared.Automaton.{Automaton}
 use Rattle.automaton.specs.Automaton.{run, valid}
 use Rattle.sets.specs.Table.{Solved}
 use Rattle.sets.proofs.Total.{total}
-use Rattle.configuration.specs.Carried.{initialOf}
+use Rattle.configuration.specs.Configuration.{initialOf}
 use Rattle.releasing.specs.Step.{bySets, byTable, eventRefusal}
 use Rattle.releasing.proofs.Effects.{effect-same}
 use Rattle.releasing.proofs.Solved.{solved-agree}

@@ -9,12 +9,12 @@ use Rattle.automaton.specs.Automaton.{controllable, controllables, accepts, ste
 use Rattle.encoding.specs.Reading.{checked, between, tally, classRow, numbers, runs, one, many, tables, sheet, parse}
 use Rattle.sets.specs.Sets.{acceptingSet, admits, stays, refine, settle, settled, setsOf, emptySets, into, sets}
 use Rattle.sets.specs.Table.{rank, value, shorter, index, buffersCount, short, controllableTo, extended, buffersAt, buffersTo, pairs, roundsSum, table, rounds}
-use Rattle.configuration.specs.Carried.{heldEvents, holdable, consistent, initialOf}
+use Rattle.configuration.specs.Configuration.{heldEvents, controllableSymbol, placeStands, bufferStands, consistentIn, initialOf}
 use Rattle.winning.specs.Solving.{countAnswer}
 use Rattle.releasing.specs.Step.{byTable, qualifies, qualifying, release, remaining, arrival, effect, eventRows}
-use Rattle.monitor.specs.Answers.{callRows, isWinning, guardRefusal, guard, receiveRefusal, received}
+use Rattle.monitor.specs.Answers.{callRows, isWinning, callRefusal, status, receiveRefusal, received}
 use Rattle.claims.specs.Calls.{handedBack, reply, replies}
-use Rattle.claims.specs.Cases.{sheetV, sheetW, sized, MarkedCases}
+use Rattle.claims.specs.Cases.{automatonV, automatonW, sized, MarkedCases}
 
 pub marked-cases : MarkedCases
 unfolding
@@ -23,10 +23,10 @@ unfolding
     controllable controllables accepts step run stands shaped ranged classesStand flagsStand nextStand valid
     checked between tally classRow numbers runs one many tables sheet parse
     acceptingSet admits stays refine settle settled setsOf emptySets into sets
-    rank value shorter index buffersCount short controllableTo extended buffersAt buffersTo pairs roundsSum table rounds
-    heldEvents holdable consistent initialOf countAnswer
+    rank value shorter index buffersCount short extended buffersAt buffersTo pairs roundsSum table rounds
+    heldEvents controllableSymbol placeStands bufferStands consistentIn initialOf countAnswer
     byTable qualifies qualifying release remaining arrival effect eventRows
-    callRows isWinning guardRefusal guard receiveRefusal received handedBack reply replies
-    sheetV sheetW sized
+    callRows isWinning callRefusal status receiveRefusal received handedBack reply replies
+    automatonV automatonW sized
 marked-cases =
     (refl, (refl, ((refl, refl), ((refl, refl), (refl, (refl, (refl, (refl, (refl, (refl, (refl, ((refl, refl), ((refl, refl), ((refl, refl), (refl, ((refl, refl), ((refl, refl), ((refl, refl), tt))))))))))))))))))

@@ -11,7 +11,7 @@ use Rattle.automaton.specs.declared.Automaton.{Automaton}
 use Rattle.automaton.specs.Automaton.{run, valid}
 use Rattle.automaton.proofs.Running.{run-append}
 use Rattle.sets.proofs.Total.{Total, total}
-use Rattle.configuration.specs.Carried.{heldEvents, initialOf}
+use Rattle.configuration.specs.Configuration.{heldEvents, initialOf}
 use Rattle.releasing.specs.Step.{byTable, eventRefusal}
 use Rattle.releasing.proofs.Effects.{Occurs, initial-occurs, effect-occurs, effect-leads}
 use Rattle.claims.specs.Calls.{Call}

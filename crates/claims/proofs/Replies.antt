@@ -17,7 +17,7 @@ use Rattle.automaton.proofs.Facts.{valid-facts}
 use Rattle.sets.specs.Table.{short, Solved}
 use Rattle.sets.proofs.Total.{total}
 use Rattle.configuration.specs.declared.Configuration.{Configuration}
-use Rattle.configuration.specs.Carried.{heldEvents, configuration, consistent}
+use Rattle.configuration.specs.Configuration.{heldEvents, configuration, consistent}
 use Rattle.configuration.proofs.Facts.{configuration-consistent, consistent-of}
 use Rattle.monitor.specs.declared.Received.{Received}
 use Rattle.releasing.specs.Step.{bySets, byTable, effect, eventRows, eventRefusal, runOf}

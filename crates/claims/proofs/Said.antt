@@ -11,10 +11,10 @@ use Rattle.base.proofs.Padding.{take-pad}
 use Rattle.automaton.specs.declared.Automaton.{Automaton}
 use Rattle.sets.specs.Table.{short}
 use Rattle.configuration.specs.declared.Configuration.{Configuration}
-use Rattle.configuration.specs.Carried.{heldEvents, configuration, initialOf}
+use Rattle.configuration.specs.Configuration.{heldEvents, configuration, initialOf}
 use Rattle.releasing.specs.Step.{byTable, effect, eventRefusal, runOf}
-use Rattle.monitor.specs.Answers.{isWinning, guard, receiveRefusal, received, runRefusal, ran}
-use Rattle.monitor.proofs.Refusals.{guard-clear}
+use Rattle.monitor.specs.Answers.{isWinning, status, receiveRefusal, received, runRefusal, ran}
+use Rattle.monitor.proofs.Refusals.{status-clear}
 use Rattle.claims.specs.Calls.{Call, one, day, handedBack, reply, configurationAfter}
 use Rattle.claims.specs.Moments.{Moment, effectAt, within, broughtBy, broughtAll, moments}
 use Rattle.claims.specs.Claims.{winningAfter, Stays}
@@ -110,7 +110,7 @@ module _ (a : Automaton) (t : List ℕ) where
   rests-from (b ∷ before) m after p h s = rests-from before m after _ h s
 
 pub once-winning-said : OnceWinningSaid
-unfolding guard isWinning moments configurationAfter short
+unfolding status isWinning moments configurationAfter short
 once-winning-said a t v sv calls before m after go h =
     let c = initialOf a in
     let d = configurationAfter a t c calls in
@@ -118,4 +118,4 @@ once-winning-said a t v sv calls before m after go h =
     let end = calls-end a t calls c ∙ sym (within-ends a t (broughtAll a t c calls) [] [] (of a t c)) ∙ ap (lastOf a t (of a t c)) go in
     let rests = subst (Rests a t) (sym end) (rests-from a t before m after (of a t c) h (s .1)) in
     let long : short a t ≡ false = le-ltb (length t) _ (sv .long) in
-    flag-stays a t sv d (rw (guard-clear a t d v long (each-reply a t v sv calls .last-consistent)) rests) []
+    flag-stays a t sv d (rw (status-clear a t d v long (each-reply a t v sv calls .last-consistent)) rests) []

@@ -12,7 +12,7 @@ use Rattle.sets.specs.Table.{Solved}
 use Rattle.sets.specs.Claims.{Winning}
 use Rattle.sets.proofs.Total.{total}
 use Rattle.sets.proofs.Largest.{sets-are}
-use Rattle.configuration.specs.Carried.{heldEvents, initialOf}
+use Rattle.configuration.specs.Configuration.{heldEvents, initialOf}
 use Rattle.releasing.specs.Step.{bySets, byTable}
 use Rattle.monitor.specs.Answers.{isWinning}
 use Rattle.releasing.proofs.Effects.{initial-occurs, accepted-facts, effect-same}

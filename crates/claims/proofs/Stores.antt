@@ -13,7 +13,7 @@ use Rattle.automaton.specs.declared.Automaton.{Automaton}
 use Rattle.automaton.specs.Automaton.{controllable, run, valid}
 use Rattle.automaton.proofs.Running.{run-append}
 use Rattle.sets.proofs.Total.{Total}
-use Rattle.configuration.specs.Carried.{initialOf}
+use Rattle.configuration.specs.Configuration.{initialOf}
 use Rattle.releasing.specs.Step.{bySets, Effect, arrival, effect, eventRefusal, Run, runOf}
 use Rattle.releasing.proofs.Effects.{Occurs, initial-occurs, arrival-leads, effect-leads}
 use Rattle.releasing.proofs.Runs.{after, run-accepts, run-refuses, run-occurs, run-leads}

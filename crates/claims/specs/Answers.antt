@@ -9,26 +9,26 @@ use Rattle.automaton.specs.declared.Automaton.{Automaton}
 use Rattle.automaton.specs.Automaton.{valid}
 use Rattle.sets.specs.Table.{index, short, Buffer, Solved}
 use Rattle.configuration.specs.declared.Configuration.{Configuration}
-use Rattle.configuration.specs.Carried.{initialOf}
-use Rattle.monitor.specs.Answers.{guard, received, ran, ranBuffer}
+use Rattle.configuration.specs.Configuration.{initialOf}
+use Rattle.monitor.specs.Answers.{status, received, ran, ranBuffer}
 use Rattle.claims.specs.Calls.{Call, replies, configurationAfter}
 use Rattle.claims.specs.Moments.{Moment, moments}
 use Rattle.claims.specs.Claims.{winningAfter}
 
--- Over any table: what an accepted event's answer says of winning is what `guard` answers for the configuration that it hands back.
-abbrev pub FlagIsGuard : Type 0
-FlagIsGuard =
+-- Over any table: what an accepted event's answer says of winning is what `status` answers for the configuration that it hands back.
+abbrev pub FlagIsStatus : Type 0
+FlagIsStatus =
     (a : Automaton) (t : List ℕ) (c : Configuration) (e : ℕ) → received a t c e .refusal ≡ 0
-    → guard a t (received a t c e .configuration) ≡ record { refusal = 0; winning = received a t c e .winning }
+    → status a t (received a t c e .configuration) ≡ record { refusal = 0; winning = received a t c e .winning }
 
--- Over a solved table: once `guard` answers winning, it does so after any calls, and so does each event that is accepted then.
+-- Over a solved table: once `status` answers winning, it does so after any calls, and so does each event that is accepted then.
 pub record SaysWinning (a : Automaton) (t : List ℕ) (c : Configuration) : Type 0 where
-  pub guarded : guard a t c .winning ≡ true
+  pub guarded : status a t c .winning ≡ true
   pub flagged : (e : ℕ) → received a t c e .refusal ≡ 0 → received a t c e .winning ≡ true
 
 abbrev pub FlagStays : Type 0
 FlagStays =
-    (a : Automaton) (t : List ℕ) → Solved a t → (c : Configuration) → guard a t c .winning ≡ true
+    (a : Automaton) (t : List ℕ) → Solved a t → (c : Configuration) → status a t c .winning ≡ true
     → (calls : List Call) → SaysWinning a t (configurationAfter a t c calls)
 
 -- .. and so once any accepted event, also inside a day, left the monitor winning
@@ -45,7 +45,7 @@ SameBits a t u =
 
 -- nothing else of a table is read: bits from n on, the places of I and places from 2T on are ignored, over any table
 pub record SameAnswers (a : Automaton) (t u : List ℕ) (c : Configuration) : Type 0 where
-  pub guards : guard a t c ≡ guard a u c
+  pub statuses : status a t c ≡ status a u c
   pub receives : (e : ℕ) → received a t c e ≡ received a u c e
   pub runs : (es out : List ℕ) → ran a t c es out ≡ ran a u c es out
   pub outputs : (es out : List ℕ) → ranBuffer a t c es out ≡ ranBuffer a u c es out

@@ -9,7 +9,7 @@ use lib.Dec.{eqb}
 use Rattle.base.specs.Pad.{pad}
 use Rattle.automaton.specs.declared.Automaton.{Automaton}
 use Rattle.configuration.specs.declared.Configuration.{Configuration}
-use Rattle.configuration.specs.Carried.{configuration}
+use Rattle.configuration.specs.Configuration.{configuration}
 use Rattle.monitor.specs.declared.Received.{Received}
 use Rattle.monitor.specs.declared.Ran.{Ran}
 use Rattle.releasing.specs.Step.{bySets, eventRefusal}

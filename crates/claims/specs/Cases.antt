@@ -10,18 +10,18 @@ use Rattle.automaton.specs.declared.Automaton.{Automaton}
 use Rattle.automaton.specs.Automaton.{controllables}
 use Rattle.encoding.specs.Reading.{parse, parsed}
 use Rattle.sets.specs.Table.{table, rounds}
-use Rattle.configuration.specs.Carried.{configuration, initialOf}
+use Rattle.configuration.specs.Configuration.{configuration, initialOf}
 use Rattle.winning.specs.Solving.{countAnswer}
 use Rattle.monitor.specs.declared.Received.{Received}
-use Rattle.monitor.specs.Answers.{guard}
+use Rattle.monitor.specs.Answers.{status}
 use Rattle.claims.specs.Calls.{one, receive, replies}
 
 -- sheet V (0 Query, 1 Answer), and its record
 abbrev pub bytesV : List ℕ
 bytesV = 3 ∷ 2 ∷ 1 ∷ 0 ∷ 0 ∷ 1 ∷ 1 ∷ 0 ∷ 1 ∷ 1 ∷ 0 ∷ 1 ∷ 2 ∷ 2 ∷ 2 ∷ []
 
-unfoldable pub sheetV : Automaton
-sheetV =
+unfoldable pub automatonV : Automaton
+automatonV =
     record {
       states = 3;
       symbols = 2;
@@ -43,8 +43,8 @@ bytesW =
     2 ∷ 3 ∷ 3 ∷ 1 ∷
     3 ∷ 3 ∷ 3 ∷ 3 ∷ []
 
-unfoldable pub sheetW : Automaton
-sheetW =
+unfoldable pub automatonW : Automaton
+automatonW =
     record {
       states = 4;
       symbols = 4;
@@ -92,7 +92,7 @@ pub data Case : Type 0 where
 abbrev pub Holds : Case → Type 0
 Holds (sheet s a) = parse s ≡ parsed a
 Holds (solved a t r) = (table a ≡ t) × (rounds a ≡ r)
-Holds (initially a w) = guard a (table a) (initialOf a) ≡ record { refusal = 0; winning = w }
+Holds (initially a w) = status a (table a) (initialOf a) ≡ record { refusal = 0; winning = w }
 Holds (events a es rs) = replies a (table a) (initialOf a) (map one es) ≡ map receive rs
 Holds (number v s) = (bytes v ≡ s) × (read s 0 ≡ value v (length s))
 Holds (padded s v) = read s 0 ≡ value v (length s)
@@ -100,36 +100,36 @@ Holds (buffers k b t) = (controllables (sized k b) ≡ k) × (countAnswer (sized
 
 abbrev pub cases : List Case
 cases =
-    sheet bytesV sheetV ∷
-    sheet bytesW sheetW ∷
-    solved sheetV (4 ∷ 0 ∷ 5 ∷ 6 ∷ []) 1 ∷
-    solved sheetW (3 ∷ 0 ∷ 3 ∷ 0 ∷ 3 ∷ 7 ∷ 3 ∷ 0 ∷ 3 ∷ 2 ∷ 3 ∷ 7 ∷ 3 ∷ 7 ∷ []) 0 ∷
-    initially sheetV false ∷
+    sheet bytesV automatonV ∷
+    sheet bytesW automatonW ∷
+    solved automatonV (4 ∷ 0 ∷ 5 ∷ 6 ∷ []) 1 ∷
+    solved automatonW (3 ∷ 0 ∷ 3 ∷ 0 ∷ 3 ∷ 7 ∷ 3 ∷ 0 ∷ 3 ∷ 2 ∷ 3 ∷ 7 ∷ 3 ∷ 7 ∷ []) 0 ∷
+    initially automatonV false ∷
     -- Answer, Query
-    events sheetV (1 ∷ 0 ∷ [])
+    events automatonV (1 ∷ 0 ∷ [])
     (answer 0 [] 0 (1 ∷ []) true ∷
     answer 0 (0 ∷ 1 ∷ []) 2 [] true ∷ []) ∷
     -- Query, Answer
-    events sheetV (0 ∷ 1 ∷ [])
+    events automatonV (0 ∷ 1 ∷ [])
     (answer 0 (0 ∷ []) 1 [] false ∷
     answer 0 (1 ∷ []) 2 [] true ∷ []) ∷
     -- Page, Receipt, Sign
-    events sheetW (2 ∷ 3 ∷ 0 ∷ [])
+    events automatonW (2 ∷ 3 ∷ 0 ∷ [])
     (answer 0 [] 0 (2 ∷ []) true ∷
     answer 0 [] 0 (2 ∷ 3 ∷ []) true ∷
     answer 0 (0 ∷ 2 ∷ 3 ∷ []) 1 [] true ∷ []) ∷
     -- Sign, Page, Withdraw
-    events sheetW (0 ∷ 2 ∷ 1 ∷ [])
+    events automatonW (0 ∷ 2 ∷ 1 ∷ [])
     (answer 0 (0 ∷ []) 1 [] true ∷
     answer 0 [] 1 (2 ∷ []) true ∷
     answer 0 (1 ∷ []) 0 (2 ∷ []) true ∷ []) ∷
     -- Page three times
-    events sheetW (2 ∷ 2 ∷ 2 ∷ [])
+    events automatonW (2 ∷ 2 ∷ 2 ∷ [])
     (answer 0 [] 0 (2 ∷ []) true ∷
     answer 0 [] 0 (2 ∷ 2 ∷ []) true ∷
     answer 15 [] 0 (2 ∷ 2 ∷ []) false ∷ []) ∷
     -- Sign, Receipt
-    events sheetW (0 ∷ 3 ∷ [])
+    events automatonW (0 ∷ 3 ∷ [])
     (answer 0 (0 ∷ []) 1 [] true ∷
     answer 0 (3 ∷ []) 1 [] true ∷ []) ∷
     number 127 (127 ∷ []) ∷

@@ -10,7 +10,7 @@ use Rattle.automaton.specs.Automaton.{valid, accepts, run}
 use Rattle.sets.specs.Sets.{sets}
 use Rattle.sets.specs.Table.{Solved}
 use Rattle.winning.specs.Solving.{solveRefusal, solvedTable}
-use Rattle.configuration.specs.Carried.{consistent, initialOf}
+use Rattle.configuration.specs.Configuration.{consistent, initialOf}
 use Rattle.releasing.specs.Step.{byTable, Effect, release, arrival}
 use Rattle.monitor.specs.Answers.{isWinning}
 use Rattle.claims.specs.Store.{empty, storeAll, feedAll, acceptedAll}

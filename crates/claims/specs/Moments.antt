@@ -5,7 +5,7 @@ use mathlib.Core.List.{List, [], _∷_, _++_}
 use lib.Dec.{eqb}
 use Rattle.automaton.specs.declared.Automaton.{Automaton}
 use Rattle.configuration.specs.declared.Configuration.{Configuration}
-use Rattle.configuration.specs.Carried.{heldEvents}
+use Rattle.configuration.specs.Configuration.{heldEvents}
 use Rattle.releasing.specs.Step.{byTable, Effect, effect, eventRefusal}
 use Rattle.monitor.specs.Answers.{receiveRefusal, runRefusal}
 use Rattle.claims.specs.Calls.{Call, one, day, reply, handedBack}

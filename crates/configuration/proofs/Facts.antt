@@ -4,25 +4,24 @@ use mathlib.Core.Path.{_≡_, sym, _∙_, ap}
 use mathlib.Core.Bool.{Bool, true, cond, _&&_}
 use mathlib.Core.List.{List, [], _∷_}
 use native.Mathlib.Omega.{arith}
-use lib.ListN.{length, getD, take, List·getD-eq-default}
+use lib.ListN.{length, getD, take}
 use lib.Seq.{getD-take, length-take-le}
 use lib.Dec.{eqb, leb, ltb}
 use borrow.Author.Tests.{ltb-true, ltb-false, leb-true, eqb-true, lt-ltb, le-ltb, le-leb, eq-eqb}
 use Rattle.base.specs.Pad.{pad}
 use Rattle.base.proofs.Bools.{by, and-pair, and-both}
-use Rattle.base.proofs.Ranges.{each-at, each-all, each-same}
+use Rattle.base.proofs.Ranges.{each-at, each-all}
 use Rattle.base.proofs.Padding.{pad-length, pad-outside, pad-take, take-pad}
 use Rattle.base.proofs.Every.{Every}
 use Rattle.automaton.specs.declared.Automaton.{Automaton}
 use Rattle.automaton.specs.Automaton.{controllable}
 use Rattle.automaton.proofs.Facts.{Valid}
 use Rattle.sets.specs.Table.{Controllable, Buffer}
-use Rattle.configuration.specs.Carried.{Configuration, heldEvents, configuration, holdable, consistent, initialOf}
-use Rattle.configuration.specs.Parts.{holdableIn, placeStands, bufferStands, consistentIn}
+use Rattle.configuration.specs.Configuration.{Configuration, heldEvents, configuration, controllableSymbol, placeStands, bufferStands, consistentIn, consistent, initialOf}
 
 -- a controllable symbol
-abbrev pub Holdable : Automaton → ℕ → Type 0
-Holdable a e = (e < a .symbols) × (controllable a e ≡ true)
+abbrev pub ControllableSymbol : Automaton → ℕ → Type 0
+ControllableSymbol a e = (e < a .symbols) × (controllable a e ≡ true)
 
 pub record Consistent (a : Automaton) (c : Configuration) : Type 0 where
   pub state-below : c .state < a .states
@@ -35,42 +34,42 @@ pub record Consistent (a : Automaton) (c : Configuration) : Type 0 where
 
 module _ (a : Automaton) where
   -- a list of controllable symbols, by its places
-  pub every-controllable : (w : List ℕ) → Every (Holdable a) w → Controllable a w
+  pub every-controllable : (w : List ℕ) → Every (ControllableSymbol a) w → Controllable a w
   every-controllable [] f = tt
   every-controllable (e ∷ w) f = let h = f 0 (omega arith) in (h .0, h .1, every-controllable w (λ i l. f (suc i) (omega arith)))
 
-  pub controllable-every : (w : List ℕ) → Controllable a w → Every (Holdable a) w
+  pub controllable-every : (w : List ℕ) → Controllable a w → Every (ControllableSymbol a) w
   controllable-every [] c i l = absurd (omega arith)
   controllable-every (e ∷ w) c zero l = (c .0, c .1)
   controllable-every (e ∷ w) c (suc i) l = controllable-every w (c .2) i (omega arith)
 
-  holdable-facts : (e : ℕ) → holdable a e ≡ true → Holdable a e
-  unfolding holdable
-  holdable-facts e h = let p = and-pair (ltb e (a .symbols)) (controllable a e) h in (ltb-true e (a .symbols) (p .0), p .1)
+  controllable-symbol-facts : (e : ℕ) → controllableSymbol (a .symbols) (a .classes) e ≡ true → ControllableSymbol a e
+  unfolding controllableSymbol controllable
+  controllable-symbol-facts e h = let p = and-pair (ltb e (a .symbols)) (controllable a e) h in (ltb-true e (a .symbols) (p .0), p .1)
 
-  facts-holdable : (e : ℕ) → Holdable a e → holdable a e ≡ true
-  unfolding holdable
-  facts-holdable e h = and-both (lt-ltb e (a .symbols) (h .0)) (h .1)
+  facts-controllable-symbol : (e : ℕ) → ControllableSymbol a e → controllableSymbol (a .symbols) (a .classes) e ≡ true
+  unfolding controllableSymbol controllable
+  facts-controllable-symbol e h = and-both (lt-ltb e (a .symbols) (h .0)) (h .1)
 
 module _ (a : Automaton) (c : Configuration) where
   -- the test of one place
   abbrev place : ℕ → Bool
-  place i = cond (ltb i (c .held)) (holdable a (getD (c .buffer) i 0)) (eqb (getD (c .buffer) i 0) 0)
+  place i = cond (ltb i (c .held)) (controllableSymbol (a .symbols) (a .classes) (getD (c .buffer) i 0)) (eqb (getD (c .buffer) i 0) 0)
 
-  place-used : (i : ℕ) → i < c .held → place i ≡ true → Holdable a (getD (c .buffer) i 0)
-  place-used i l h = holdable-facts a (getD (c .buffer) i 0) (rw (lt-ltb i (c .held) l) at h)
+  place-used : (i : ℕ) → i < c .held → place i ≡ true → ControllableSymbol a (getD (c .buffer) i 0)
+  place-used i l h = controllable-symbol-facts a (getD (c .buffer) i 0) (rw (lt-ltb i (c .held) l) at h)
 
   place-unused : (i : ℕ) → c .held ≤ i → place i ≡ true → getD (c .buffer) i 0 ≡ 0
   place-unused i l h = eqb-true (getD (c .buffer) i 0) 0 (rw (le-ltb i (c .held) l) at h)
 
-  place-when : (i : ℕ) → (i < c .held → Holdable a (getD (c .buffer) i 0)) → (c .held ≤ i → getD (c .buffer) i 0 ≡ 0) → place i ≡ true
+  place-when : (i : ℕ) → (i < c .held → ControllableSymbol a (getD (c .buffer) i 0)) → (c .held ≤ i → getD (c .buffer) i 0 ≡ 0) → place i ≡ true
   place-when i f g =
       by (ltb i (c .held))
-      (λ u. rw u (facts-holdable a (getD (c .buffer) i 0) (f (ltb-true i (c .held) u))))
+      (λ u. rw u (facts-controllable-symbol a (getD (c .buffer) i 0) (f (ltb-true i (c .held) u))))
       (λ u. rw u (eq-eqb (getD (c .buffer) i 0) 0 (g (ltb-false i (c .held) u))))
 
   -- the held events, by their places
-  pub held-event : Consistent a c → (i : ℕ) → i < c .held → Holdable a (getD (c .buffer) i 0)
+  pub held-event : Consistent a c → (i : ℕ) → i < c .held → ControllableSymbol a (getD (c .buffer) i 0)
   unfolding heldEvents
   held-event k i l =
       rw (getD-take (c .held) (c .buffer) i 0 l) at (controllable-every a (heldEvents c) (k .events) i (omega (arith, k .held-length)))
@@ -80,7 +79,7 @@ module _ (a : Automaton) (c : Configuration) where
       ap (λ d. getD (d .buffer) i 0) (k .whole) ∙ pad-outside 6 (heldEvents c) i (omega (arith, k .held-length))
 
   pub consistent-facts : Valid a → consistent a c ≡ true → Consistent a c
-  unfolding consistent heldEvents
+  unfolding consistentIn bufferStands placeStands heldEvents
   consistent-facts v h =
       let p1 = and-pair (eqb (length (c .buffer)) 6) _ h in
       let p2 = and-pair (ltb (c .state) (a .states)) _ (p1 .1) in
@@ -104,7 +103,7 @@ module _ (a : Automaton) (c : Configuration) where
       }
 
   pub consistent-of : Consistent a c → consistent a c ≡ true
-  unfolding consistent
+  unfolding consistentIn bufferStands placeStands
   consistent-of k =
       and-both (eq-eqb _ 6 (k .buffer-length))
       (and-both (lt-ltb _ _ (k .state-below))
@@ -133,22 +132,3 @@ configuration-consistent a v q w l b =
 pub initial-consistent : (a : Automaton) → Valid a → Consistent a (initialOf a)
 unfolding initialOf
 initial-consistent a v = configuration-consistent a v (a .initial) [] (v .initial-below) (tt, omega arith)
-
--- row 13 over parts, for an automaton's own
-module _ (a : Automaton) (long : length (a .classes) ≡ 16) where
-  beyond : (e : ℕ) → 16 ≤ e → getD (a .classes) e 0 ≡ 0
-  beyond e l = List·getD-eq-default (a .classes) 0 (omega arith)
-
-  pub holdable-parts : (e : ℕ) → holdableIn (a .symbols) (a .classes) e ≡ holdable a e
-  unfolding holdableIn holdable controllable
-  holdable-parts e =
-      ap (λ b. ltb e (a .symbols) && b)
-      (by (ltb e 16)
-      (λ u. rw u)
-      (λ u. rw (u, beyond e (ltb-false e 16 u))))
-
-  pub consistent-parts : (c : Configuration) → consistentIn (a .states) (a .symbols) (a .capacity) (a .classes) c ≡ consistent a c
-  unfolding consistentIn consistent bufferStands placeStands
-  consistent-parts c =
-      ap (λ b. eqb (length (c .buffer)) 6 && (ltb (c .state) (a .states) && (leb (c .held) (a .capacity) && b)))
-      (each-same 6 _ (place a c) (λ i _. ap (λ b. cond (ltb i (c .held)) b (eqb (getD (c .buffer) i 0) 0)) (holdable-parts (getD (c .buffer) i 0))))

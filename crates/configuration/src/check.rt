@@ -1,18 +1,26 @@
 // Row 13: the configuration is one of the automaton, of which only what the row reads is passed. The loop is not left early.
 use crate::Configuration;
 ghost use mathlib.Core.Path.{_≡_};
-ghost use Rattle.configuration.specs.Parts.{holdableIn, placeStands, consistentIn, bufferStands};
+ghost use lib.ListN.{getD};
+ghost use Rattle.configuration.specs.Configuration.{controllableSymbol, placeStands, consistentIn, bufferStands};
 
-fn holdable(symbols: u8, classes: &[u8; 16], e: u8) -> bool
-    ensures { λ r. ⌜ r ≡ holdableIn symbols (now (classes .entry)) e ⌝ }
+// The class at a place; 0 where there is none.
+fn class_at(classes: &[u8], e: usize) -> u8
+    ensures { λ r. ⌜ r ≡ getD (now (classes .entry)) e 0 ⌝ }
+{
+    if classes.len() <= e {
+        return 0;
+    }
+    classes[e]
+}
+
+fn controllable_symbol(symbols: u8, classes: &[u8; 16], e: u8) -> bool
+    ensures { λ r. ⌜ r ≡ controllableSymbol symbols (now (classes .entry)) e ⌝ }
 {
     if symbols <= e {
         return false;
     }
-    if 16 <= e {
-        return false;
-    }
-    classes[base::size(e)] == 1
+    class_at(classes, base::size(e)) == 1
 }
 
 // A place of the buffer: a controllable symbol where it is used, else 0.
@@ -20,7 +28,7 @@ fn place_stands(symbols: u8, classes: &[u8; 16], used: bool, e: u8) -> bool
     ensures { λ r. ⌜ r ≡ placeStands symbols (now (classes .entry)) used e ⌝ }
 {
     if used {
-        return holdable(symbols, classes, e);
+        return controllable_symbol(symbols, classes, e);
     }
     e == 0
 }

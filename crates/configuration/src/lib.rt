@@ -6,7 +6,7 @@ mod check;
 pub use check::consistent;
 ghost use mathlib.Core.Path.{_≡_};
 ghost use mathlib.Core.List.{[]};
-ghost use Rattle.configuration.specs.Carried.{configuration, initialAnswer};
+ghost use Rattle.configuration.specs.Configuration.{configuration, initialAnswer};
 
 // Document 01's carried state: a state, how many events are held, and those events in order; unused places are 0.
 pub struct Configuration {

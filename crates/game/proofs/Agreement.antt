@@ -18,7 +18,7 @@ use Rattle.sets.proofs.Total.{Total, total}
 use Rattle.sets.proofs.Largest.{sets-are}
 use Rattle.sets.proofs.Growth.{none-intermediate, intermediate-first, first-intermediate}
 use Rattle.configuration.specs.declared.Configuration.{Configuration}
-use Rattle.configuration.specs.Carried.{heldEvents, consistent}
+use Rattle.configuration.specs.Configuration.{heldEvents, consistent}
 use Rattle.configuration.proofs.Facts.{consistent-facts}
 use Rattle.game.specs.Game.{restsBy, releases, mayRest, canRest, gameRefusal, verdict}
 use Rattle.game.specs.Claims.{Agrees, VerdictAgrees}

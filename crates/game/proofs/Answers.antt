@@ -8,15 +8,11 @@ use Rattle.automaton.specs.declared.Automaton.{Automaton}
 use Rattle.automaton.specs.Automaton.{valid}
 use Rattle.automaton.proofs.Facts.{valid-facts}
 use Rattle.configuration.specs.declared.Configuration.{Configuration}
-use Rattle.configuration.specs.Carried.{consistent, heldEvents}
-use Rattle.configuration.specs.Parts.{consistentIn}
-use Rattle.configuration.proofs.Facts.{consistent-facts, consistent-parts}
+use Rattle.configuration.specs.Configuration.{consistent, heldEvents}
+use Rattle.configuration.proofs.Facts.{consistent-facts}
 use Rattle.game.specs.Game.{Verdict, mayRest, canRest, gameRefusal, refused, verdict}
 use Rattle.game.specs.Parts.{heldFrom, Playable, tooLargeIn}
 use Rattle.game.proofs.Arena.{arenaOf, may-same, can-same, playable, too-large-parts, held-all}
-
-abbrev pub row13 : Automaton → Configuration → Bool
-row13 a c = consistentIn (a .states) (a .symbols) (a .capacity) (a .classes) c
 
 abbrev pub row17 : Automaton → Configuration → Bool
 row17 a c = tooLargeIn (a .states) (a .symbols) (a .classes) (c .held)
@@ -30,21 +26,18 @@ module _ (a : Automaton) (c : Configuration) where
   refused-11 v = rw v
 
   module _ (v : valid a ≡ true) where
-    parts : row13 a c ≡ consistent a c
-    parts = consistent-parts a (valid-facts a v .classes-length) c
-
-    pub refused-13 : row13 a c ≡ false → refused 13 ≡ verdict a c
+    pub refused-13 : consistent a c ≡ false → refused 13 ≡ verdict a c
     unfolding verdict gameRefusal first
-    refused-13 k = rw (v, sym parts ∙ k)
+    refused-13 k = rw (v, k)
 
-    module _ (k : row13 a c ≡ true) where
+    module _ (k : consistent a c ≡ true) where
       pub refused-17 : row17 a c ≡ true → refused 17 ≡ verdict a c
       unfolding verdict gameRefusal first
-      refused-17 l = rw (v, sym parts ∙ k, sym (too-large-parts a c) ∙ l)
+      refused-17 l = rw (v, k, sym (too-large-parts a c) ∙ l)
 
       answered : row17 a c ≡ false → answer (mayRest a (heldEvents c) (a .states) (c .state)) (canRest a (heldEvents c) (a .states) (c .state)) ≡ verdict a c
       unfolding verdict gameRefusal first
-      answered l = rw (v, sym parts ∙ k, sym (too-large-parts a c) ∙ l)
+      answered l = rw (v, k, sym (too-large-parts a c) ∙ l)
 
       pub played : row17 a c ≡ false → (may can : Bool)
           → may ≡ mayRest (arenaOf a) (heldFrom (c .buffer) (c .held) 0) (a .states) (c .state)
@@ -55,5 +48,5 @@ module _ (a : Automaton) (c : Configuration) where
       pub can-play : Playable (arenaOf a) (c .buffer) (c .held) × (0 ≤ c .held) × (c .state < a .states)
       can-play =
           let x = valid-facts a v in
-          let y = consistent-facts a c x (sym parts ∙ k) in
+          let y = consistent-facts a c x (k) in
           (playable a c x y, omega arith, y .state-below)

@@ -10,7 +10,7 @@ use Rattle.automaton.specs.declared.Automaton.{Automaton}
 use Rattle.automaton.specs.Automaton.{controllable, uncontrollable, accepts, step}
 use Rattle.automaton.proofs.Facts.{Valid}
 use Rattle.configuration.specs.declared.Configuration.{Configuration}
-use Rattle.configuration.specs.Carried.{heldEvents}
+use Rattle.configuration.specs.Configuration.{heldEvents}
 use Rattle.configuration.proofs.Facts.{Consistent, held-event}
 use Rattle.game.specs.Game.{restsBy, releases, mayRest, canRest, tooLarge}
 use Rattle.game.specs.Parts.{arena, heldFrom, Playable, uncontrollableIn, tooLargeIn}

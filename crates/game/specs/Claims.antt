@@ -9,7 +9,7 @@ use Rattle.automaton.specs.declared.Automaton.{Automaton}
 use Rattle.automaton.specs.Automaton.{controllable, accepts, step, valid}
 use Rattle.sets.specs.Sets.{sets}
 use Rattle.configuration.specs.declared.Configuration.{Configuration}
-use Rattle.configuration.specs.Carried.{heldEvents}
+use Rattle.configuration.specs.Configuration.{heldEvents}
 use Rattle.game.specs.Game.{mayRest, canRest, gameRefusal, verdict}
 
 -- the two questions as document 01 words them

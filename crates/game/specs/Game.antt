@@ -8,7 +8,7 @@ use Rattle.base.specs.Rows.{first}
 use Rattle.automaton.specs.declared.Automaton.{Automaton}
 use Rattle.automaton.specs.Automaton.{controllable, uncontrollable, accepts, step, valid}
 use Rattle.configuration.specs.declared.Configuration.{Configuration}
-use Rattle.configuration.specs.Carried.{consistent, heldEvents}
+use Rattle.configuration.specs.Configuration.{consistent, heldEvents}
 pub use Rattle.game.specs.declared.Verdict.{Verdict}
 
 -- Resting at q with some rounds left, where `released` says of a state whether releasing the first held event there comes to rest:

@@ -14,13 +14,13 @@ use Rattle.automaton.specs.Parts.{controllableIn}
 use Rattle.automaton.proofs.Facts.{Valid, valid-facts}
 use Rattle.sets.specs.Table.{shorter, buffersCount, short}
 use Rattle.configuration.specs.declared.Configuration.{Configuration}
-use Rattle.configuration.specs.Carried.{consistent}
-use Rattle.monitor.specs.Answers.{guardRefusal}
+use Rattle.configuration.specs.Configuration.{consistent}
+use Rattle.monitor.specs.Answers.{callRefusal}
 use Rattle.releasing.specs.declared.Ranking.{Ranking}
 use Rattle.releasing.specs.Parts.{rankingOf}
 use Rattle.monitor.specs.declared.Entry.{Entry}
 use Rattle.monitor.specs.Parts.{entryOf}
-use Rattle.monitor.proofs.Refusals.{guard-invalid, guard-short, guard-inconsistent, guard-clear}
+use Rattle.monitor.proofs.Refusals.{status-invalid, status-short, status-inconsistent, status-clear}
 
 -- the count of a ranking
 pub ranking-count : (a : Automaton) → rankingOf (a .classes) (a .symbols) .count ≡ controllables a
@@ -30,10 +30,10 @@ ranking-count a = refl
 module _ (a : Automaton) (t : List ℕ) (c : Configuration) where
   pub entry-invalid : valid a ≡ false → record { refusal = 11; ranking = record { count = 0; ranks = replicate 16 0 } } ≡ entryOf a t c
   unfolding entryOf
-  entry-invalid v = rw (v, guard-invalid a t c v)
+  entry-invalid v = rw (v, status-invalid a t c v)
 
   module _ (v : valid a ≡ true) (r : Ranking) (e : r ≡ rankingOf (a .classes) (a .symbols)) where
-    entry-row : (n : ℕ) → guardRefusal a t c ≡ n → record { refusal = n; ranking = r } ≡ entryOf a t c
+    entry-row : (n : ℕ) → callRefusal a t c ≡ n → record { refusal = n; ranking = r } ≡ entryOf a t c
     unfolding entryOf
     entry-row n g = rw (e, v, g)
 
@@ -47,7 +47,7 @@ module _ (a : Automaton) (t : List ℕ) (c : Configuration) where
 
       pub entry-short : length t < 2 * buffers → record { refusal = 12; ranking = r } ≡ entryOf a t c
       unfolding short
-      entry-short h = let k : length t < 2 * buffersCount a = omega (arith, counted) in entry-row 12 (guard-short a t c v (lt-ltb (length t) (2 * buffersCount a) k))
+      entry-short h = let k : length t < 2 * buffersCount a = omega (arith, counted) in entry-row 12 (status-short a t c v (lt-ltb (length t) (2 * buffersCount a) k))
 
       module _ (h : 2 * buffers ≤ length t) where
         long : short a t ≡ false
@@ -55,10 +55,10 @@ module _ (a : Automaton) (t : List ℕ) (c : Configuration) where
         long = le-ltb (length t) (2 * buffersCount a) (omega (arith, counted))
 
         pub entry-inconsistent : consistent a c ≡ false → record { refusal = 13; ranking = r } ≡ entryOf a t c
-        entry-inconsistent k = entry-row 13 (guard-inconsistent a t c v long k)
+        entry-inconsistent k = entry-row 13 (status-inconsistent a t c v long k)
 
         pub entry-clear : consistent a c ≡ true → record { refusal = 0; ranking = r } ≡ entryOf a t c
-        entry-clear k = entry-row 0 (guard-clear a t c v long k)
+        entry-clear k = entry-row 0 (status-clear a t c v long k)
 
 -- the ranking of a valid automaton counts at most eight symbols
 pub ranking-few : (a : Automaton) → Valid a → (r : Ranking) → r ≡ rankingOf (a .classes) (a .symbols) → r .count ≤ 8

@@ -17,17 +17,17 @@ use Rattle.automaton.proofs.Facts.{Valid, valid-facts, step-high}
 use Rattle.sets.specs.Table.{short, Buffer}
 use Rattle.sets.proofs.Buffers.{buffer-end}
 use Rattle.configuration.specs.declared.Configuration.{Configuration}
-use Rattle.configuration.specs.Carried.{heldEvents, consistent}
+use Rattle.configuration.specs.Configuration.{heldEvents, consistent}
 use Rattle.configuration.proofs.Facts.{Consistent, consistent-facts, held-buffer, held-event, unused-place}
 use Rattle.releasing.specs.Step.{byTable, qualifies, release, remaining, arrival, effect, eventRows, eventRefusal}
 use Rattle.monitor.specs.declared.Received.{Received}
-use Rattle.monitor.specs.declared.Guard.{Guard}
-use Rattle.monitor.specs.Answers.{callRows, guardRefusal, receiveRefusal, received, isWinning, guard}
+use Rattle.monitor.specs.declared.Status.{Status}
+use Rattle.monitor.specs.Answers.{callRows, callRefusal, receiveRefusal, refusedEvent, received, isWinning, status}
 use Rattle.releasing.specs.declared.Ranking.{Ranking}
 use Rattle.releasing.specs.Parts.{rankingOf, restIn, over, Lent}
 use Rattle.monitor.specs.declared.Entry.{Entry}
-use Rattle.monitor.specs.Parts.{entryOf, refusedEvent, releasedFrom}
-use Rattle.monitor.proofs.Refusals.{Clear, clear, guard-clear, rows-stand, rows-pass}
+use Rattle.monitor.specs.Parts.{entryOf, releasedFrom}
+use Rattle.monitor.proofs.Refusals.{Clear, clear, status-clear, rows-stand, rows-pass}
 use Rattle.releasing.proofs.Tabled.{rank-controllable, rank-uncontrollable, rest-tabled, lent}
 use Rattle.monitor.proofs.Answering.{longer, released-tabled}
 
@@ -39,10 +39,10 @@ module _ (a : Automaton) (t : List ℕ) (c : Configuration) where
   accepted-is e h = rw h
 
   refused-is : (e n : ℕ) → receiveRefusal a t c e ≡ n → (n ≡ 0 → ⊥) → refusedEvent n c ≡ received a t c e
-  unfolding received refusedEvent
+  unfolding received
   refused-is e n h z = rw (h, ne-eqb n 0 z)
 
-  pub receive-stands : (e n : ℕ) → n ≡ guardRefusal a t c → (n ≡ 0 → ⊥) → refusedEvent n c ≡ received a t c e
+  pub receive-stands : (e n : ℕ) → n ≡ callRefusal a t c → (n ≡ 0 → ⊥) → refusedEvent n c ≡ received a t c e
   unfolding receiveRefusal
   receive-stands e n g z = refused-is e n (rows-stand a t c (eventRows a (heldEvents c) e) (rw g at z) ∙ sym g) z
 
@@ -138,7 +138,7 @@ module _ (a : Automaton) (t : List ℕ) (c : Configuration) where
           receive-adds e h (ranked e h z) l
 
 -- what `enter` hands over
-pub entered : (a : Automaton) (t : List ℕ) (c : Configuration) (n : Entry) → n ≡ entryOf a t c → n .refusal ≡ guardRefusal a t c
+pub entered : (a : Automaton) (t : List ℕ) (c : Configuration) (n : Entry) → n ≡ entryOf a t c → n .refusal ≡ callRefusal a t c
 unfolding entryOf
 entered a t c n e = ap (λ (x : Entry). x .refusal) e
 
@@ -151,16 +151,16 @@ entered-clear a t c n e z =
 
 -- whether a configuration is winning
 module _ (a : Automaton) (t : List ℕ) (c : Configuration) where
-  pub guard-stands : (n : ℕ) → n ≡ guardRefusal a t c → (n ≡ 0 → ⊥) → record { refusal = n; winning = false } ≡ guard a t c
-  unfolding guard
-  guard-stands n g z = rw (← g, ne-eqb n 0 z)
+  pub status-stands : (n : ℕ) → n ≡ callRefusal a t c → (n ≡ 0 → ⊥) → record { refusal = n; winning = false } ≡ status a t c
+  unfolding status
+  status-stands n g z = rw (← g, ne-eqb n 0 z)
 
-  pub guard-answers : (k : Clear a t c) → (b : Bool)
+  pub status-answers : (k : Clear a t c) → (b : Bool)
       → b ≡ restIn t (rankingOf (a .classes) (a .symbols) .ranks) (rankingOf (a .classes) (a .symbols) .count) (take (c .held) (c .buffer)) (c .state)
-      → record { refusal = 0; winning = b } ≡ guard a t c
-  unfolding guard isWinning heldEvents
-  guard-answers k b e =
-      let z = guard-clear a t c (k .record-valid) (k .table-long) (k .configuration-consistent) in
+      → record { refusal = 0; winning = b } ≡ status a t c
+  unfolding status isWinning heldEvents
+  status-answers k b e =
+      let z = status-clear a t c (k .record-valid) (k .table-long) (k .configuration-consistent) in
       let s = rest-tabled a (facts a t c k) t (take (c .held) (c .buffer)) (held-buffer a c (place a t c k)) (c .state) in
       rw (z, ← s, e)
 

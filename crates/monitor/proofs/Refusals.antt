@@ -9,9 +9,9 @@ use Rattle.automaton.specs.declared.Automaton.{Automaton}
 use Rattle.automaton.specs.Automaton.{valid}
 use Rattle.sets.specs.Table.{short}
 use Rattle.configuration.specs.declared.Configuration.{Configuration}
-use Rattle.configuration.specs.Carried.{consistent}
+use Rattle.configuration.specs.Configuration.{consistent}
 use Rattle.base.proofs.Bools.{by}
-use Rattle.monitor.specs.Answers.{callRows, guardRefusal}
+use Rattle.monitor.specs.Answers.{callRows, callRefusal}
 
 pub rows-pass : (a : Automaton) (t : List ℕ) (c : Configuration) → valid a ≡ true → short a t ≡ false → consistent a c ≡ true
     → (rows : List (ℕ × Bool)) → first (callRows a t c ++ rows) ≡ first rows
@@ -20,21 +20,21 @@ rows-pass a t c v s k rows = rw (v, s, k)
 
 module _ (a : Automaton) (t : List ℕ) (c : Configuration) where
   -- the three rows, one after the other
-  pub guard-invalid : valid a ≡ false → guardRefusal a t c ≡ 11
-  unfolding guardRefusal callRows first
-  guard-invalid v = rw v
+  pub status-invalid : valid a ≡ false → callRefusal a t c ≡ 11
+  unfolding callRefusal callRows first
+  status-invalid v = rw v
 
-  pub guard-short : valid a ≡ true → short a t ≡ true → guardRefusal a t c ≡ 12
-  unfolding guardRefusal callRows first
-  guard-short v s = rw (v, s)
+  pub status-short : valid a ≡ true → short a t ≡ true → callRefusal a t c ≡ 12
+  unfolding callRefusal callRows first
+  status-short v s = rw (v, s)
 
-  pub guard-inconsistent : valid a ≡ true → short a t ≡ false → consistent a c ≡ false → guardRefusal a t c ≡ 13
-  unfolding guardRefusal callRows first
-  guard-inconsistent v s k = rw (v, s, k)
+  pub status-inconsistent : valid a ≡ true → short a t ≡ false → consistent a c ≡ false → callRefusal a t c ≡ 13
+  unfolding callRefusal callRows first
+  status-inconsistent v s k = rw (v, s, k)
 
-  pub guard-clear : valid a ≡ true → short a t ≡ false → consistent a c ≡ true → guardRefusal a t c ≡ 0
-  unfolding guardRefusal callRows first
-  guard-clear v s k = rw (v, s, k)
+  pub status-clear : valid a ≡ true → short a t ≡ false → consistent a c ≡ true → callRefusal a t c ≡ 0
+  unfolding callRefusal callRows first
+  status-clear v s k = rw (v, s, k)
 
   -- no row stands
   pub record Clear : Type 0 where
@@ -42,22 +42,22 @@ module _ (a : Automaton) (t : List ℕ) (c : Configuration) where
     pub table-long : short a t ≡ false
     pub configuration-consistent : consistent a c ≡ true
 
-  pub clear : guardRefusal a t c ≡ 0 → Clear
+  pub clear : callRefusal a t c ≡ 0 → Clear
   clear h =
       by (valid a)
       (λ v. by (short a t)
-      (λ s. absurd (let z = guard-short v s in omega arith))
+      (λ s. absurd (let z = status-short v s in omega arith))
       (λ s. by (consistent a c)
       (λ k. record { record-valid = v; table-long = s; configuration-consistent = k })
-      (λ k. absurd (let z = guard-inconsistent v s k in omega arith))))
-      (λ v. absurd (let z = guard-invalid v in omega arith))
+      (λ k. absurd (let z = status-inconsistent v s k in omega arith))))
+      (λ v. absurd (let z = status-invalid v in omega arith))
 
   -- a row that stands also stands before further rows
-  pub rows-stand : (rows : List (ℕ × Bool)) → (guardRefusal a t c ≡ 0 → ⊥) → first (callRows a t c ++ rows) ≡ guardRefusal a t c
-  unfolding callRows first guardRefusal
+  pub rows-stand : (rows : List (ℕ × Bool)) → (callRefusal a t c ≡ 0 → ⊥) → first (callRows a t c ++ rows) ≡ callRefusal a t c
+  unfolding callRows first callRefusal
   rows-stand rows z =
       by (valid a)
       (λ v. by (short a t)
       (λ s. rw (v, s))
-      (λ s. by (consistent a c) (λ k. absurd (z (guard-clear v s k))) (λ k. rw (v, s, k))))
+      (λ s. by (consistent a c) (λ k. absurd (z (status-clear v s k))) (λ k. rw (v, s, k))))
       (λ v. rw v)

@@ -10,9 +10,9 @@ use Rattle.automaton.specs.declared.Automaton.{Automaton}
 use Rattle.automaton.specs.Automaton.{valid}
 use Rattle.sets.specs.Table.{short}
 use Rattle.configuration.specs.declared.Configuration.{Configuration}
-use Rattle.configuration.specs.Carried.{configuration, heldEvents, consistent}
+use Rattle.configuration.specs.Configuration.{configuration, heldEvents, consistent}
 use Rattle.releasing.specs.Step.{byTable, effect, eventRows, Run, runOf}
-pub use Rattle.monitor.specs.declared.Guard.{Guard}
+pub use Rattle.monitor.specs.declared.Status.{Status}
 pub use Rattle.monitor.specs.declared.Received.{Received}
 pub use Rattle.monitor.specs.declared.Ran.{Ran}
 
@@ -24,18 +24,22 @@ callRows a t c = (11, not (valid a)) ∷ (12, short a t) ∷ (13, not (consisten
 unfoldable pub isWinning : Automaton → List ℕ → Configuration → Bool
 isWinning a t c = byTable a t (heldEvents c) (c .state)
 
-unfoldable pub guardRefusal : Automaton → List ℕ → Configuration → ℕ
-guardRefusal a t c = first (callRows a t c)
+unfoldable pub callRefusal : Automaton → List ℕ → Configuration → ℕ
+callRefusal a t c = first (callRows a t c)
 
-unfoldable pub guard : Automaton → List ℕ → Configuration → Guard
-guard a t c =
-    cond (eqb (guardRefusal a t c) 0)
+unfoldable pub status : Automaton → List ℕ → Configuration → Status
+status a t c =
+    cond (eqb (callRefusal a t c) 0)
     (record { refusal = 0; winning = isWinning a t c })
-    (record { refusal = guardRefusal a t c; winning = false })
+    (record { refusal = callRefusal a t c; winning = false })
 
 -- one event
 unfoldable pub receiveRefusal : Automaton → List ℕ → Configuration → ℕ → ℕ
 receiveRefusal a t c e = first (callRows a t c ++ eventRows a (heldEvents c) e)
+
+-- a refused event
+abbrev pub refusedEvent : ℕ → Configuration → Received
+refusedEvent row c = record { refusal = row; configuration = c; emitted = replicate 7 0; count = 0; winning = false }
 
 unfoldable pub received : Automaton → List ℕ → Configuration → ℕ → Received
 received a t c e =
@@ -48,7 +52,7 @@ received a t c e =
       count = length (f .emitted);
       winning = byTable a t (f .buffer) (f .state);
     })
-    (record { refusal = receiveRefusal a t c e; configuration = c; emitted = replicate 7 0; count = 0; winning = false })
+    (refusedEvent (receiveRefusal a t c e) c)
 
 -- the room that a list of events needs, with so many held
 unfoldable pub room : List ℕ → ℕ → ℕ
@@ -58,15 +62,26 @@ room events held = length events + held
 unfoldable pub runRefusal : Automaton → List ℕ → Configuration → List ℕ → List ℕ → ℕ
 runRefusal a t c events out = first (callRows a t c ++ (16, ltb (length out) (room events (c .held))) ∷ [])
 
+-- one that is not refused, and the lent output after it
+abbrev pub ranOf : Automaton → List ℕ → Configuration → List ℕ → Ran
+ranOf a t c events =
+    let r = runOf (byTable a t) a (c .state) (heldEvents c) events in
+    record { refusal = 0; configuration = configuration (r .state) (r .buffer); length = length (r .emitted); refused = r .refused }
+
+abbrev pub ranBufferOf : Automaton → List ℕ → Configuration → List ℕ → List ℕ → List ℕ
+ranBufferOf a t c events out =
+    let r = runOf (byTable a t) a (c .state) (heldEvents c) events in
+    r .emitted ++ drop (length (r .emitted)) out
+
+-- one that is refused
+abbrev pub refusedRun : ℕ → Configuration → Ran
+refusedRun row c = record { refusal = row; configuration = c; length = 0; refused = 0 }
+
 unfoldable pub ran : Automaton → List ℕ → Configuration → List ℕ → List ℕ → Ran
 ran a t c events out =
-    let r = runOf (byTable a t) a (c .state) (heldEvents c) events in
-    cond (eqb (runRefusal a t c events out) 0)
-    (record { refusal = 0; configuration = configuration (r .state) (r .buffer); length = length (r .emitted); refused = r .refused })
-    (record { refusal = runRefusal a t c events out; configuration = c; length = 0; refused = 0 })
+    cond (eqb (runRefusal a t c events out) 0) (ranOf a t c events) (refusedRun (runRefusal a t c events out) c)
 
 -- the lent output afterwards
 unfoldable pub ranBuffer : Automaton → List ℕ → Configuration → List ℕ → List ℕ → List ℕ
 ranBuffer a t c events out =
-    let r = runOf (byTable a t) a (c .state) (heldEvents c) events in
-    cond (eqb (runRefusal a t c events out) 0) (r .emitted ++ drop (length (r .emitted)) out) out
+    cond (eqb (runRefusal a t c events out) 0) (ranBufferOf a t c events out) out

@@ -7,23 +7,19 @@ use Rattle.base.specs.Pad.{pad}
 use Rattle.automaton.specs.declared.Automaton.{Automaton}
 use Rattle.automaton.specs.Automaton.{run, valid}
 use Rattle.configuration.specs.declared.Configuration.{Configuration}
-use Rattle.configuration.specs.Carried.{configuration}
+use Rattle.configuration.specs.Configuration.{configuration}
 use Rattle.releasing.specs.Step.{Rest, qualifies, release}
 use Rattle.releasing.specs.Parts.{rankingOf}
-use Rattle.monitor.specs.Answers.{Received, guardRefusal}
+use Rattle.monitor.specs.Answers.{Received, callRefusal}
 pub use Rattle.monitor.specs.declared.Entry.{Entry}
 
 -- rows 11 to 13, and the ranking of a valid automaton's symbols
 unfoldable pub entryOf : Automaton → List ℕ → Configuration → Entry
 entryOf a t c =
     record {
-      refusal = guardRefusal a t c;
+      refusal = callRefusal a t c;
       ranking = cond (valid a) (rankingOf (a .classes) (a .symbols)) (record { count = 0; ranks = replicate 16 0 });
     }
-
--- a refused event
-unfoldable pub refusedEvent : ℕ → Configuration → Received
-refusedEvent row c = record { refusal = row; configuration = c; emitted = replicate 7 0; count = 0; winning = false }
 
 -- the answer after the release, where some kinds are emitted already
 unfoldable pub releasedFrom : Rest → Automaton → ℕ → List ℕ → List ℕ → Received

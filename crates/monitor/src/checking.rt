@@ -1,6 +1,6 @@
 // Rows 11 to 13, which every call checks first, and whether a configuration is winning.
 use crate::Entry;
-use crate::Guard;
+use crate::Status;
 use automaton::Automaton;
 use base::size;
 use configuration::Configuration;
@@ -9,7 +9,7 @@ use releasing::in_set;
 use releasing::places;
 use releasing::rank_symbols;
 ghost use mathlib.Core.Path.{_≡_};
-ghost use Rattle.monitor.specs.Answers.{guard};
+ghost use Rattle.monitor.specs.Answers.{status};
 ghost use Rattle.monitor.specs.Parts.{entryOf};
 
 pub fn enter(a: Automaton, table: &[u32], c: Configuration) -> Entry
@@ -45,12 +45,12 @@ pub fn enter(a: Automaton, table: &[u32], c: Configuration) -> Entry
 }
 
 // Whether a configuration is winning (document 01's guarded): the monitor may rest where it is.
-pub fn winning(a: Automaton, table: &[u32], c: Configuration) -> Guard
-    ensures { λ r. ⌜ r ≡ guard a (now (table .entry)) c ⌝ }
+pub fn winning(a: Automaton, table: &[u32], c: Configuration) -> Status
+    ensures { λ r. ⌜ r ≡ status a (now (table .entry)) c ⌝ }
 {
     let entry = enter(a, table, c);
     if entry.refusal != 0 {
-        return Guard {
+        return Status {
             refusal: entry.refusal,
             winning: false,
         };
@@ -58,7 +58,7 @@ pub fn winning(a: Automaton, table: &[u32], c: Configuration) -> Guard
     let ranking = entry.ranking;
     let buffer = c.buffer;
     let places = places(&ranking.ranks, ranking.count, buffer, size(c.held));
-    Guard {
+    Status {
         refusal: 0,
         winning: in_set(table, places[0], size(c.state)),
     }

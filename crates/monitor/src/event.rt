@@ -12,9 +12,9 @@ ghost use Prim.Native.Nat.{ℕ, _+_, _*_, _≤_, _<_};
 ghost use mathlib.Core.List.{List, [], _∷_, _++_};
 ghost use lib.ListN.{length, getD, set, take, drop};
 ghost use Rattle.base.specs.Pad.{pad};
-ghost use Rattle.monitor.specs.Answers.{received};
+ghost use Rattle.monitor.specs.Answers.{received, refusedEvent};
 ghost use Rattle.releasing.specs.Parts.{restIn, over, Lent};
-ghost use Rattle.monitor.specs.Parts.{refusedEvent, releasedFrom};
+ghost use Rattle.monitor.specs.Parts.{releasedFrom};
 
 fn refused(row: u8, c: Configuration) -> Received
     ensures { λ r. ⌜ r ≡ refusedEvent row c ⌝ }

@@ -10,7 +10,7 @@ pub use event::shifted;
 use releasing::Ranking;
 
 // Whether a configuration is winning (document 01's guarded), or the refusing row with no.
-pub struct Guard {
+pub struct Status {
     pub refusal: u8,
     pub winning: bool,
 }

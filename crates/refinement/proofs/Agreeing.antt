@@ -8,7 +8,7 @@ use lib.Bits.{bitOr}
 use lib.Dec.{eqb}
 use lib.ListN.{length, getD, length-append, List·getD-append}
 use lib.Seq.{getD-append-seam}
-use Rattle.base.specs.Each.{each}
+use Rattle.base.specs.Each.{each, those}
 use Rattle.base.specs.Masks.{has}
 use Rattle.base.specs.Pad.{pad}
 use Rattle.base.proofs.Bools.{by}
@@ -27,7 +27,7 @@ use Rattle.refinement.proofs.Free.{free-length, free-below}
 -- a test of each uncontrollable symbol
 free-each : (classes : List ℕ) (p : ℕ → Bool) (m : ℕ)
     → each (length (freeTo classes m)) (λ k. p (getD (freeTo classes m) k 0)) ≡ each m (λ e. eqb (getD classes e 0) 1 || p e)
-unfolding freeTo each
+unfolding those each
 free-each classes p zero = refl
 free-each classes p (suc e) =
     let l = freeTo classes e in

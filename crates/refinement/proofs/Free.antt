@@ -7,6 +7,7 @@ use native.Mathlib.Omega.{arith}
 use lib.Dec.{eqb}
 use lib.ListN.{length, getD, set, length-append}
 use borrow.Author.Tests.{eq-eqb, ne-eqb}
+use Rattle.base.specs.Each.{those}
 use Rattle.base.specs.Pad.{pad}
 use Rattle.base.proofs.Bools.{by}
 use Rattle.base.proofs.Every.{Every, every-cons, every-append}
@@ -16,15 +17,15 @@ use Rattle.refinement.specs.Parts.{Below, freeTo, freeOf}
 module _ (classes : List ℕ) where
   -- a symbol more, which is controllable or not
   pub free-none : (e : ℕ) → getD classes e 0 ≡ 1 → freeTo classes (e + 1) ≡ freeTo classes e
-  unfolding freeTo
+  unfolding those
   free-none e h = rw (add-one e, eq-eqb (getD classes e 0) 1 h) (append-nil (freeTo classes e))
 
   pub free-one : (e : ℕ) → (getD classes e 0 ≡ 1 → ⊥) → freeTo classes (e + 1) ≡ freeTo classes e ++ e ∷ []
-  unfolding freeTo
+  unfolding those
   free-one e h = rw (add-one e, ne-eqb (getD classes e 0) 1 h)
 
   pub free-length : (e : ℕ) → length (freeTo classes e) ≤ e
-  unfolding freeTo
+  unfolding those
   free-length zero = omega arith
   free-length (suc e) =
       by (eqb (getD classes e 0) 1)
@@ -32,7 +33,7 @@ module _ (classes : List ℕ) where
       (λ f. rw (f, length-append (freeTo classes e) (e ∷ [])) (omega (arith, free-length e)))
 
   free-small : (m e : ℕ) → e ≤ m → Every (λ x. x < m) (freeTo classes e)
-  unfolding freeTo
+  unfolding those
   free-small m zero h = λ i l. absurd (omega arith)
   free-small m (suc e) h =
       by (eqb (getD classes e 0) 1)

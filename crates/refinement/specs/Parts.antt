@@ -1,12 +1,12 @@
 -- What the inner functions of the solver hand back, over the arrays that are lent to them: the next states and the first u of a list
 -- of symbols.
 use Prim.Native.Nat.{ℕ, zero, suc, _+_, _*_, _<_, _≤_}
-use mathlib.Core.Bool.{Bool, cond, _&&_}
+use mathlib.Core.Bool.{Bool, cond, not, _&&_}
 use mathlib.Core.List.{List, [], _∷_, _++_}
 use lib.Bits.{bitOr}
 use lib.Dec.{eqb}
 use lib.ListN.{length, getD}
-use Rattle.base.specs.Each.{each}
+use Rattle.base.specs.Each.{each, those}
 use Rattle.base.specs.Masks.{has, mask}
 use Rattle.base.specs.Pad.{pad}
 use Rattle.sets.specs.declared.Settled.{Settled}
@@ -29,9 +29,8 @@ unfoldable pub flagged : List ℕ → ℕ → ℕ
 flagged flags n = mask n (λ q. eqb (getD flags q 0) 1)
 
 -- the symbols below m that are not controllable, rising
-unfoldable pub freeTo : List ℕ → ℕ → List ℕ
-freeTo classes zero = []
-freeTo classes (suc e) = freeTo classes e ++ cond (eqb (getD classes e 0) 1) [] (e ∷ [])
+abbrev pub freeTo : List ℕ → ℕ → List ℕ
+freeTo classes m = those m (λ e. not (eqb (getD classes e 0) 1))
 
 -- .. as an array, with their number
 unfoldable pub freeOf : List ℕ → ℕ → Symbols

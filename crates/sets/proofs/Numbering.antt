@@ -11,7 +11,7 @@ use lib.Arith.{digits-lt}
 use lib.ListN.{length, getD, length-append, length-map, List·getD-append}
 use lib.Seq.{getD-append-add}
 use borrow.Author.Tests.{ltb-true, ltb-false, eqb-true, eqb-false}
-use Rattle.base.specs.Each.{count}
+use Rattle.base.specs.Each.{count, those}
 use Rattle.base.proofs.Bools.{by, either, clash}
 use Rattle.automaton.specs.declared.Automaton.{Automaton}
 use Rattle.automaton.specs.Automaton.{controllable, controllables}
@@ -69,7 +69,7 @@ extended-at (e ∷ es) ws (suc j) i h l =
 module _ (a : Automaton) where
   -- the controllable symbols, by rank
   pub controllableTo-length : (c : ℕ) → length (controllableTo a c) ≡ rank a c
-  unfolding controllableTo rank count
+  unfolding those rank count
   controllableTo-length zero = refl
   controllableTo-length (suc c) =
       by (controllable a c)
@@ -89,7 +89,7 @@ module _ (a : Automaton) where
       (λ f. rw f (record { place = λ e h. absurd (clash (h .1) (ap (controllable a) (h .0) ∙ f)); holds = λ i l. absurd (omega arith) }))
 
   symbols-listed : (c : ℕ) → Listing 0 0 (controllableTo a c) (Symbol c) (rank a)
-  unfolding controllableTo
+  unfolding those
   symbols-listed zero = record { place = λ e h. absurd (omega (arith, h .0)); holds = λ i h. absurd (omega arith) }
   symbols-listed (suc c) =
       let o : rank a c ≡ 0 + length (controllableTo a c) = omega (arith, controllableTo-length c) in

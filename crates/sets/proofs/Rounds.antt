@@ -26,9 +26,9 @@ module _ (round : ℕ → ℕ) where
   settle-stops zero x h = refl
   settle-stops (suc k) x h = rw (eq-eqb (round x) x h)
 
-  pub settle-strikes : (k x : ℕ) → (round x ≡ x → ⊥) → settle round (suc k) x ≡ again (settle round k (round x))
+  pub settle-removes : (k x : ℕ) → (round x ≡ x → ⊥) → settle round (suc k) x ≡ again (settle round k (round x))
   unfolding settle
-  settle-strikes k x h = rw (ne-eqb (round x) x h)
+  settle-removes k x h = rw (ne-eqb (round x) x h)
 
   -- what holds of the start and is kept by a round that strikes holds of the settled set
   pub settle-keeps : (P : ℕ → ℕ → Type 0) → ((r x : ℕ) → (round x ≡ x → ⊥) → P r x → P (r + 1) (round x)) → (k r x : ℕ) → P r x
@@ -58,7 +58,7 @@ module _ (round : ℕ → ℕ) where
         by (eqb (round x) x)
         (λ e. let f = eqb-true (round x) x e in settle-stops (suc k) x f ∙ sym (settle-stops (suc m) x f))
         (λ e. let f = eqb-false (round x) x e in
-        settle-strikes k x f ∙ ap again (settle-fuel k m (round x) (omega (arith, less x)) (omega (arith, less x))) ∙ sym (settle-strikes m x f))
+        settle-removes k x f ∙ ap again (settle-fuel k m (round x) (omega (arith, less x)) (omega (arith, less x))) ∙ sym (settle-removes m x f))
 
     -- the settled set: a round strikes nothing of it
     pub settle-fixed : (k x : ℕ) → x ≤ k → round (settle round k x .set) ≡ settle round k x .set
@@ -66,7 +66,7 @@ module _ (round : ℕ → ℕ) where
     settle-fixed (suc k) x h =
         by (eqb (round x) x)
         (λ e. let f = eqb-true (round x) x e in rw (settle-stops (suc k) x f) f)
-        (λ e. let f = eqb-false (round x) x e in rw (settle-strikes k x f) (settle-fixed k (round x) (omega (arith, less x))))
+        (λ e. let f = eqb-false (round x) x e in rw (settle-removes k x f) (settle-fixed k (round x) (omega (arith, less x))))
 
     module _ (from set rounds kept : ℕ) (s : Refining round from set rounds) (one : kept ≡ round set) where
       pub refine-smaller : (kept ≡ set → ⊥) → kept < set
@@ -75,7 +75,7 @@ module _ (round : ℕ → ℕ) where
       pub refine-more : (kept ≡ set → ⊥) → Refining round from kept (rounds + 1)
       refine-more h =
           let fall = refine-smaller h in
-          let turn = settle-fuel set (suc set) set (omega arith) (omega arith) ∙ settle-strikes set set (λ e. h (one ∙ e)) in
+          let turn = settle-fuel set (suc set) set (omega arith) (omega arith) ∙ settle-removes set set (λ e. h (one ∙ e)) in
           let rest : settle round set (round set) ≡ settle round kept kept = rw (← one) (settle-fuel set kept kept (omega arith) (omega arith)) in
           record {
             so-far = s .so-far ∙ ap (more rounds) (turn ∙ ap again rest) ∙ equal refl (omega arith);

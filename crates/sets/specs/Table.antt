@@ -5,7 +5,7 @@ use mathlib.Core.Bool.{Bool, true, cond}
 use mathlib.Core.List.{List, [], _∷_, _++_, map}
 use lib.ListN.{length, getD}
 use lib.Dec.{ltb}
-use Rattle.base.specs.Each.{count}
+use Rattle.base.specs.Each.{count, those}
 use Rattle.base.specs.Masks.{has}
 use Rattle.automaton.specs.declared.Automaton.{Automaton}
 use Rattle.automaton.specs.Automaton.{controllable, controllables}
@@ -47,9 +47,8 @@ abbrev pub Buffer : Automaton → List ℕ → Type 0
 Buffer a w = Controllable a w × (length w ≤ a .capacity)
 
 -- the controllable symbols below c, rising
-unfoldable pub controllableTo : Automaton → ℕ → List ℕ
-controllableTo a zero = []
-controllableTo a (suc c) = controllableTo a c ++ cond (controllable a c) (c ∷ []) []
+abbrev pub controllableTo : Automaton → ℕ → List ℕ
+controllableTo a c = those c (controllable a)
 
 -- each symbol in front of each buffer
 unfoldable pub extended : List ℕ → List (List ℕ) → List (List ℕ)

@@ -1,4 +1,4 @@
--- Laws of a run of kinds, each with a space before it.
+-- Laws of a run of symbols, each with a space before it.
 use Prim.Native.Nat.{ℕ, zero, suc, _+_, _*_, _<_, _≤_}
 use mathlib.Core.Path.{_≡_, refl, sym, _∙_, ap}
 use mathlib.Core.List.{List, [], _∷_, _++_, append-assoc, append-nil}
@@ -7,7 +7,7 @@ use native.Mathlib.Omega.{arith}
 use lib.ListN.{length, getD, take}
 use lib.Seq.{take-suc}
 use Rattle.text.specs.Decimal.{ascii, decimal, Appended}
-use Rattle.text.specs.Lines.{spaced, kinds}
+use Rattle.text.specs.Lines.{spaced, emission}
 use Rattle.text.proofs.Digits.{byte-length}
 use Rattle.text.proofs.Appending.{behind, said}
 
@@ -19,7 +19,7 @@ spaced-append (e ∷ p) q =
     ap (λ l. ascii " " ++ l) (sym (append-assoc (decimal e) (spaced p) (spaced q))) ∙
     sym (append-assoc (ascii " ") (decimal e ++ spaced p) (spaced q))
 
--- one more kind
+-- one more symbol
 one-more : (list : List ℕ) (i : ℕ) → i < length list
     → spaced (take (i + 1) list) ≡ spaced (take i list) ++ (32 ∷ decimal (getD list i 0))
 unfolding spaced ascii
@@ -28,7 +28,7 @@ one-more list i h =
     (spaced-append (take i list) (getD list i 0 ∷ []) ∙
     ap (λ l. spaced (take i list) ++ (32 ∷ l)) (append-nil (decimal (getD list i 0))))
 
--- the loop over the kinds
+-- the loop over the symbols
 pub record Spacing (list out₀ : List ℕ) (at count : ℕ) (out : List ℕ) (place i : ℕ) : Type 0 where
   pub within : i ≤ count
   pub near : place ≤ at + 4 * i
@@ -55,12 +55,12 @@ module _ {list out₀ : List ℕ} {at count : ℕ} {out : List ℕ} {place i : �
       (said (ap (λ k. spaced (take k list)) e) (g .so-far), omega (arith, e, g .near))
 
 -- none, or some
-pub kinds-none : (list : List ℕ) (count : ℕ) → count ≡ 0 → kinds (take count list) ≡ ascii " -"
-unfolding kinds
-kinds-none list count h = rw h
+pub emission-none : (list : List ℕ) (count : ℕ) → count ≡ 0 → emission (take count list) ≡ ascii " -"
+unfolding emission
+emission-none list count h = rw h
 
-pub kinds-some : (list : List ℕ) (count : ℕ) → (count ≡ 0 → ⊥) → count ≤ length list → kinds (take count list) ≡ spaced (take count list)
-unfolding kinds
-kinds-some list zero h l = absurd (h refl)
-kinds-some [] (suc k) h l = absurd (omega arith)
-kinds-some (e ∷ list) (suc k) h l = refl
+pub emission-some : (list : List ℕ) (count : ℕ) → (count ≡ 0 → ⊥) → count ≤ length list → emission (take count list) ≡ spaced (take count list)
+unfolding emission
+emission-some list zero h l = absurd (h refl)
+emission-some [] (suc k) h l = absurd (omega arith)
+emission-some (e ∷ list) (suc k) h l = refl

@@ -17,21 +17,21 @@ sheetLine n m b q g =
     (ascii " start " ++ (decimal q ++
     guardedEnd g)))))))
 
--- kinds, each with a space before it
+-- symbols (document 01's kinds), each with a space before it
 unfoldable pub spaced : List ℕ → List ℕ
 spaced [] = []
 spaced (e ∷ es) = ascii " " ++ (decimal e ++ spaced es)
 
--- the kinds put out; `-` for none
-unfoldable pub kinds : List ℕ → List ℕ
-kinds [] = ascii " -"
-kinds (e ∷ es) = spaced (e ∷ es)
+-- the symbols emitted; `-` for none
+unfoldable pub emission : List ℕ → List ℕ
+emission [] = ascii " -"
+emission (e ∷ es) = spaced (e ∷ es)
 
 -- an event: the kind received, the kinds put out, the state, the count held, whether guarded
 unfoldable pub eventLine : ℕ → List ℕ → ℕ → ℕ → Bool → List ℕ
 eventLine e out q h g =
     ascii "in " ++ (decimal e ++
-    (ascii " out" ++ (kinds out ++
+    (ascii " out" ++ (emission out ++
     (ascii " state " ++ (decimal q ++
     (ascii " held " ++ (decimal h ++
     guardedEnd g)))))))

@@ -5,7 +5,7 @@ use crate::word;
 ghost use Prim.Native.Nat.{_+_, _*_, _≤_};
 ghost use lib.ListN.{length, take};
 ghost use Rattle.text.specs.Decimal.{Appended};
-ghost use Rattle.text.specs.Lines.{guardedEnd, sheetLine, spaced, kinds, eventLine, refusedEventLine, endLine, faultLine, refusalLine, lineRoom};
+ghost use Rattle.text.specs.Lines.{guardedEnd, sheetLine, spaced, emission, eventLine, refusedEventLine, endLine, faultLine, refusalLine, lineRoom};
 
 fn guarded_end(out: &mut [u8], at: usize, guarded: bool) -> usize
     requires { ⌜ at + 13 ≤ length (now out) ⌝ }
@@ -28,7 +28,7 @@ pub fn sheet_line(out: &mut [u8], at: usize, n: u8, m: u8, b: u8, q: u8, guarded
     guarded_end(out, initial, guarded)
 }
 
-// The first `count` kinds of a list, each with a space before it.
+// The first `count` symbols of a list, each with a space before it.
 fn spaced(out: &mut [u8], at: usize, list: [u8; 7], count: usize) -> usize
     requires { ⌜ (count ≤ 7) × (at + 4 * count ≤ length (now out)) ⌝ }
     ensures { λ r. ⌜ Appended (now (out .entry)) at (spaced (take count list)) (now (out .exit)) r × (r ≤ at + 4 * count) ⌝ }
@@ -43,9 +43,9 @@ fn spaced(out: &mut [u8], at: usize, list: [u8; 7], count: usize) -> usize
 }
 
 // .. and `-` for none.
-fn kinds(out: &mut [u8], at: usize, list: [u8; 7], count: usize) -> usize
+fn emission(out: &mut [u8], at: usize, list: [u8; 7], count: usize) -> usize
     requires { ⌜ (count ≤ 7) × (at + 28 ≤ length (now out)) ⌝ }
-    ensures { λ r. ⌜ Appended (now (out .entry)) at (kinds (take count list)) (now (out .exit)) r × (r ≤ at + 28) ⌝ }
+    ensures { λ r. ⌜ Appended (now (out .entry)) at (emission (take count list)) (now (out .exit)) r × (r ≤ at + 28) ⌝ }
 {
     if count == 0 {
         return word(out, at, b" -");
@@ -68,7 +68,7 @@ pub fn event_line(
 {
     let received = labelled(out, at, b"in ", event as usize);
     let label = word(out, received, b" out");
-    let emitted = kinds(out, label, list, count);
+    let emitted = emission(out, label, list, count);
     let state = labelled(out, emitted, b" state ", q as usize);
     let buffer = labelled(out, state, b" held ", held as usize);
     guarded_end(out, buffer, guarded)

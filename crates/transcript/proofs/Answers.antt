@@ -16,12 +16,11 @@ use Rattle.automaton.proofs.Facts.{valid-facts}
 use Rattle.sets.specs.Table.{short, Solved}
 use Rattle.sets.proofs.Total.{total}
 use Rattle.configuration.specs.declared.Configuration.{Configuration}
-use Rattle.configuration.specs.Carried.{configuration, heldEvents}
+use Rattle.configuration.specs.Configuration.{configuration, heldEvents}
 use Rattle.configuration.proofs.Facts.{Consistent, consistent-facts, held-buffer}
 use Rattle.monitor.specs.declared.Received.{Received}
 use Rattle.releasing.specs.Step.{Effect, byTable, effect, eventRows, eventRefusal}
-use Rattle.monitor.specs.Answers.{callRows, isWinning, guardRefusal, guard, receiveRefusal, received}
-use Rattle.monitor.specs.Parts.{refusedEvent}
+use Rattle.monitor.specs.Answers.{callRows, isWinning, callRefusal, status, receiveRefusal, refusedEvent, received}
 use Rattle.releasing.proofs.Effects.{Occurs, Agree, effect-occurs, effect-length, effect-same}
 use Rattle.monitor.proofs.Refusals.{Clear, clear, rows-pass, rows-stand}
 use Rattle.releasing.proofs.Solved.{solved-agree}
@@ -38,11 +37,11 @@ module _ (a : Automaton) (t : List ℕ) (c : Configuration) where
   unfolding receiveRefusal eventRefusal
   accepted e z =
       let rows = eventRows a (heldEvents c) e in
-      by (eqb (guardRefusal a t c) 0)
+      by (eqb (callRefusal a t c) 0)
       (λ h.
       let k = clear a t c (eqb-true _ 0 h) in
       (k, sym (rows-pass a t c (k .record-valid) (k .table-long) (k .configuration-consistent) rows) ∙ z))
-      (λ h. let n = eqb-false (guardRefusal a t c) 0 h in absurd (n (sym (rows-stand a t c rows n) ∙ z)))
+      (λ h. let n = eqb-false (callRefusal a t c) 0 h in absurd (n (sym (rows-stand a t c rows n) ∙ z)))
 
   pub received-few : (e : ℕ) → received a t c e .count ≤ 7
   unfolding received
@@ -73,7 +72,7 @@ module _ (a : Automaton) (v : valid a ≡ true) (t t′ : List ℕ) (s : Solved 
       }
 
   pub received-same : (e : ℕ) → received a t c e ≡ received a t′ c e
-  unfolding received receiveRefusal refusedEvent
+  unfolding received receiveRefusal
   received-same e =
       let n : receiveRefusal a t c e ≡ receiveRefusal a t′ c e = ap (λ rows. first (rows ++ eventRows a (heldEvents c) e)) rows-same in
       by (eqb (receiveRefusal a t c e) 0)
@@ -94,11 +93,11 @@ module _ (a : Automaton) (v : valid a ≡ true) (t t′ : List ℕ) (s : Solved 
       let p′ : received a t′ c e ≡ refusedEvent (receiveRefusal a t′ c e) c = rw (ap (λ x. eqb x 0) (sym n) ∙ h) in
       p ∙ ap (λ x. refusedEvent x c) n ∙ sym p′)
 
-  pub guard-same : guard a t c ≡ guard a t′ c
-  unfolding guard guardRefusal isWinning
-  guard-same =
-      let n : guardRefusal a t c ≡ guardRefusal a t′ c = ap first rows-same in
-      by (eqb (guardRefusal a t c) 0)
+  pub status-same : status a t c ≡ status a t′ c
+  unfolding status callRefusal isWinning
+  status-same =
+      let n : callRefusal a t c ≡ callRefusal a t′ c = ap first rows-same in
+      by (eqb (callRefusal a t c) 0)
       (λ h.
       let k = clear a t c (eqb-true _ 0 h) in
       rw (h, ap (λ x. eqb x 0) (sym n) ∙ h, agree (heldEvents c) (c .state) (occurs a t c k)))

@@ -21,13 +21,13 @@ use Rattle.sets.proofs.Tables.{table-is-solved}
 use Rattle.winning.specs.declared.Solution.{Solution}
 use Rattle.winning.specs.Solving.{solveRefusal, solution, solvedTable}
 use Rattle.configuration.specs.declared.Start.{Start}
-use Rattle.configuration.specs.Carried.{initialAnswer}
+use Rattle.configuration.specs.Configuration.{initialAnswer}
 use Rattle.text.specs.Lines.{faultLine, refusalLine}
-use Rattle.transcript.specs.Transcript.{Day, sheetAt, opening, fresh, dayLines, tooLong, tooLarge, transcript}
+use Rattle.transcript.specs.Transcript.{Run, sheetAt, opening, runFrom, runLines, tooLong, tooLarge, transcript}
 use Rattle.transcript.specs.Pieces.{Progress, belongs, at, inPhase, toCome, tableAfter, without, opened}
 use Rattle.transcript.specs.declared.Phase.the-variants.{Ended, Refused, Faulted, Opening, Running}
-use Rattle.transcript.proofs.Days.{belongs-of}
-use Rattle.transcript.proofs.Events.{next-inside, day-same}
+use Rattle.transcript.proofs.Runs.{belongs-of}
+use Rattle.transcript.proofs.Events.{next-inside, run-same}
 use Rattle.transcript.proofs.Sheets.{Sound, parse-sound}
 
 -- solving into a table of 16,384 places
@@ -55,7 +55,7 @@ module _ (a : Automaton) (v : valid a ≡ true) (t : List ℕ) (long : length t 
 
     pub open-solved : r .refusal ≡ 0 → (start : Start) → start ≡ initialAnswer a
         → at Opening (record { automaton = a; configuration = start .configuration; place = place; accepted = 0; refused = 0 }) ≡ opened a place
-    unfolding opened fresh initialAnswer
+    unfolding opened runFrom initialAnswer
     open-solved z start f =
         by (tooLarge a)
         (λ l. absurd (let n : r .refusal ≡ 12 = solution-refusal r e ∙ rw l in omega arith))
@@ -63,19 +63,19 @@ module _ (a : Automaton) (v : valid a ≡ true) (t : List ℕ) (long : length t 
 
   -- what is to come then, over the solved table
   pub opened-comes : (s : List ℕ) (place : ℕ) → place ≤ length s
-      → toCome (solvedTable a t) s (opened a place) ≡ cond (tooLarge a) (refusalLine 12) (dayLines (table a) s (fresh a place))
-  unfolding opened without toCome inPhase solvedTable fresh
+      → toCome (solvedTable a t) s (opened a place) ≡ cond (tooLarge a) (refusalLine 12) (runLines (table a) s (runFrom a place))
+  unfolding opened without toCome inPhase solvedTable runFrom
   opened-comes s place h =
       by (tooLarge a)
       (λ l. rw l)
       (λ l.
       let n : solveRefusal a t ≡ 0 = refusal ∙ rw l in
-      let d = fresh a place in
+      let u = runFrom a place in
       let rest = drop (2 * buffersCount a) t in
       let solved = table-is-solved a v .1 in
       let own : Solved a (table a) = rw (append-nil (table a)) at (solved []) in
-      let b : belongs (length s) d ≡ true = belongs-of (length s) d (omega arith) h in
-      rw (l, n, b) (day-same s (table a ++ rest) (table a) d v (solved rest) own))
+      let b : belongs (length s) u ≡ true = belongs-of (length s) u (omega arith) h in
+      rw (l, n, b) (run-same s (table a ++ rest) (table a) u v (solved rest) own))
 
 -- the ways of an input
 module _ (s t : List ℕ) where

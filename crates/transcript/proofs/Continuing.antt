@@ -6,13 +6,13 @@ use native.Mathlib.Omega.{arith}
 use lib.ListN.{length, length-append}
 use Rattle.text.specs.Decimal.{Appended}
 use Rattle.text.proofs.Appending.{behind, kept}
-use Rattle.transcript.specs.Transcript.{Day}
+use Rattle.transcript.specs.Transcript.{Run}
 use Rattle.transcript.specs.Pieces.{Progress, Phase, at, toCome, inPhase, Continued, Line}
 use Rattle.transcript.specs.declared.Phase.the-variants.{Ended, Running}
 
-module _ {t s : List ℕ} {before : Progress} (d : Day) where
+module _ {t s : List ℕ} {before : Progress} (u : Run) where
   -- nothing is to come
-  pub line-none : (out : List ℕ) (from : ℕ) → from ≤ length out → toCome t s before ≡ [] → Line t s before out from out (at Ended d) from
+  pub line-none : (out : List ℕ) (from : ℕ) → from ≤ length out → toCome t s before ≡ [] → Line t s before out from out (at Ended u) from
   unfolding toCome inPhase
   line-none out from i e =
       record {
@@ -23,7 +23,7 @@ module _ {t s : List ℕ} {before : Progress} (d : Day) where
   -- a line, which is not empty ..
   module _ {line : List ℕ} (some : 0 < length line) {out : List ℕ} {from : ℕ} {out′ : List ℕ} {next : ℕ} (x : Appended out from line out′ next) where
     -- .. and the last
-    pub line-last : toCome t s before ≡ line → Line t s before out from out′ (at Ended d) next
+    pub line-last : toCome t s before ≡ line → Line t s before out from out′ (at Ended u) next
     unfolding toCome inPhase
     line-last e =
         record {
@@ -32,7 +32,7 @@ module _ {t s : List ℕ} {before : Progress} (d : Day) where
         }
 
     -- .. or one after which events come
-    pub line-goes-on : toCome t s before ≡ line ++ toCome t s (at Running d) → Line t s before out from out′ (at Running d) next
+    pub line-goes-on : toCome t s before ≡ line ++ toCome t s (at Running u) → Line t s before out from out′ (at Running u) next
     line-goes-on e =
         record {
           continued = record { written = line; stored = x; whole = sym e };

@@ -17,8 +17,8 @@ use Rattle.sets.specs.Table.{Solved}
 use Rattle.monitor.specs.declared.Received.{Received}
 use Rattle.monitor.specs.Answers.{received}
 use Rattle.text.specs.Lines.{endLine, faultLine}
-use Rattle.transcript.specs.Transcript.{Day, answerLine, after, eventLines, firstLine, dayLines}
-use Rattle.transcript.proofs.Answers.{received-same, guard-same}
+use Rattle.transcript.specs.Transcript.{Run, answerLine, after, eventLines, firstLine, runLines}
+use Rattle.transcript.proofs.Answers.{received-same, status-same}
 
 -- a number that was read: its record, and where the next one begins
 number-whole : (n : Number) → n .refusal ≡ 0 → n ≡ value (n .value) (n .place)
@@ -32,71 +32,71 @@ module _ (s : List ℕ) (at : ℕ) (z : read s at .refusal ≡ 0) where
   next-inside = read-inside s at (read s at .value) (read s at .place) (number-whole (read s at) z)
 
 module _ (t s : List ℕ) where
-  abbrev answer : Day → Received
-  answer d = received (d .automaton) t (d .configuration) (read s (d .place) .value)
+  abbrev answer : Run → Received
+  answer u = received (u .automaton) t (u .configuration) (read s (u .place) .value)
 
-  abbrev later : Day → Day
-  later d = after d (read s (d .place) .place) (answer d)
+  abbrev later : Run → Run
+  later u = after u (read s (u .place) .place) (answer u)
 
   -- one step
-  step-event : (k : ℕ) (d : Day) → d .place < length s → read s (d .place) .refusal ≡ 0
-      → eventLines (suc k) t s d ≡ answerLine (read s (d .place) .value) (answer d) ++ eventLines k t s (later d)
+  step-event : (k : ℕ) (u : Run) → u .place < length s → read s (u .place) .refusal ≡ 0
+      → eventLines (suc k) t s u ≡ answerLine (read s (u .place) .value) (answer u) ++ eventLines k t s (later u)
   unfolding eventLines
-  step-event k d h z = rw (lt-ltb (d .place) (length s) h, eq-eqb (read s (d .place) .refusal) 0 z)
+  step-event k u h z = rw (lt-ltb (u .place) (length s) h, eq-eqb (read s (u .place) .refusal) 0 z)
 
-  pub step-fault : (k : ℕ) (d : Day) → d .place < length s → (read s (d .place) .refusal ≡ 0 → ⊥)
-      → eventLines (suc k) t s d ≡ faultLine (read s (d .place) .refusal) (read s (d .place) .place)
+  pub step-fault : (k : ℕ) (u : Run) → u .place < length s → (read s (u .place) .refusal ≡ 0 → ⊥)
+      → eventLines (suc k) t s u ≡ faultLine (read s (u .place) .refusal) (read s (u .place) .place)
   unfolding eventLines
-  step-fault k d h z = rw (lt-ltb (d .place) (length s) h, ne-eqb (read s (d .place) .refusal) 0 z)
+  step-fault k u h z = rw (lt-ltb (u .place) (length s) h, ne-eqb (read s (u .place) .refusal) 0 z)
 
-  pub step-end : (k : ℕ) (d : Day) → length s ≤ d .place → eventLines (suc k) t s d ≡ endLine (d .accepted) (d .refused)
+  pub step-end : (k : ℕ) (u : Run) → length s ≤ u .place → eventLines (suc k) t s u ≡ endLine (u .accepted) (u .refused)
   unfolding eventLines
-  step-end k d h = rw (le-ltb (d .place) (length s) h)
+  step-end k u h = rw (le-ltb (u .place) (length s) h)
 
   -- more steps than enough are the same
-  enough : (k j : ℕ) (d : Day) → length s - d .place < k → length s - d .place < j → eventLines k t s d ≡ eventLines j t s d
+  enough : (k j : ℕ) (u : Run) → length s - u .place < k → length s - u .place < j → eventLines k t s u ≡ eventLines j t s u
   unfolding after
-  enough zero j d h l = absurd (omega arith)
-  enough (suc k) zero d h l = absurd (omega arith)
-  enough (suc k) (suc j) d h l =
-      by (ltb (d .place) (length s))
+  enough zero j u h l = absurd (omega arith)
+  enough (suc k) zero u h l = absurd (omega arith)
+  enough (suc k) (suc j) u h l =
+      by (ltb (u .place) (length s))
       (λ e.
-      let i = ltb-true (d .place) (length s) e in
-      by (eqb (read s (d .place) .refusal) 0)
+      let i = ltb-true (u .place) (length s) e in
+      by (eqb (read s (u .place) .refusal) 0)
       (λ f.
-      let z = eqb-true (read s (d .place) .refusal) 0 f in
-      let a = next-after s (d .place) z in
-      let b = next-inside s (d .place) z in
-      step-event k d i z ∙
-      ap (λ l. answerLine (read s (d .place) .value) (answer d) ++ l) (enough k j (later d) (omega arith) (omega arith)) ∙
-      sym (step-event j d i z))
+      let z = eqb-true (read s (u .place) .refusal) 0 f in
+      let a = next-after s (u .place) z in
+      let b = next-inside s (u .place) z in
+      step-event k u i z ∙
+      ap (λ l. answerLine (read s (u .place) .value) (answer u) ++ l) (enough k j (later u) (omega arith) (omega arith)) ∙
+      sym (step-event j u i z))
       (λ f.
-      let z = eqb-false (read s (d .place) .refusal) 0 f in
-      step-fault k d i z ∙ sym (step-fault j d i z)))
-      (λ e. let i = ltb-false (d .place) (length s) e in step-end k d i ∙ sym (step-end j d i))
+      let z = eqb-false (read s (u .place) .refusal) 0 f in
+      step-fault k u i z ∙ sym (step-fault j u i z)))
+      (λ e. let i = ltb-false (u .place) (length s) e in step-end k u i ∙ sym (step-end j u i))
 
   -- one event of all
-  pub event-first : (d : Day) → d .place < length s → read s (d .place) .refusal ≡ 0
-      → eventLines (suc (length s)) t s d ≡ answerLine (read s (d .place) .value) (answer d) ++ eventLines (suc (length s)) t s (later d)
+  pub event-first : (u : Run) → u .place < length s → read s (u .place) .refusal ≡ 0
+      → eventLines (suc (length s)) t s u ≡ answerLine (read s (u .place) .value) (answer u) ++ eventLines (suc (length s)) t s (later u)
   unfolding after
-  event-first d h z =
-      let a = next-after s (d .place) z in
-      let b = next-inside s (d .place) z in
-      step-event (length s) d h z ∙
-      ap (λ l. answerLine (read s (d .place) .value) (answer d) ++ l) (enough (length s) (suc (length s)) (later d) (omega arith) (omega arith))
+  event-first u h z =
+      let a = next-after s (u .place) z in
+      let b = next-inside s (u .place) z in
+      step-event (length s) u h z ∙
+      ap (λ l. answerLine (read s (u .place) .value) (answer u) ++ l) (enough (length s) (suc (length s)) (later u) (omega arith) (omega arith))
 
 -- the same over two solved tables
 module _ (s t t′ : List ℕ) where
-  events-same : (k : ℕ) (d : Day) → valid (d .automaton) ≡ true → Solved (d .automaton) t → Solved (d .automaton) t′
-      → eventLines k t s d ≡ eventLines k t′ s d
+  events-same : (k : ℕ) (u : Run) → valid (u .automaton) ≡ true → Solved (u .automaton) t → Solved (u .automaton) t′
+      → eventLines k t s u ≡ eventLines k t′ s u
   unfolding eventLines after
-  events-same zero d v y y′ = refl
-  events-same (suc k) d v y y′ =
-      let r : answer t s d ≡ answer t′ s d = received-same (d .automaton) v t t′ y y′ (d .configuration) (read s (d .place) .value) in
-      let i = events-same k (later t s d) v y y′ in
+  events-same zero u v y y′ = refl
+  events-same (suc k) u v y y′ =
+      let r : answer t s u ≡ answer t′ s u = received-same (u .automaton) v t t′ y y′ (u .configuration) (read s (u .place) .value) in
+      let i = events-same k (later t s u) v y y′ in
       rw (i, r)
 
-  pub day-same : (d : Day) → valid (d .automaton) ≡ true → Solved (d .automaton) t → Solved (d .automaton) t′
-      → dayLines t s d ≡ dayLines t′ s d
-  unfolding dayLines firstLine
-  day-same d v y y′ = rw (guard-same (d .automaton) v t t′ y y′ (d .configuration), events-same (suc (length s)) d v y y′)
+  pub run-same : (u : Run) → valid (u .automaton) ≡ true → Solved (u .automaton) t → Solved (u .automaton) t′
+      → runLines t s u ≡ runLines t′ s u
+  unfolding runLines firstLine
+  run-same u v y y′ = rw (status-same (u .automaton) v t t′ y y′ (u .configuration), events-same (suc (length s)) u v y y′)

@@ -1,8 +1,8 @@
-pub mod Days
+pub mod Runs
 pub mod Answers
 pub mod Events
 pub mod Continuing
 pub mod Phases
 pub mod Sheets
 pub mod Beginning
-pub mod Sample
+pub mod Cases

@@ -13,57 +13,57 @@ use Rattle.monitor.specs.declared.Received.{Received}
 use Rattle.monitor.specs.Answers.{received}
 use Rattle.text.specs.Decimal.{ascii}
 use Rattle.text.specs.Lines.{sheetLine, eventLine, refusedEventLine, endLine, faultLine, refusalLine}
-use Rattle.transcript.specs.Transcript.{Day, firstLine, answerLine, after, eventLines, dayLines}
+use Rattle.transcript.specs.Transcript.{Run, firstLine, answerLine, after, eventLines, runLines}
 use Rattle.transcript.specs.Pieces.{belongs, at, toCome, inPhase}
 use Rattle.transcript.specs.declared.Phase.the-variants.{Ended, Refused, Faulted, Opening, Running}
-use Rattle.transcript.proofs.Days.{belongs-counts, belongs-after, after-counts}
+use Rattle.transcript.proofs.Runs.{belongs-counts, belongs-after, after-counts}
 use Rattle.transcript.proofs.Events.{next-after, next-inside, step-fault, step-end, event-first}
 
-module _ (t s : List ℕ) (d : Day) where
-  pub opening-none : belongs (length s) d ≡ false → toCome t s (at Opening d) ≡ []
+module _ (t s : List ℕ) (u : Run) where
+  pub opening-none : belongs (length s) u ≡ false → toCome t s (at Opening u) ≡ []
   unfolding toCome inPhase
   opening-none h = rw h
 
-  pub running-none : belongs (length s) d ≡ false → toCome t s (at Running d) ≡ []
+  pub running-none : belongs (length s) u ≡ false → toCome t s (at Running u) ≡ []
   unfolding toCome inPhase
   running-none h = rw h
 
-  module _ (h : belongs (length s) d ≡ true) where
-    lines-come : toCome t s (at Running d) ≡ eventLines (suc (length s)) t s d
+  module _ (h : belongs (length s) u ≡ true) where
+    lines-come : toCome t s (at Running u) ≡ eventLines (suc (length s)) t s u
     unfolding toCome inPhase
     lines-come = rw h
 
-    pub opening-comes : toCome t s (at Opening d) ≡ firstLine t d ++ toCome t s (at Running d)
-    unfolding toCome inPhase dayLines
+    pub opening-comes : toCome t s (at Opening u) ≡ firstLine t u ++ toCome t s (at Running u)
+    unfolding toCome inPhase runLines
     opening-comes = rw h
 
-    pub end-comes : length s ≤ d .place → toCome t s (at Running d) ≡ endLine (d .accepted) (d .refused)
-    end-comes e = lines-come ∙ step-end t s (length s) d e
+    pub end-comes : length s ≤ u .place → toCome t s (at Running u) ≡ endLine (u .accepted) (u .refused)
+    end-comes e = lines-come ∙ step-end t s (length s) u e
 
-    module _ (n : Number) (e : n ≡ read s (d .place)) (i : d .place < length s) where
-      pub fault-comes : (n .refusal ≡ 0 → ⊥) → toCome t s (at Running d) ≡ faultLine (n .refusal) (n .place)
-      fault-comes z = rw e (lines-come ∙ step-fault t s (length s) d i (rw e at z))
+    module _ (n : Number) (e : n ≡ read s (u .place)) (i : u .place < length s) where
+      pub fault-comes : (n .refusal ≡ 0 → ⊥) → toCome t s (at Running u) ≡ faultLine (n .refusal) (n .place)
+      fault-comes z = rw e (lines-come ∙ step-fault t s (length s) u i (rw e at z))
 
-      pub counted-before : n .refusal ≡ 0 → d .accepted + d .refused < n .place
+      pub counted-before : n .refusal ≡ 0 → u .accepted + u .refused < n .place
       counted-before z =
-          let p : d .place < n .place = rw e (next-after s (d .place) (rw e at z)) in
-          omega (arith, belongs-counts (length s) d h)
+          let p : u .place < n .place = rw e (next-after s (u .place) (rw e at z)) in
+          omega (arith, belongs-counts (length s) u h)
 
-      pub event-comes : n .refusal ≡ 0 → (r : Received) → r ≡ received (d .automaton) t (d .configuration) (n .value)
-          → toCome t s (at Running d) ≡ answerLine (n .value) r ++ toCome t s (at Running (after d (n .place) r))
+      pub event-comes : n .refusal ≡ 0 → (r : Received) → r ≡ received (u .automaton) t (u .configuration) (n .value)
+          → toCome t s (at Running u) ≡ answerLine (n .value) r ++ toCome t s (at Running (after u (n .place) r))
       unfolding toCome inPhase
       event-comes z r f =
-          let z′ : read s (d .place) .refusal ≡ 0 = rw e at z in
-          let l : n .place ≤ length s = rw e (next-inside s (d .place) z′) in
-          let k : after d (n .place) r .accepted + after d (n .place) r .refused ≤ n .place =
-          omega (arith, after-counts d (n .place) r, counted-before z) in
-          let b = belongs-after (length s) d (n .place) r k l in
-          rw (b, h) (rw (f, e) (event-first t s d i z′))
+          let z′ : read s (u .place) .refusal ≡ 0 = rw e at z in
+          let l : n .place ≤ length s = rw e (next-inside s (u .place) z′) in
+          let k : after u (n .place) r .accepted + after u (n .place) r .refused ≤ n .place =
+          omega (arith, after-counts u (n .place) r, counted-before z) in
+          let b = belongs-after (length s) u (n .place) r k l in
+          rw (b, h) (rw (f, e) (event-first t s u i z′))
 
 -- no line is empty
-pub first-some : (t : List ℕ) (d : Day) → 0 < length (firstLine t d)
+pub first-some : (t : List ℕ) (u : Run) → 0 < length (firstLine t u)
 unfolding firstLine sheetLine ascii
-first-some t d = omega arith
+first-some t u = omega arith
 
 pub end-some : (accepted refused : ℕ) → 0 < length (endLine accepted refused)
 unfolding endLine ascii

@@ -1,15 +1,48 @@
--- The input that document 01 prints whole.
-use Prim.Native.Nat.{ℕ}
+-- What is printed on some inputs: document 01's sample, and ways in which an input can begin and end.
+use Prim.Native.Nat.{ℕ, _<_}
+use Prim.Native.String.{String}
 use mathlib.Core.Path.{_≡_}
-use mathlib.Core.List.{List, [], _∷_}
+use mathlib.Core.List.{List, [], _∷_, _++_}
+use lib.ListN.{length}
 use Rattle.text.specs.Decimal.{ascii}
 use Rattle.transcript.specs.Transcript.{transcript}
 
--- 15, V's fifteen bytes, 1 0
-unfoldable pub sampleInput : List ℕ
-sampleInput = 15 ∷ 3 ∷ 2 ∷ 1 ∷ 0 ∷ 0 ∷ 1 ∷ 1 ∷ 0 ∷ 1 ∷ 1 ∷ 0 ∷ 1 ∷ 2 ∷ 2 ∷ 2 ∷ 1 ∷ 0 ∷ []
+-- the sheet V, with its length before it
+unfoldable pub v : List ℕ
+v = 15 ∷ 3 ∷ 2 ∷ 1 ∷ 0 ∷ 0 ∷ 1 ∷ 1 ∷ 0 ∷ 1 ∷ 1 ∷ 0 ∷ 1 ∷ 2 ∷ 2 ∷ 2 ∷ []
 
-abbrev pub SamplePrinted : Type 0
-SamplePrinted =
-    transcript sampleInput
-    ≡ ascii "sheet 3 2 1 start 0 guarded no\nin 1 out - state 0 held 1 guarded yes\nin 0 out 0 1 state 2 held 0 guarded yes\nend 2 0\n"
+-- a sheet of one state, six controllable symbols and hold 5: 2T is 18,662
+unfoldable pub large : List ℕ
+large = 17 ∷ 1 ∷ 6 ∷ 5 ∷ 0 ∷ 1 ∷ 1 ∷ 1 ∷ 1 ∷ 1 ∷ 1 ∷ 1 ∷ 0 ∷ 0 ∷ 0 ∷ 0 ∷ 0 ∷ 0 ∷ []
+
+-- the lines that V begins with
+abbrev pub vLine : String
+vLine = "sheet 3 2 1 start 0 guarded no"
+
+abbrev pub answerHeld : String
+answerHeld = "in 1 out - state 0 held 1 guarded yes"
+
+-- lines, each with its newline
+unfoldable pub lines : List String → List ℕ
+lines [] = []
+lines (l ∷ ls) = ascii l ++ (ascii "\n" ++ lines ls)
+
+-- on the input these lines are printed, and nothing else
+abbrev pub Prints : List ℕ → List String → Type 0
+Prints input ls = transcript input ≡ lines ls
+
+pub record CasesPrinted : Type 0 where
+  pub sample : Prints (v ++ 1 ∷ 0 ∷ []) (vLine ∷ answerHeld ∷ "in 0 out 0 1 state 2 held 0 guarded yes" ∷ "end 2 0" ∷ [])
+  pub row-15 : Prints (v ++ 1 ∷ 1 ∷ []) (vLine ∷ answerHeld ∷ "in 1 refused 15" ∷ "end 1 1" ∷ [])
+  pub event-unfinished : Prints (v ++ 2 ∷ 128 ∷ []) (vLine ∷ "in 2 refused 14" ∷ "refused 1 at 17" ∷ [])
+  pub no-bytes : Prints [] ("refused 1 at 0" ∷ [])
+  pub length-too-long : Prints (128 ∷ 128 ∷ 128 ∷ []) ("refused 2 at 0" ∷ [])
+  pub empty-sheet : Prints (0 ∷ []) ("refused 1 at 1" ∷ [])
+  pub padded-length : Prints (129 ∷ 0 ∷ 33 ∷ []) ("refused 3 at 2" ∷ [])
+  pub fewer-than-length : Prints (100 ∷ 33 ∷ []) ("refused 1 at 1" ∷ [])
+  pub sheet-unfinished : Prints (2 ∷ 3 ∷ 2 ∷ 1 ∷ []) ("refused 1 at 3" ∷ [])
+  pub too-large : Prints (large ++ 128 ∷ []) ("refused 12" ∷ [])
+
+-- an input of more than 60,000 bytes
+abbrev pub LongRefused : Type 0
+LongRefused = (s : List ℕ) → 60000 < length s → Prints s ("refused 18" ∷ [])

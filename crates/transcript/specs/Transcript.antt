@@ -10,11 +10,11 @@ use Rattle.automaton.specs.declared.Automaton.{Automaton}
 use Rattle.encoding.specs.declared.Parsed.{Parsed}
 use Rattle.encoding.specs.Reading.{refused, parse}
 use Rattle.sets.specs.Table.{buffersCount, table}
-use Rattle.configuration.specs.Carried.{initialOf}
+use Rattle.configuration.specs.Configuration.{initialOf}
 use Rattle.monitor.specs.declared.Received.{Received}
-use Rattle.monitor.specs.Answers.{guard, received}
+use Rattle.monitor.specs.Answers.{status, received}
 use Rattle.text.specs.Lines.{sheetLine, eventLine, refusedEventLine, endLine, faultLine, refusalLine}
-pub use Rattle.transcript.specs.declared.Day.{Day}
+pub use Rattle.transcript.specs.declared.Run.{Run}
 
 -- the sheet after L, at a place: the place after it, or its first fault, both from the input's first byte
 unfoldable pub sheetAt : ℕ → ℕ → Parsed → Parsed
@@ -33,15 +33,15 @@ opening s =
     (sheetAt (l .place) (l .value) (parse (take (l .value) (drop (l .place) s)))))
     (refused (l .refusal) (l .place))
 
--- the day before its first event, which begins at a place
-unfoldable pub fresh : Automaton → ℕ → Day
-fresh a at = record { automaton = a; configuration = initialOf a; place = at; accepted = 0; refused = 0 }
+-- a run before its first event, which begins at a place
+unfoldable pub runFrom : Automaton → ℕ → Run
+runFrom a at = record { automaton = a; configuration = initialOf a; place = at; accepted = 0; refused = 0 }
 
 -- the first line
-unfoldable pub firstLine : List ℕ → Day → List ℕ
-firstLine t d =
-    let a = d .automaton in
-    sheetLine (a .states) (a .symbols) (a .capacity) (a .initial) (guard a t (d .configuration) .winning)
+unfoldable pub firstLine : List ℕ → Run → List ℕ
+firstLine t u =
+    let a = u .automaton in
+    sheetLine (a .states) (a .symbols) (a .capacity) (a .initial) (status a t (u .configuration) .winning)
 
 -- the line of an event that was answered
 unfoldable pub answerLine : ℕ → Received → List ℕ
@@ -50,39 +50,39 @@ answerLine e r =
     (eventLine e (take (r .count) (r .emitted)) (r .configuration .state) (r .configuration .held) (r .winning))
     (refusedEventLine e (r .refusal))
 
--- the day after it, with the place of the next event
-unfoldable pub after : Day → ℕ → Received → Day
-after d next r =
+-- the run after it, with the place of the next event
+unfoldable pub after : Run → ℕ → Received → Run
+after u next r =
     record {
-      automaton = d .automaton;
+      automaton = u .automaton;
       configuration = r .configuration;
       place = next;
-      accepted = d .accepted + cond (eqb (r .refusal) 0) 1 0;
-      refused = d .refused + cond (eqb (r .refusal) 0) 0 1;
+      accepted = u .accepted + cond (eqb (r .refusal) 0) 1 0;
+      refused = u .refused + cond (eqb (r .refusal) 0) 0 1;
     }
 
--- The lines of the events from the day's place to the input's end, and the last line; a fault in an event's number ends them. (An
+-- The lines of the events from the run's place to the input's end, and the last line; a fault in an event's number ends them. (An
 -- event has a byte at least, so as many steps as there are bytes and one are enough.)
-unfoldable pub eventLines : ℕ → List ℕ → List ℕ → Day → List ℕ
-eventLines zero t s d = []
-eventLines (suc k) t s d =
-    let n = read s (d .place) in
-    let r = received (d .automaton) t (d .configuration) (n .value) in
-    cond (ltb (d .place) (length s))
+unfoldable pub eventLines : ℕ → List ℕ → List ℕ → Run → List ℕ
+eventLines zero t s u = []
+eventLines (suc k) t s u =
+    let n = read s (u .place) in
+    let r = received (u .automaton) t (u .configuration) (n .value) in
+    cond (ltb (u .place) (length s))
     (cond (eqb (n .refusal) 0)
-    (answerLine (n .value) r ++ eventLines k t s (after d (n .place) r))
+    (answerLine (n .value) r ++ eventLines k t s (after u (n .place) r))
     (faultLine (n .refusal) (n .place)))
-    (endLine (d .accepted) (d .refused))
+    (endLine (u .accepted) (u .refused))
 
--- a day's lines over a table
-unfoldable pub dayLines : List ℕ → List ℕ → Day → List ℕ
-dayLines t s d = firstLine t d ++ eventLines (suc (length s)) t s d
+-- a run's lines over a table
+unfoldable pub runLines : List ℕ → List ℕ → Run → List ℕ
+runLines t s u = firstLine t u ++ eventLines (suc (length s)) t s u
 
 -- row 18
 unfoldable pub tooLong : List ℕ → Bool
 tooLong s = ltb 60000 (length s)
 
--- the table that the program has is shorter than 2T
+-- row 12: 2T is over the number of places that the program has
 unfoldable pub tooLarge : Automaton → Bool
 tooLarge a = ltb 16384 (2 * buffersCount a)
 
@@ -94,5 +94,5 @@ transcript s =
     (cond (eqb (p .refusal) 0)
     (cond (tooLarge (p .automaton))
     (refusalLine 12)
-    (dayLines (table (p .automaton)) s (fresh (p .automaton) (p .place))))
+    (runLines (table (p .automaton)) s (runFrom (p .automaton) (p .place))))
     (faultLine (p .refusal) (p .place)))

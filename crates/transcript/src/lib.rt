@@ -13,9 +13,9 @@ ghost use lib.ListN.{length};
 ghost use Rattle.text.specs.Lines.{lineRoom};
 ghost use Rattle.transcript.specs.Pieces.{toCome, Continued};
 
-// A day: the automaton, its configuration, the place of the next event in the input, and how many events were accepted and
+// A run of the monitor on an input: the automaton, the configuration, the place of the next event in the input, and how many events were accepted and
 // refused so far.
-pub struct Day {
+pub struct Run {
     pub automaton: Automaton,
     pub configuration: Configuration,
     pub place: usize,
@@ -23,7 +23,7 @@ pub struct Day {
     pub refused: usize,
 }
 
-// What is printed next: nothing more; a row alone; a row with the place of its fault; a day's first line; an event's line.
+// What is printed next: nothing more; a row alone; a row with the place of its fault; a run's first line; an event's line.
 pub enum Phase {
     Ended,
     Refused(u8),
@@ -32,10 +32,10 @@ pub enum Phase {
     Running,
 }
 
-// Where the transcript stands: the phase, and the day that the last two phases look at.
+// Where the transcript stands: the phase, and the run, at which only the last two phases look.
 pub struct Progress {
     pub phase: Phase,
-    pub day: Day,
+    pub run: Run,
 }
 
 // What a piece leaves: the progress after it, and the place after what was written.
@@ -53,7 +53,7 @@ pub fn next_piece(progress: Progress, input: &[u8], table: &[u32], out: &mut [u8
     let mut rest = progress;
     let mut at: usize = 0;
     loop {
-        if out.len() - at < 96 {
+        if out.len() - at < text::LINE_ROOM {
             break;
         }
         let step = line(rest, input, table, out, at);

@@ -1,8 +1,8 @@
 // One line at a time.
-use crate::Day;
 use crate::Phase;
 use crate::Piece;
 use crate::Progress;
+use crate::Run;
 use monitor::Received;
 use text::end_line;
 use text::event_line;
@@ -42,38 +42,38 @@ fn answer_line(out: &mut [u8], from: usize, event: u32, answer: Received) -> usi
     )
 }
 
-// The day after an event that was answered.
-fn after(day: Day, next: usize, answer: Received) -> Day
-    requires { ⌜ day .accepted + day .refused < next ⌝ }
-    ensures { λ r. ⌜ r ≡ after day next answer ⌝ }
+// The run after an event that was answered.
+fn after(run: Run, next: usize, answer: Received) -> Run
+    requires { ⌜ run .accepted + run .refused < next ⌝ }
+    ensures { λ r. ⌜ r ≡ after run next answer ⌝ }
 {
-    let automaton = day.automaton;
+    let automaton = run.automaton;
     let configuration = answer.configuration;
     if answer.refusal != 0 {
-        return Day {
+        return Run {
             automaton,
             configuration,
             place: next,
-            accepted: day.accepted,
-            refused: day.refused + 1,
+            accepted: run.accepted,
+            refused: run.refused + 1,
         };
     }
-    Day {
+    Run {
         automaton,
         configuration,
         place: next,
-        accepted: day.accepted + 1,
-        refused: day.refused,
+        accepted: run.accepted + 1,
+        refused: run.refused,
     }
 }
 
-fn first_line(day: Day, table: &[u32], out: &mut [u8], from: usize) -> usize
+fn first_line(run: Run, table: &[u32], out: &mut [u8], from: usize) -> usize
     requires { ⌜ from + lineRoom ≤ length (now out) ⌝ }
-    ensures { λ r. ⌜ Appended (now (out .entry)) from (firstLine (now (table .entry)) day) (now (out .exit)) r ⌝ }
+    ensures { λ r. ⌜ Appended (now (out .entry)) from (firstLine (now (table .entry)) run) (now (out .exit)) r ⌝ }
 {
-    let a = day.automaton;
-    let c = day.configuration;
-    let guard = monitor::winning(a, table, c);
+    let a = run.automaton;
+    let c = run.configuration;
+    let status = monitor::winning(a, table, c);
     sheet_line(
         out,
         from,
@@ -81,67 +81,67 @@ fn first_line(day: Day, table: &[u32], out: &mut [u8], from: usize) -> usize
         a.symbols,
         a.capacity,
         a.initial,
-        guard.winning,
+        status.winning,
     )
 }
 
-// Whether the day is one of an input of so many bytes.
-fn belongs(day: Day, length: usize) -> bool
-    ensures { λ r. ⌜ r ≡ belongs length day ⌝ }
+// Whether the run is one of an input of so many bytes.
+fn belongs(run: Run, length: usize) -> bool
+    ensures { λ r. ⌜ r ≡ belongs length run ⌝ }
 {
-    if day.place < day.accepted {
+    if run.place < run.accepted {
         return false;
     }
-    if day.place - day.accepted < day.refused {
+    if run.place - run.accepted < run.refused {
         return false;
     }
-    day.place <= length
+    run.place <= length
 }
 
-fn piece(phase: Phase, day: Day, length: usize) -> Piece
-    ensures { λ r. ⌜ (r .progress ≡ at phase day) × (r .length ≡ length) ⌝ }
+fn piece(phase: Phase, run: Run, length: usize) -> Piece
+    ensures { λ r. ⌜ (r .progress ≡ at phase run) × (r .length ≡ length) ⌝ }
 {
     Piece {
-        progress: Progress { phase, day },
+        progress: Progress { phase, run },
         length,
     }
 }
 
-// A day's first line.
-fn opening_line(day: Day, input: &[u8], table: &[u32], out: &mut [u8], from: usize) -> Piece
+// A run's first line.
+fn opening_line(run: Run, input: &[u8], table: &[u32], out: &mut [u8], from: usize) -> Piece
     requires { ⌜ from + lineRoom ≤ length (now out) ⌝ }
-    ensures { λ r. ⌜ Line (now (table .entry)) (now (input .entry)) (at Phase.Opening day) (now (out .entry)) from (now (out .exit)) (r .progress) (r .length) ⌝ }
+    ensures { λ r. ⌜ Line (now (table .entry)) (now (input .entry)) (at Phase.Opening run) (now (out .entry)) from (now (out .exit)) (r .progress) (r .length) ⌝ }
 {
-    if !belongs(day, input.len()) {
-        return piece(Phase::Ended, day, from);
+    if !belongs(run, input.len()) {
+        return piece(Phase::Ended, run, from);
     }
-    let next = first_line(day, table, out, from);
-    piece(Phase::Running, day, next)
+    let next = first_line(run, table, out, from);
+    piece(Phase::Running, run, next)
 }
 
 // The next event's line, or the last line, or that of a fault in the event's number.
-fn running_line(day: Day, input: &[u8], table: &[u32], out: &mut [u8], from: usize) -> Piece
+fn running_line(run: Run, input: &[u8], table: &[u32], out: &mut [u8], from: usize) -> Piece
     requires { ⌜ from + lineRoom ≤ length (now out) ⌝ }
-    ensures { λ r. ⌜ Line (now (table .entry)) (now (input .entry)) (at Phase.Running day) (now (out .entry)) from (now (out .exit)) (r .progress) (r .length) ⌝ }
+    ensures { λ r. ⌜ Line (now (table .entry)) (now (input .entry)) (at Phase.Running run) (now (out .entry)) from (now (out .exit)) (r .progress) (r .length) ⌝ }
 {
-    if !belongs(day, input.len()) {
-        return piece(Phase::Ended, day, from);
+    if !belongs(run, input.len()) {
+        return piece(Phase::Ended, run, from);
     }
-    let place = day.place;
+    let place = run.place;
     if input.len() <= place {
-        let next = end_line(out, from, day.accepted, day.refused);
-        return piece(Phase::Ended, day, next);
+        let next = end_line(out, from, run.accepted, run.refused);
+        return piece(Phase::Ended, run, next);
     }
     let number = reader::read_at(input, place);
     if number.refusal != 0 {
         let next = fault_line(out, from, number.refusal, number.place);
-        return piece(Phase::Ended, day, next);
+        return piece(Phase::Ended, run, next);
     }
-    let a = day.automaton;
-    let c = day.configuration;
+    let a = run.automaton;
+    let c = run.configuration;
     let answer = monitor::receive(a, table, c, number.value);
     let next = answer_line(out, from, number.value, answer);
-    piece(Phase::Running, after(day, number.place, answer), next)
+    piece(Phase::Running, after(run, number.place, answer), next)
 }
 
 pub fn line(progress: Progress, input: &[u8], table: &[u32], out: &mut [u8], from: usize) -> Piece
@@ -149,18 +149,18 @@ pub fn line(progress: Progress, input: &[u8], table: &[u32], out: &mut [u8], fro
     ensures { λ r. ⌜ Line (now (table .entry)) (now (input .entry)) progress (now (out .entry)) from (now (out .exit)) (r .progress) (r .length) ⌝ }
 {
     let phase = progress.phase;
-    let day = progress.day;
+    let run = progress.run;
     match phase {
-        Phase::Ended => piece(Phase::Ended, day, from),
+        Phase::Ended => piece(Phase::Ended, run, from),
         Phase::Refused(row) => {
             let next = refusal_line(out, from, row);
-            piece(Phase::Ended, day, next)
+            piece(Phase::Ended, run, next)
         }
         Phase::Faulted(row, place) => {
             let next = fault_line(out, from, row, place);
-            piece(Phase::Ended, day, next)
+            piece(Phase::Ended, run, next)
         }
-        Phase::Opening => opening_line(day, input, table, out, from),
-        Phase::Running => running_line(day, input, table, out, from),
+        Phase::Opening => opening_line(run, input, table, out, from),
+        Phase::Running => running_line(run, input, table, out, from),
     }
 }

@@ -1,7 +1,7 @@
 // The beginning of an input: the number L, then L bytes of sheet.
-use crate::Day;
 use crate::Phase;
 use crate::Progress;
+use crate::Run;
 use automaton::Automaton;
 use configuration::Configuration;
 ghost use mathlib.Core.Path.{_≡_};
@@ -12,13 +12,13 @@ ghost use Rattle.winning.specs.Solving.{solvedTable};
 ghost use Rattle.transcript.specs.Transcript.{transcript};
 ghost use Rattle.transcript.specs.Pieces.{toCome, tableAfter, opened, without};
 
-// A phase in which no day is looked at: an all-zero one.
+// A phase in which no run is looked at: an all-zero one.
 fn without(phase: Phase) -> Progress
     ensures { λ r. ⌜ r ≡ without phase ⌝ }
 {
     Progress {
         phase,
-        day: Day {
+        run: Run {
             automaton: Automaton {
                 states: 0,
                 symbols: 0,
@@ -54,7 +54,7 @@ fn opened(a: Automaton, place: usize, table: &mut [u32; 16384]) -> Progress
     let configuration = start.configuration;
     Progress {
         phase: Phase::Opening,
-        day: Day {
+        run: Run {
             automaton: a,
             configuration,
             place,

@@ -7,7 +7,7 @@ use native.Mathlib.Omega.{arith}
 use lib.Dec.{eqb}
 use lib.ListN.{length, getD, length-append}
 use borrow.Author.Tests.{eqb-true, eqb-false}
-use Rattle.base.specs.Each.{count}
+use Rattle.base.specs.Each.{count, those}
 use Rattle.base.proofs.Bools.{by}
 use Rattle.base.proofs.Ranges.{count-max}
 use Rattle.automaton.specs.declared.Automaton.{Automaton}
@@ -41,7 +41,7 @@ shorter-one k = omega (arith, pow-zero k)
 
 -- a symbol is controllable or not
 free-count : (classes : List ℕ) (m : ℕ) → length (freeTo classes m) + count m (λ e. eqb (getD classes e 0) 1) ≡ m
-unfolding freeTo count
+unfolding those count
 free-count classes zero = omega arith
 free-count classes (suc e) =
     by (eqb (getD classes e 0) 1)

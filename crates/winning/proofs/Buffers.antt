@@ -7,6 +7,7 @@ use lib.Bits.{bitOr}
 use lib.Dec.{eqb}
 use lib.ListN.{length, getD, take, drop, length-map, List·getD-append, List·getD-map}
 use lib.Seq.{sets-eq, take-suc, take-length}
+use Rattle.base.specs.Each.{those}
 use Rattle.base.specs.Pad.{pad}
 use Rattle.base.proofs.Bools.{by}
 use Rattle.automaton.specs.declared.Automaton.{Automaton}
@@ -67,7 +68,7 @@ module _ (a : Automaton) where
 
     -- a row for each controllable symbol
     level-to : (c : ℕ) → levelOf front (a .classes) c t from (length ws) ≡ map (sets a) (extended (controllableTo a c) ws)
-    unfolding levelOf controllableTo extended controllable
+    unfolding levelOf those extended controllable
     level-to zero = refl
     level-to (suc c) =
         by (eqb (getD (a .classes) c 0) 1)

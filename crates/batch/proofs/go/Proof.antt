@@ -1,4 +1,4 @@
-use Rattle.configuration.specs.Carried.{heldEvents}
+use Rattle.configuration.specs.Configuration.{heldEvents}
 use Rattle.monitor.proofs.Refusals.{clear}
 use Rattle.batch.proofs.Days.{day-starts}
 use mathlib.Core.Path.{refl}
@@ -111,18 +111,15 @@ loop-less-2 c = omega (arith, c .before .before .before .before .before .loop-te
 loop-again-2 : tie.Need-loop-again-2 Inv-loop μ-loop
 loop-again-2 c = let g = c .before .before .before .before .before .before .loop .inv .2 in let own = c .before .before .before .before .before .before .loop .inv .1 in let cap = c .before .before .before .before .before .before .loop .inv .0 in let h = c .before .before .before .before .before .loop-test .taken in (cap, own, day-refuses g h _ refl (answered-here g h _ own _ cap _ (sym (c .before .accepts .ensures) ∙ c .if1 .left)), c .before .before .before .before .before .before .loop .inv .3)
 
-cast-t25 : tie.Need-cast-t25 Inv-loop μ-loop
-cast-t25 c = let g = c .before .loop .inv .2 in omega (arith, g .occurs .state-below, g .valid .states-high)
-
-cast-t46 : tie.Need-cast-t46 Inv-loop μ-loop
-cast-t46 c = let g = c .before .loop .inv .2 in omega (arith, g .few)
+completed-requires : tie.Need-completed-requires Inv-loop μ-loop
+completed-requires c κs = let g = c .before .loop .inv .2 in (omega (arith, g .occurs .state-below, g .valid .states-high), omega (arith, g .few))
 
 same-length : tie.Need-same-length Inv-loop μ-loop
-same-length c = let g = c .before .loop .inv .2 in let k = g .kept in search needs
+same-length c = let g = c .before .before .loop .inv .2 in let k = g .kept in search needs
 
 returns : tie.Need-returns Inv-loop μ-loop
 unfolding heldEvents
-returns c = let a = c .before .before .before .before .before .before .before .before .before .args in day-answer (c .before .loop .inv .2) (c .loop-test .left) (a .c) (sym (c .before .before .before .before .size2 .ensures .0)) (ap (λ n. take n (a .c .buffer)) (sym (c .before .before .size3 .ensures .0)))
+returns c = let a = c .before .before .before .before .before .before .before .before .before .before .args in let r = day-answer (c .before .before .loop .inv .2) (c .before .loop-test .left) (a .c) (sym (c .before .before .before .before .before .size2 .ensures .0)) (ap (λ n. take n (a .c .buffer)) (sym (c .before .before .before .size3 .ensures .0))) in (c .completed .ensures ∙ r .0, r .1)
 
 pub go-spec : {M : Type 1} → statement M
 go-spec =
@@ -160,7 +157,6 @@ go-spec =
     add-refused
     loop-less-2
     loop-again-2
-    cast-t25
-    cast-t46
+    completed-requires
     same-length
     returns)

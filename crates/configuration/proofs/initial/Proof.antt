@@ -1,4 +1,4 @@
-use Rattle.configuration.specs.Carried.{initialOf, initialAnswer}
+use Rattle.configuration.specs.Configuration.{initialOf, initialAnswer}
 use mathlib.Core.Path.{_∙_, sym}
 use borrow.Author.Needs.{needs}
 use Rattle.configuration.proofs.initial.Statement.{statement}

@@ -1,6 +1,7 @@
 use lib.ListN.{getD}
 use Rattle.refinement.proofs.Free.{listed-all}
 use Rattle.refinement.proofs.Free.{Listed, listed-room, listed-more, listed-same}
+use Rattle.base.specs.Each.{those}
 use Rattle.base.specs.Pad.{pad}
 use Rattle.refinement.specs.Parts.{freeTo}
 use Prim.Native.Nat.{_≤_, _-_}
@@ -18,7 +19,7 @@ abbrev μ-loop : tie.MeasureT-loop
 μ-loop classes m list₀ count₀ e₀ list count e = m - e
 
 loop-holds : tie.Need-loop-holds Inv-loop μ-loop
-unfolding freeTo pad
+unfolding those pad
 loop-holds c = (omega arith, record { stored = refl; counted = refl })
 
 size-requires : tie.Need-size-requires Inv-loop μ-loop

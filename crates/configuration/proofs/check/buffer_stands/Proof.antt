@@ -1,4 +1,4 @@
-use Rattle.configuration.specs.Parts.{placeStands, bufferStands}
+use Rattle.configuration.specs.Configuration.{placeStands, bufferStands}
 use Rattle.base.proofs.Ranges.{each-falls, each-keeps}
 use Rattle.base.specs.Each.{each}
 use borrow.Author.Tests.{not-true, not-false}

@@ -1,4 +1,4 @@
-use Rattle.configuration.specs.Parts.{consistentIn}
+use Rattle.configuration.specs.Configuration.{consistentIn}
 use mathlib.Core.Path.{_≡_}
 use lib.ListN.{length}
 use borrow.Author.Tests.{lt-ltb, le-ltb, le-leb, lt-leb, eq-eqb}

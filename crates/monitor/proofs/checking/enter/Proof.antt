@@ -3,7 +3,6 @@ use mathlib.Core.Path.{_∙_, sym, ap}
 use borrow.Author.Tests.{not-true, not-false}
 use Rattle.sets.specs.Table.{shorter}
 use Rattle.winning.proofs.Bounds.{shorter-small}
-use Rattle.configuration.proofs.Facts.{consistent-parts}
 use Rattle.automaton.proofs.Facts.{valid-facts}
 use Rattle.releasing.specs.Parts.{rankingOf}
 use Rattle.monitor.proofs.Entries.{entry-invalid, entry-short, entry-inconsistent, entry-clear, ranking-few}
@@ -43,10 +42,10 @@ consistent-requires : tie.Need-consistent-requires
 consistent-requires c κs = search needs
 
 returns-3 : tie.Need-returns-3
-returns-3 c = let a = c .before .before .before .before .before .before .before .before .before .before .before .before .before .before .before .args .t1 in let h = sym (c .before .before .before .before .before .before .before .before .before .before .before .before .before .valid .ensures) ∙ not-false _ (c .before .before .before .before .before .before .before .before .before .before .before .before .if1 .left) in entry-inconsistent a _ _ h _ (c .before .before .before .before .before .before .before .before .rank-symbols .ensures ∙ ap (rankingOf (a .classes)) (c .before .before .before .before .before .before .before .before .before .size .ensures .0)) _ (c .before .before .before .before .before .buffers-to .ensures ∙ ap (λ x. shorter (c .before .before .before .before .before .before .before .before .rank-symbols .result .count) (x + 1)) (c .before .before .before .before .before .before .size2 .ensures .0)) (c .before .before .before .before .if2 .left) (sym (c .before .consistent .ensures ∙ consistent-parts a (valid-facts a h .classes-length) _) ∙ not-true _ (c .if3 .taken))
+returns-3 c = let a = c .before .before .before .before .before .before .before .before .before .before .before .before .before .before .before .args .t1 in let h = sym (c .before .before .before .before .before .before .before .before .before .before .before .before .before .valid .ensures) ∙ not-false _ (c .before .before .before .before .before .before .before .before .before .before .before .before .if1 .left) in entry-inconsistent a _ _ h _ (c .before .before .before .before .before .before .before .before .rank-symbols .ensures ∙ ap (rankingOf (a .classes)) (c .before .before .before .before .before .before .before .before .before .size .ensures .0)) _ (c .before .before .before .before .before .buffers-to .ensures ∙ ap (λ x. shorter (c .before .before .before .before .before .before .before .before .rank-symbols .result .count) (x + 1)) (c .before .before .before .before .before .before .size2 .ensures .0)) (c .before .before .before .before .if2 .left) (sym (c .before .consistent .ensures) ∙ not-true _ (c .if3 .taken))
 
 returns-4 : tie.Need-returns-4
-returns-4 c = let a = c .before .before .before .before .before .before .before .before .before .before .before .before .before .before .before .args .t1 in let h = sym (c .before .before .before .before .before .before .before .before .before .before .before .before .before .valid .ensures) ∙ not-false _ (c .before .before .before .before .before .before .before .before .before .before .before .before .if1 .left) in entry-clear a _ _ h _ (c .before .before .before .before .before .before .before .before .rank-symbols .ensures ∙ ap (rankingOf (a .classes)) (c .before .before .before .before .before .before .before .before .before .size .ensures .0)) _ (c .before .before .before .before .before .buffers-to .ensures ∙ ap (λ x. shorter (c .before .before .before .before .before .before .before .before .rank-symbols .result .count) (x + 1)) (c .before .before .before .before .before .before .size2 .ensures .0)) (c .before .before .before .before .if2 .left) (sym (c .before .consistent .ensures ∙ consistent-parts a (valid-facts a h .classes-length) _) ∙ not-false _ (c .if3 .left))
+returns-4 c = let a = c .before .before .before .before .before .before .before .before .before .before .before .before .before .before .before .args .t1 in let h = sym (c .before .before .before .before .before .before .before .before .before .before .before .before .before .valid .ensures) ∙ not-false _ (c .before .before .before .before .before .before .before .before .before .before .before .before .if1 .left) in entry-clear a _ _ h _ (c .before .before .before .before .before .before .before .before .rank-symbols .ensures ∙ ap (rankingOf (a .classes)) (c .before .before .before .before .before .before .before .before .before .size .ensures .0)) _ (c .before .before .before .before .before .buffers-to .ensures ∙ ap (λ x. shorter (c .before .before .before .before .before .before .before .before .rank-symbols .result .count) (x + 1)) (c .before .before .before .before .before .before .size2 .ensures .0)) (c .before .before .before .before .if2 .left) (sym (c .before .consistent .ensures) ∙ not-false _ (c .if3 .left))
 
 pub enter-spec : {M : Type 1} → statement M
 enter-spec =

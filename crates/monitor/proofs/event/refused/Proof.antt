@@ -1,12 +1,11 @@
 use mathlib.Core.Path.{refl}
-use Rattle.monitor.specs.Parts.{refusedEvent}
+use Rattle.monitor.specs.Answers.{refusedEvent}
 use native.Mathlib.Omega.{arith}
 use borrow.Author.Needs.{needs}
 use Rattle.monitor.proofs.event.refused.Statement.{statement}
 use Rattle.monitor.proofs.event.refused.Tie as tie
 
 returns : tie.Need-returns
-unfolding refusedEvent
 returns c = refl
 
 pub refused-spec : {M : Type 1} → statement M

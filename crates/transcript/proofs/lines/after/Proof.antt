@@ -1,4 +1,4 @@
-use Rattle.transcript.proofs.Days.{after-refused, after-accepted}
+use Rattle.transcript.proofs.Runs.{after-refused, after-accepted}
 use borrow.Author.Needs.{needs}
 use Rattle.transcript.proofs.lines.after.Statement.{statement}
 use Rattle.transcript.proofs.lines.after.Tie as tie

@@ -1,4 +1,4 @@
-use Rattle.transcript.proofs.Days.{answer-refused, answer-accepted}
+use Rattle.transcript.proofs.Runs.{answer-refused, answer-accepted}
 use Rattle.text.proofs.Appending.{said}
 use borrow.Author.Needs.{needs}
 use Rattle.transcript.proofs.lines.answer_line.Statement.{statement}

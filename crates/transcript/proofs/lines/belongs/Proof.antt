@@ -1,4 +1,4 @@
-use Rattle.transcript.proofs.Days.{counts-over, counts-fit}
+use Rattle.transcript.proofs.Runs.{counts-over, counts-fit}
 use native.Mathlib.Omega.{arith}
 use Rattle.transcript.proofs.lines.belongs.Statement.{statement}
 use Rattle.transcript.proofs.lines.belongs.Tie as tie

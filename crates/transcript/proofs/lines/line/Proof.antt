@@ -44,35 +44,35 @@ running-line-requires c κs = search needs
 
 returns : tie.Need-returns
 unfolding toCome inPhase
-returns c = let a = c .before .before .before .before .before .before .before .args in rw (c .piece .ensures .0, c .piece .ensures .1) (line-none (a .progress .day) _ _ (search needs) (ap (inPhase (a .table .now) (a .input .now) (a .progress .day)) (c .before .enum-told .given .1)))
+returns c = let a = c .before .before .before .before .before .before .before .args in rw (c .piece .ensures .0, c .piece .ensures .1) (line-none (a .progress .run) _ _ (search needs) (ap (inPhase (a .table .now) (a .input .now) (a .progress .run)) (c .before .enum-told .given .1)))
 
 same-length : tie.Need-same-length
 same-length c = search needs
 
 returns-2 : tie.Need-returns-2
 unfolding toCome inPhase
-returns-2 c = let a = c .before .before .before .before .before .before .before .before .before .before .before .before .args in rw (c .piece2 .ensures .0, c .piece2 .ensures .1) (line-last (a .progress .day) (refusal-some _) (c .before .before .before .refusal-line .ensures) (ap (inPhase (a .table .now) (a .input .now) (a .progress .day)) (c .before .before .before .before .before .before .phase .given .1)))
+returns-2 c = let a = c .before .before .before .before .before .before .before .before .before .before .before .before .args in rw (c .piece2 .ensures .0, c .piece2 .ensures .1) (line-last (a .progress .run) (refusal-some _) (c .before .before .before .refusal-line .ensures) (ap (inPhase (a .table .now) (a .input .now) (a .progress .run)) (c .before .before .before .before .before .before .phase .given .1)))
 
 same-length-2 : tie.Need-same-length-2
 same-length-2 c = search needs
 
 returns-3 : tie.Need-returns-3
 unfolding toCome inPhase
-returns-3 c = let a = c .before .before .before .before .before .before .before .before .before .before .before .before .args in rw (c .piece3 .ensures .0, c .piece3 .ensures .1) (line-last (a .progress .day) (fault-some _ _) (c .before .before .before .fault-line .ensures) (ap (inPhase (a .table .now) (a .input .now) (a .progress .day)) (c .before .before .before .before .before .before .phase2 .given .1)))
+returns-3 c = let a = c .before .before .before .before .before .before .before .before .before .before .before .before .args in rw (c .piece3 .ensures .0, c .piece3 .ensures .1) (line-last (a .progress .run) (fault-some _ _) (c .before .before .before .fault-line .ensures) (ap (inPhase (a .table .now) (a .input .now) (a .progress .run)) (c .before .before .before .before .before .before .phase2 .given .1)))
 
 same-length-3 : tie.Need-same-length-3
 same-length-3 c = search needs
 
 returns-4 : tie.Need-returns-4
 unfolding toCome
-returns-4 c = let a = c .before .before .before .before .before .before .before .before .before .before .args in line-as (ap (inPhase (a .table .now) (a .input .now) (a .progress .day)) (c .before .before .before .before .enum-told2 .given .1)) (c .before .before .opening-line .ensures)
+returns-4 c = let a = c .before .before .before .before .before .before .before .before .before .before .args in line-as (ap (inPhase (a .table .now) (a .input .now) (a .progress .run)) (c .before .before .before .before .enum-told2 .given .1)) (c .before .before .opening-line .ensures)
 
 same-length-4 : tie.Need-same-length-4
 same-length-4 c = search needs
 
 returns-5 : tie.Need-returns-5
 unfolding toCome
-returns-5 c = let a = c .before .before .before .before .before .before .before .before .before .before .args in line-as (ap (inPhase (a .table .now) (a .input .now) (a .progress .day)) (c .before .before .before .before .enum-told3 .given .1)) (c .before .before .running-line .ensures)
+returns-5 c = let a = c .before .before .before .before .before .before .before .before .before .before .args in line-as (ap (inPhase (a .table .now) (a .input .now) (a .progress .run)) (c .before .before .before .before .enum-told3 .given .1)) (c .before .before .running-line .ensures)
 
 pub line-spec : {M : Type 1} → statement M
 line-spec =

@@ -13,7 +13,7 @@ piece-requires : tie.Need-piece-requires
 piece-requires c κs = search needs
 
 returns : tie.Need-returns
-returns c = let a = c .before .before .before .before .before .before .args in rw (c .piece .ensures .0, c .piece .ensures .1) (line-none (a .day) _ _ (search needs) (opening-none _ _ (a .day) (sym (c .before .before .belongs .ensures) ∙ not-true _ (c .before .if1 .taken))))
+returns c = let a = c .before .before .before .before .before .before .args in rw (c .piece .ensures .0, c .piece .ensures .1) (line-none (a .run) _ _ (search needs) (opening-none _ _ (a .run) (sym (c .before .before .belongs .ensures) ∙ not-true _ (c .before .if1 .taken))))
 
 first-line-requires : tie.Need-first-line-requires
 first-line-requires c κs = search needs
@@ -25,7 +25,7 @@ same-length : tie.Need-same-length
 same-length c = search needs
 
 returns-2 : tie.Need-returns-2
-returns-2 c = let a = c .before .before .before .before .before .before .before .before .before .before .args in rw (c .piece2 .ensures .0, c .piece2 .ensures .1) (line-goes-on (a .day) (first-some _ (a .day)) (c .before .before .before .first-line .ensures) (opening-comes _ _ (a .day) (sym (c .before .before .before .before .before .before .belongs .ensures) ∙ not-false _ (c .before .before .before .before .before .if1 .left))))
+returns-2 c = let a = c .before .before .before .before .before .before .before .before .before .before .args in rw (c .piece2 .ensures .0, c .piece2 .ensures .1) (line-goes-on (a .run) (first-some _ (a .run)) (c .before .before .before .first-line .ensures) (opening-comes _ _ (a .run) (sym (c .before .before .before .before .before .before .belongs .ensures) ∙ not-false _ (c .before .before .before .before .before .if1 .left))))
 
 pub opening-line-spec : {M : Type 1} → statement M
 opening-line-spec =

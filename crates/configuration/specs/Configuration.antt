@@ -7,7 +7,7 @@ use lib.Dec.{eqb, leb, ltb}
 use Rattle.base.specs.Each.{each}
 use Rattle.base.specs.Pad.{pad}
 use Rattle.automaton.specs.declared.Automaton.{Automaton}
-use Rattle.automaton.specs.Automaton.{controllable, valid}
+use Rattle.automaton.specs.Automaton.{valid}
 pub use Rattle.configuration.specs.declared.Configuration.{Configuration}
 pub use Rattle.configuration.specs.declared.Start.{Start}
 
@@ -20,17 +20,27 @@ abbrev pub configuration : ℕ → List ℕ → Configuration
 configuration q w = record { state = q; held = length w; buffer = pad 6 w }
 
 -- e is a controllable symbol
-unfoldable pub holdable : Automaton → ℕ → Bool
-holdable a e = ltb e (a .symbols) && controllable a e
+unfoldable pub controllableSymbol : ℕ → List ℕ → ℕ → Bool
+controllableSymbol symbols classes e = ltb e symbols && eqb (getD classes e 0) 1
+
+-- what stands at a place of the buffer: a controllable symbol where the place is used, else 0
+unfoldable pub placeStands : ℕ → List ℕ → Bool → ℕ → Bool
+placeStands symbols classes used e = cond used (controllableSymbol symbols classes e) (eqb e 0)
+
+-- the six places
+unfoldable pub bufferStands : ℕ → List ℕ → ℕ → List ℕ → Bool
+bufferStands symbols classes held buffer = each 6 (λ i. placeStands symbols classes (ltb i held) (getD buffer i 0))
 
 -- A configuration that row 13 lets pass: a state of the automaton, at most its capacity held, each held event controllable, and
--- unused places 0. (The buffer has the length that its type gives.)
-unfoldable pub consistent : Automaton → Configuration → Bool
-consistent a c =
+-- unused places 0. (The buffer has the length that its type gives.) Of the automaton these parts are read, and nothing else.
+unfoldable pub consistentIn : ℕ → ℕ → ℕ → List ℕ → Configuration → Bool
+consistentIn states symbols capacity classes c =
     eqb (length (c .buffer)) 6 &&
-    (ltb (c .state) (a .states) &&
-    (leb (c .held) (a .capacity) &&
-    each 6 (λ i. cond (ltb i (c .held)) (holdable a (getD (c .buffer) i 0)) (eqb (getD (c .buffer) i 0) 0))))
+    (ltb (c .state) states &&
+    (leb (c .held) capacity && bufferStands symbols classes (c .held) (c .buffer)))
+
+abbrev pub consistent : Automaton → Configuration → Bool
+consistent a = consistentIn (a .states) (a .symbols) (a .capacity) (a .classes)
 
 -- the initial configuration (document 01's fresh): the automaton's initial state and nothing held
 unfoldable pub initialOf : Automaton → Configuration

@@ -1,0 +1,46 @@
+-- The cases are printed as they should be, by computation.
+use Prim.Native.Nat.{ℕ}
+use mathlib.Core.Path.{_≡_, refl}
+use borrow.Author.Tests.{lt-ltb}
+use lib.ListN.{length}
+use Rattle.base.specs.Each.{each, count, those, lastOr}
+use Rattle.base.specs.Masks.{has, mask}
+use Rattle.base.specs.Pad.{pad}
+use Rattle.base.specs.Rows.{first}
+use Rattle.varint.specs.Varint.{groups, read}
+use Rattle.automaton.specs.Automaton.{controllable, controllables, accepts, step, run, stands, shaped, ranged, classesStand, flagsStand, nextStand, valid}
+use Rattle.encoding.specs.Reading.{checked, between, tally, classRow, numbers, runs, one, many, tables, sheet, parse}
+use Rattle.sets.specs.Sets.{acceptingSet, admits, stays, refine, settle, settled, setsOf, emptySets, into, sets}
+use Rattle.sets.specs.Table.{rank, value, shorter, index, buffersCount, short, controllableTo, extended, buffersAt, buffersTo, pairs, table}
+use Rattle.configuration.specs.Configuration.{heldEvents, controllableSymbol, placeStands, bufferStands, consistentIn, initialOf}
+use Rattle.releasing.specs.Step.{byTable, qualifies, qualifying, release, remaining, arrival, effect, eventRows}
+use Rattle.monitor.specs.Answers.{callRows, isWinning, callRefusal, status, receiveRefusal, received}
+use Rattle.text.specs.Decimal.{ascii, digit, digits, decimal}
+use Rattle.text.specs.Lines.{guardedEnd, sheetLine, spaced, emission, eventLine, refusedEventLine, endLine, faultLine, refusalLine}
+use Rattle.transcript.specs.Transcript.{sheetAt, opening, runFrom, firstLine, answerLine, after, eventLines, runLines, tooLong, tooLarge, transcript}
+use Rattle.transcript.specs.Claims.{v, large, lines, CasesPrinted, LongRefused}
+
+-- every definition that the transcript rests on
+unfoldable all : ℕ
+unfolding each count those lastOr has mask pad first groups read controllable controllables accepts step run stands shaped ranged classesStand flagsStand nextStand valid checked between tally classRow numbers runs one many tables sheet parse acceptingSet admits stays refine settle settled setsOf emptySets into sets rank value shorter index buffersCount short extended buffersAt buffersTo pairs table heldEvents controllableSymbol placeStands bufferStands consistentIn initialOf byTable qualifies qualifying release remaining arrival effect eventRows callRows isWinning callRefusal status receiveRefusal received ascii digit digits decimal guardedEnd sheetLine spaced emission eventLine refusedEventLine endLine faultLine refusalLine sheetAt opening runFrom firstLine answerLine after eventLines runLines tooLong tooLarge transcript v large lines
+all = 0
+
+pub cases-printed : CasesPrinted
+unfolding all
+cases-printed =
+    record {
+      sample = refl;
+      row-15 = refl;
+      event-unfinished = refl;
+      no-bytes = refl;
+      length-too-long = refl;
+      empty-sheet = refl;
+      padded-length = refl;
+      fewer-than-length = refl;
+      sheet-unfinished = refl;
+      too-large = refl;
+    }
+
+pub long-refused : LongRefused
+unfolding transcript tooLong refusalLine decimal digits digit ascii lines
+long-refused s h = rw (lt-ltb 60000 (length s) h)
