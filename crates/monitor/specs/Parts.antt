@@ -21,7 +21,7 @@ entryOf a t c =
       ranking = cond (valid a) (rankingOf (a .classes) (a .symbols)) (record { count = 0; ranks = replicate 16 0 });
     }
 
--- the answer after the release, where some kinds are emitted already
+-- the answer after the release, where some symbols are emitted already
 unfoldable pub releasedFrom : Rest → Automaton → ℕ → List ℕ → List ℕ → Received
 releasedFrom rest a q w emitted =
     let k = release rest a q w in

@@ -38,7 +38,7 @@ pub fn shifted(buffer: [u8; 6], held: usize, count: usize) -> [u8; 6]
     left
 }
 
-// The release after an event, with some kinds emitted already.
+// The release after an event, with some symbols emitted already.
 fn answer<'a>(
     next: &'a [u8; 512],
     ranks: &'a [u8; 16],

@@ -15,7 +15,7 @@ pub struct Status {
     pub winning: bool,
 }
 
-// What one event brings: the next configuration, the kinds emitted with their count (places past it are 0), and whether the
+// What one event brings: the next configuration, the symbols emitted with their count (places past it are 0), and whether the
 // configuration is winning. Refused: the row, the configuration given, nothing emitted, no.
 pub struct Received {
     pub refusal: u8,

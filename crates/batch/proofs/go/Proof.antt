@@ -1,13 +1,13 @@
 use Rattle.configuration.specs.Configuration.{heldEvents}
 use Rattle.monitor.proofs.Refusals.{clear}
-use Rattle.batch.proofs.Days.{day-starts}
+use Rattle.batch.proofs.Running.{running-starts}
 use mathlib.Core.Path.{refl}
-use Rattle.batch.proofs.Days.{answered-here, passes-here, room-here, arrived-here}
+use Rattle.batch.proofs.Running.{answered-here, passes-here, room-here, arrived-here}
 use lib.ListN.{length, getD, take}
 use mathlib.Core.Path.{_≡_, _∙_, sym, ap}
 use Prim.Native.Nat.{_≤_, _<_, _-_, _+_, _*_}
 use Rattle.releasing.specs.Parts.{rankingOf}
-use Rattle.batch.proofs.Days.{Day, Arrived, arrives, rank-passes, day-begins, day-refuses, event-known, event-low, state-low, has-room, held-room, out-room, arrived-lent, arrived-room, released-few, state-small, day-accepts, day-answer}
+use Rattle.batch.proofs.Running.{Running, Arrived, arrives, rank-passes, running-begins, running-refuses, event-known, event-low, state-low, has-room, held-room, out-room, arrived-lent, arrived-room, released-few, state-small, running-accepts, running-answer}
 use native.Mathlib.Omega.{arith}
 use borrow.Author.Needs.{needs}
 use Rattle.batch.proofs.go.Statement.{statement}
@@ -15,7 +15,7 @@ use Rattle.batch.proofs.go.Tie as tie
 
 abbrev Inv-loop : tie.InvT-loop
 Inv-loop table events out₀ a ranking capacity q₀ buffer₀ held₀ written₀ refused₀ i₀ out q buffer held written refused i =
-    (capacity ≡ a .capacity) × (ranking ≡ rankingOf (a .classes) (a .symbols)) × Day a table events out₀ q₀ (take held₀ buffer₀) out q buffer held written refused i × (length out₀ < 18446744073709551616)
+    (capacity ≡ a .capacity) × (ranking ≡ rankingOf (a .classes) (a .symbols)) × Running a table events out₀ q₀ (take held₀ buffer₀) out q buffer held written refused i × (length out₀ < 18446744073709551616)
 
 abbrev μ-loop : tie.MeasureT-loop
 μ-loop table events out₀ a ranking capacity q₀ buffer₀ held₀ written₀ refused₀ i₀ out q buffer held written refused i =
@@ -31,7 +31,7 @@ size-requires-3 : tie.Need-size-requires-3 Inv-loop μ-loop
 size-requires-3 c κs = search needs
 
 loop-holds : tie.Need-loop-holds Inv-loop μ-loop
-loop-holds c = let p = c .before .before .before .before .before .before .before .pre in (c .before .before .before .size .ensures .0, p .1, day-starts _ _ _ (clear _ _ _ (p .0)) _ _ _ _ (c .before .before .size2 .ensures .0) (c .size3 .ensures .0) (p .2), omega arith)
+loop-holds c = let p = c .before .before .before .before .before .before .before .pre in (c .before .before .before .size .ensures .0, p .1, running-starts _ _ _ (clear _ _ _ (p .0)) _ _ _ _ (c .before .before .size2 .ensures .0) (c .size3 .ensures .0) (p .2), omega arith)
 
 mul-event : tie.Need-mul-event Inv-loop μ-loop
 mul-event c = search needs
@@ -100,7 +100,7 @@ loop-less : tie.Need-loop-less Inv-loop μ-loop
 loop-less c = omega (arith, c .before .before .before .before .before .before .before .before .before .before .before .before .before .before .before .before .before .before .before .before .before .before .before .before .before .before .before .before .before .loop-test .taken)
 
 loop-again : tie.Need-loop-again Inv-loop μ-loop
-loop-again c = let g = c .before .before .before .before .before .before .before .before .before .before .before .before .before .before .before .before .before .before .before .before .before .before .before .before .before .before .before .before .before .before .loop .inv .2 in let own = c .before .before .before .before .before .before .before .before .before .before .before .before .before .before .before .before .before .before .before .before .before .before .before .before .before .before .before .before .before .before .loop .inv .1 in let cap = c .before .before .before .before .before .before .before .before .before .before .before .before .before .before .before .before .before .before .before .before .before .before .before .before .before .before .before .before .before .before .loop .inv .0 in let h = c .before .before .before .before .before .before .before .before .before .before .before .before .before .before .before .before .before .before .before .before .before .before .before .before .before .before .before .before .before .loop-test .taken in let acc = sym (c .before .before .before .before .before .before .before .before .before .before .before .before .before .before .before .before .before .before .before .before .before .before .before .before .before .accepts .ensures) ∙ c .before .before .before .before .before .before .before .before .before .before .before .before .before .before .before .before .before .before .before .before .before .before .before .before .if1 .taken in let yes′ = answered-here g h _ own _ cap _ acc in let v = arrived-here g h _ own _ cap acc _ (c .before .before .before .before .before .before .before .before .before .before .before .before .before .before .before .before .before .before .before .before .before .before .before .size4 .ensures .0) _ (c .before .before .before .before .before .before .before .before .before .before .before .before .before .before .before .before .before .before .before .size5 .ensures .0) _ _ _ (c .before .before .before .before .before .before .before .before .before .before .before .before .before .before .before .before .before .before .moved .ensures) (c .before .before .before .before .before .before .before .before .before .before .before .before .before .before .before .before .before .held-with .ensures) (c .before .before .before .before .before .before .before .before .before .before .before .before .one-if .ensures) in let f = rw own at (c .before .before .before .before .before .before .before .release .ensures) in let few = released-few g h _ refl yes′ _ _ _ _ v _ f in (cap, own, day-accepts g h _ refl yes′ _ _ _ _ v _ f _ (passes-here g h _ own _ cap acc _ (c .before .before .before .before .before .before .before .before .before .before .before .before .before .before .before .before .before .before .before .before .before .before .before .size4 .ensures .0)) _ _ _ (c .before .before .before .before .before .before .before .before .before .before .before .before .before .before .before .pass .ensures) (c .before .before .before .before .before .emit .ensures) (c .before .before .left .ensures), c .before .before .before .before .before .before .before .before .before .before .before .before .before .before .before .before .before .before .before .before .before .before .before .before .before .before .before .before .before .before .loop .inv .3)
+loop-again c = let g = c .before .before .before .before .before .before .before .before .before .before .before .before .before .before .before .before .before .before .before .before .before .before .before .before .before .before .before .before .before .before .loop .inv .2 in let own = c .before .before .before .before .before .before .before .before .before .before .before .before .before .before .before .before .before .before .before .before .before .before .before .before .before .before .before .before .before .before .loop .inv .1 in let cap = c .before .before .before .before .before .before .before .before .before .before .before .before .before .before .before .before .before .before .before .before .before .before .before .before .before .before .before .before .before .before .loop .inv .0 in let h = c .before .before .before .before .before .before .before .before .before .before .before .before .before .before .before .before .before .before .before .before .before .before .before .before .before .before .before .before .before .loop-test .taken in let acc = sym (c .before .before .before .before .before .before .before .before .before .before .before .before .before .before .before .before .before .before .before .before .before .before .before .before .before .accepts .ensures) ∙ c .before .before .before .before .before .before .before .before .before .before .before .before .before .before .before .before .before .before .before .before .before .before .before .before .if1 .taken in let yes′ = answered-here g h _ own _ cap _ acc in let v = arrived-here g h _ own _ cap acc _ (c .before .before .before .before .before .before .before .before .before .before .before .before .before .before .before .before .before .before .before .before .before .before .before .size4 .ensures .0) _ (c .before .before .before .before .before .before .before .before .before .before .before .before .before .before .before .before .before .before .before .size5 .ensures .0) _ _ _ (c .before .before .before .before .before .before .before .before .before .before .before .before .before .before .before .before .before .before .moved .ensures) (c .before .before .before .before .before .before .before .before .before .before .before .before .before .before .before .before .before .held-with .ensures) (c .before .before .before .before .before .before .before .before .before .before .before .before .one-if .ensures) in let f = rw own at (c .before .before .before .before .before .before .before .release .ensures) in let few = released-few g h _ refl yes′ _ _ _ _ v _ f in (cap, own, running-accepts g h _ refl yes′ _ _ _ _ v _ f _ (passes-here g h _ own _ cap acc _ (c .before .before .before .before .before .before .before .before .before .before .before .before .before .before .before .before .before .before .before .before .before .before .before .size4 .ensures .0)) _ _ _ (c .before .before .before .before .before .before .before .before .before .before .before .before .before .before .before .pass .ensures) (c .before .before .before .before .before .emit .ensures) (c .before .before .left .ensures), c .before .before .before .before .before .before .before .before .before .before .before .before .before .before .before .before .before .before .before .before .before .before .before .before .before .before .before .before .before .before .loop .inv .3)
 
 add-refused : tie.Need-add-refused Inv-loop μ-loop
 add-refused c = let g = c .before .before .before .before .before .before .loop .inv .2 in let own = c .before .before .before .before .before .before .loop .inv .1 in let cap = c .before .before .before .before .before .before .loop .inv .0 in let h = c .before .before .before .before .before .loop-test .taken in omega (arith, g .passed-over)
@@ -109,7 +109,7 @@ loop-less-2 : tie.Need-loop-less-2 Inv-loop μ-loop
 loop-less-2 c = omega (arith, c .before .before .before .before .before .loop-test .taken)
 
 loop-again-2 : tie.Need-loop-again-2 Inv-loop μ-loop
-loop-again-2 c = let g = c .before .before .before .before .before .before .loop .inv .2 in let own = c .before .before .before .before .before .before .loop .inv .1 in let cap = c .before .before .before .before .before .before .loop .inv .0 in let h = c .before .before .before .before .before .loop-test .taken in (cap, own, day-refuses g h _ refl (answered-here g h _ own _ cap _ (sym (c .before .accepts .ensures) ∙ c .if1 .left)), c .before .before .before .before .before .before .loop .inv .3)
+loop-again-2 c = let g = c .before .before .before .before .before .before .loop .inv .2 in let own = c .before .before .before .before .before .before .loop .inv .1 in let cap = c .before .before .before .before .before .before .loop .inv .0 in let h = c .before .before .before .before .before .loop-test .taken in (cap, own, running-refuses g h _ refl (answered-here g h _ own _ cap _ (sym (c .before .accepts .ensures) ∙ c .if1 .left)), c .before .before .before .before .before .before .loop .inv .3)
 
 completed-requires : tie.Need-completed-requires Inv-loop μ-loop
 completed-requires c κs = let g = c .before .loop .inv .2 in (omega (arith, g .occurs .state-below, g .valid .states-high), omega (arith, g .few))
@@ -119,7 +119,7 @@ same-length c = let g = c .before .before .loop .inv .2 in let k = g .kept in se
 
 returns : tie.Need-returns Inv-loop μ-loop
 unfolding heldEvents
-returns c = let a = c .before .before .before .before .before .before .before .before .before .before .args in let r = day-answer (c .before .before .loop .inv .2) (c .before .loop-test .left) (a .c) (sym (c .before .before .before .before .before .size2 .ensures .0)) (ap (λ n. take n (a .c .buffer)) (sym (c .before .before .before .size3 .ensures .0))) in (c .completed .ensures ∙ r .0, r .1)
+returns c = let a = c .before .before .before .before .before .before .before .before .before .before .args in let r = running-answer (c .before .before .loop .inv .2) (c .before .loop-test .left) (a .c) (sym (c .before .before .before .before .before .size2 .ensures .0)) (ap (λ n. take n (a .c .buffer)) (sym (c .before .before .before .size3 .ensures .0))) in (c .completed .ensures ∙ r .0, r .1)
 
 pub go-spec : {M : Type 1} → statement M
 go-spec =

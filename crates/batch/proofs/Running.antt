@@ -120,7 +120,7 @@ module _ (a : Automaton) (q : ℕ) (buffer : List ℕ) (held e : ℕ) (shaped : 
 abbrev pub joined : List ℕ → ℕ → Run → Run
 joined done n r = record { emitted = done ++ r .emitted; refused = n + r .refused; state = r .state; buffer = r .buffer }
 
-pub record Day (a : Automaton) (t events out₀ : List ℕ) (q₀ : ℕ) (w₀ out : List ℕ) (q : ℕ) (buffer : List ℕ) (held written refused i : ℕ) : Type 0 where
+pub record Running (a : Automaton) (t events out₀ : List ℕ) (q₀ : ℕ) (w₀ out : List ℕ) (q : ℕ) (buffer : List ℕ) (held written refused i : ℕ) : Type 0 where
   pub valid : Valid a
   pub long : short a t ≡ false
   pub occurs : Occurs a q (take held buffer)
@@ -150,7 +150,7 @@ symbols-low a v buffer held p c i =
     (λ u. rw (pad-outside 6 (take held buffer) i (ltb-false i (length (take held buffer)) u)) (omega arith)))
 
 module _ {a : Automaton} {t events out₀ : List ℕ} {q₀ : ℕ} {w₀ out : List ℕ} {q : ℕ} {buffer : List ℕ} {held written refused i : ℕ}
-    (g : Day a t events out₀ q₀ w₀ out q buffer held written refused i) (h : i < length events) (e : ℕ) (ee : e ≡ getD events i 0) where
+    (g : Running a t events out₀ q₀ w₀ out q buffer held written refused i) (h : i < length events) (e : ℕ) (ee : e ≡ getD events i 0) where
   abbrev w : List ℕ
   w = take held buffer
 
@@ -158,9 +158,9 @@ module _ {a : Automaton} {t events out₀ : List ℕ} {q₀ : ℕ} {w₀ out : L
   rest-of = drop-cons events i 0 h ∙ ap₂ (λ x k. x ∷ drop k events) (sym ee) (sym (add-one i))
 
   -- a refused event
-  pub day-refuses : acceptsBy (rankingOf (a .classes) (a .symbols) .ranks) (a .symbols) (a .capacity) held e ≡ false
-      → Day a t events out₀ q₀ w₀ out q buffer held written (refused + 1) (i + 1)
-  day-refuses r =
+  pub running-refuses : acceptsBy (rankingOf (a .classes) (a .symbols) .ranks) (a .symbols) (a .capacity) held e ≡ false
+      → Running a t events out₀ q₀ w₀ out q buffer held written (refused + 1) (i + 1)
+  running-refuses r =
       let z : eventRefusal a w e ≡ 0 → ⊥ = λ x. clash (eq-eqb (eventRefusal a w e) 0 x) (sym (accepts-row a (g .valid) e w held (g .many)) ∙ r) in
       record {
         valid = g .valid;
@@ -292,10 +292,10 @@ module _ {a : Automaton} {t events out₀ : List ℕ} {q₀ : ℕ} {w₀ out : L
               sets-join out₀ 0 (d ++ m) r ∙
               ap (λ y. sets out₀ 0 y) (append-assoc d m r ∙ ap (λ y. d ++ y) emitted-effect)
 
-          pub day-accepts : out1 ≡ cond passes (set out written e) out → out2 ≡ sets out1 (written + n) (take (f .count) longer)
+          pub running-accepts : out1 ≡ cond passes (set out written e) out → out2 ≡ sets out1 (written + n) (take (f .count) longer)
               → left ≡ pad 6 (drop (f .count) (take all longer))
-              → Day a t events out₀ q₀ w₀ out2 (f .state) left (all - f .count) (written + n + f .count) refused (i + 1)
-          day-accepts o1 o2 o3 =
+              → Running a t events out₀ q₀ w₀ out2 (f .state) left (all - f .count) (written + n + f .count) refused (i + 1)
+          running-accepts o1 o2 o3 =
               let z = effect (byTable a t) a q w e in
               let l : left ≡ pad 6 (z .buffer) = o3 ∙ ap (pad 6) left-effect in
               let c : length (z .buffer) ≡ all - f .count = ap length (sym left-effect) ∙ length-drop (f .count) (take all longer) ∙ ap (λ y. y - f .count) (v .many) in
@@ -326,10 +326,10 @@ module _ {a : Automaton} {t events out₀ : List ℕ} {q₀ : ℕ} {w₀ out : L
                     sym (rw (u, state-effect) (simp append-assoc));
               }
 
-pub day-begins : (a : Automaton) (t events out : List ℕ) (q : ℕ) (buffer : List ℕ) (held : ℕ) → Valid a → short a t ≡ false → Occurs a q (take held buffer)
+pub running-begins : (a : Automaton) (t events out : List ℕ) (q : ℕ) (buffer : List ℕ) (held : ℕ) → Valid a → short a t ≡ false → Occurs a q (take held buffer)
     → length buffer ≡ 6 → buffer ≡ pad 6 (take held buffer) → length (take held buffer) ≡ held → held ≤ 6
-    → length events + held ≤ length out → Day a t events out q (take held buffer) out q buffer held 0 0 0
-day-begins a t events out q buffer held v long o s p m few room =
+    → length events + held ≤ length out → Running a t events out q (take held buffer) out q buffer held 0 0 0
+running-begins a t events out q buffer held v long o s p m few room =
     let r = runOf (byTable a t) a q (take held buffer) events in
     record {
       valid = v;
@@ -352,23 +352,23 @@ day-begins a t events out q buffer held v long o s p m few room =
 
 -- the end of a day
 module _ {a : Automaton} {t events out₀ : List ℕ} {q₀ : ℕ} {w₀ out : List ℕ} {q : ℕ} {buffer : List ℕ} {held written refused i : ℕ}
-    (g : Day a t events out₀ q₀ w₀ out q buffer held written refused i) (h : length events ≤ i) where
-  pub day-ends : runOf (byTable a t) a q₀ w₀ events ≡ record { emitted = g .done; refused = refused; state = q; buffer = take held buffer }
+    (g : Running a t events out₀ q₀ w₀ out q buffer held written refused i) (h : length events ≤ i) where
+  pub running-ends : runOf (byTable a t) a q₀ w₀ events ≡ record { emitted = g .done; refused = refused; state = q; buffer = take held buffer }
   unfolding runOf
-  day-ends =
+  running-ends =
       let last : i ≡ length events = omega (arith, g .within) in
       let none : drop i events ≡ [] = ap (λ k. drop k events) last ∙ drop-length events in
       g .led ∙ ap (λ y. joined (g .done) refused (runOf (byTable a t) a q (take held buffer) y)) none ∙
       rw (append-nil (g .done), add-zero refused)
 
   -- its answer and its output
-  pub day-answer : (c : Configuration) → c .state ≡ q₀ → heldEvents c ≡ w₀
+  pub running-answer : (c : Configuration) → c .state ≡ q₀ → heldEvents c ≡ w₀
       → (completedRun q buffer held written refused ≡ ranOf a t c events)
       × (out ≡ ranBufferOf a t c events out₀)
-  day-answer c es ew =
+  running-answer c es ew =
       let m : 0 + length (g .done) ≤ length out₀ = omega (arith, g .written-is, g .fits, g .enough, g .within) in
       let r : runOf (byTable a t) a (c .state) (heldEvents c) events ≡ record { emitted = g .done; refused = refused; state = q; buffer = take held buffer } =
-      ap₂ (λ s b. runOf (byTable a t) a s b events) es ew ∙ day-ends
+      ap₂ (λ s b. runOf (byTable a t) a s b events) es ew ∙ running-ends
       in (
         sym (ap (λ (y : Run). record { refusal = 0; configuration = configuration (y .state) (y .buffer); length = length (y .emitted); refused = y .refused }) r ∙
             rw (g .many, g .written-is, ← g .padded)),
@@ -378,7 +378,7 @@ module _ {a : Automaton} {t events out₀ : List ℕ} {q₀ : ℕ} {w₀ out : L
 
 -- an accepted event, from what the code finds: its ranking, its capacity, and the event as an index
 module _ {a : Automaton} {t events out₀ : List ℕ} {q₀ : ℕ} {w₀ out : List ℕ} {q : ℕ} {buffer : List ℕ} {held written refused i : ℕ}
-    (g : Day a t events out₀ q₀ w₀ out q buffer held written refused i) (h : i < length events)
+    (g : Running a t events out₀ q₀ w₀ out q buffer held written refused i) (h : i < length events)
     (ranking : Ranking) (own : ranking ≡ rankingOf (a .classes) (a .symbols)) (capacity : ℕ) (cap : capacity ≡ a .capacity) where
   abbrev e : ℕ
   e = getD events i 0
@@ -403,14 +403,14 @@ module _ {a : Automaton} {t events out₀ : List ℕ} {q₀ : ℕ} {w₀ out : L
         (has-room g h e refl (answered-here true acc)) p longer n (held + 1 - n) (rw f5 at ep) el en refl
 
 -- from a configuration that passed the rows
-pub day-starts : (a : Automaton) (t : List ℕ) (c : Configuration) → Clear a t c → (events out : List ℕ) (q held : ℕ) → q ≡ c .state → held ≡ c .held
-    → length events + c .held ≤ length out → Day a t events out q (take held (c .buffer)) out q (c .buffer) held 0 0 0
+pub running-starts : (a : Automaton) (t : List ℕ) (c : Configuration) → Clear a t c → (events out : List ℕ) (q held : ℕ) → q ≡ c .state → held ≡ c .held
+    → length events + c .held ≤ length out → Running a t events out q (take held (c .buffer)) out q (c .buffer) held 0 0 0
 unfolding heldEvents
-day-starts a t c k events out q held eq eh room =
+running-starts a t c k events out q held eq eh room =
     let v = facts a t c k in
     let s = place a t c k in
     rw (eq, eh)
-    (day-begins a t events out (c .state) (c .buffer) (c .held) v (k .table-long)
+    (running-begins a t events out (c .state) (c .buffer) (c .held) v (k .table-long)
     (record { state-below = s .state-below; buffer = held-buffer a c s })
     (s .buffer-length) (ap (λ (y : Configuration). y .buffer) (s .whole)) (s .held-length) (s .held-small) room)
 
