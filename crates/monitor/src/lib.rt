@@ -6,7 +6,6 @@ pub use checking::enter;
 pub use checking::winning;
 use configuration::Configuration;
 pub use event::receive;
-pub use event::shifted;
 use releasing::Ranking;
 
 // Whether a configuration is winning (document 01's guarded), or the refusing row with no.
