@@ -166,7 +166,7 @@ pub flag-stays : FlagStays
 flag-stays a t sv c h calls =
     let d = configurationAfter a t c calls in
     let g = good-all a t sv calls c (good-status a t sv c h) in
-    record { guarded = status-good a t sv d g; flagged = flagged a t sv d g }
+    record { told = status-good a t sv d g; flagged = flagged a t sv d g }
 
 -- what is read of a table
 module _ (a : Automaton) (t u : List ℕ) (s : short a t ≡ short a u) (b : SameBits a t u) where
