@@ -42,10 +42,11 @@ pub fn line_after(text: &[u8], at: usize, end: usize) -> usize
     end
 }
 
-// Where a label begins: after the first space, or at the colon where that comes first.
-pub fn label_start(space: usize, colon: usize) -> usize
+// Where a line's label begins: after the first space, or at the colon where that comes first.
+pub fn label_start(text: &[u8], colon: usize) -> usize
     ensures { λ r. ⌜ r ≤ colon ⌝ }
 {
+    let space = find(text, 0, b' ');
     if space < colon {
         return space + 1;
     }
@@ -118,7 +119,7 @@ fn repeat(out: &mut [u32], at: usize, value: u32, count: u32) -> usize
 }
 
 // The numbers of a text, in decimal; `V*N` is V, N times. Gives how many they are.
-pub fn numbers(text: &[u8], out: &mut [u32]) -> usize
+fn numbers(text: &[u8], out: &mut [u32]) -> usize
     ensures { λ r. ⌜ r ≤ length (now (out .entry)) ⌝ }
 {
     let mut count: usize = 0;
@@ -136,9 +137,17 @@ pub fn numbers(text: &[u8], out: &mut [u32]) -> usize
     count
 }
 
+// The numbers of a text, also as bytes. Gives how many they are.
+pub fn parse(text: &[u8], values: &mut [u32], bytes: &mut [u8]) -> usize
+    ensures { λ r. ⌜ (r ≤ length (now (values .entry))) × (r ≤ length (now (bytes .entry))) ⌝ }
+{
+    let count = numbers(text, values);
+    as_bytes(&values[..count], bytes)
+}
+
 // The numbers as bytes. Gives how many have room.
 pub fn as_bytes(values: &[u32], out: &mut [u8]) -> usize
-    ensures { λ r. ⌜ r ≤ length (now (out .entry)) ⌝ }
+    ensures { λ r. ⌜ (r ≤ length (now (values .entry))) × (r ≤ length (now (out .entry))) ⌝ }
 {
     let mut i: usize = 0;
     while i < values.len() {

@@ -14,12 +14,11 @@ use crate::codec;
 use crate::days;
 use crate::events;
 use crate::games;
-use crate::line::as_bytes;
 use crate::line::find;
 use crate::line::find_last;
 use crate::line::label_start;
 use crate::line::line_after;
-use crate::line::numbers;
+use crate::line::parse;
 use crate::solver;
 use automaton::Automaton;
 use configuration::Configuration;
@@ -68,15 +67,13 @@ fn line(text: &[u8], values: &mut [u32], bytes: &mut [u8], table: &mut [u32], le
         return left;
     }
     let colon = find_last(text, b':');
-    let space = find(text, 0, b' ');
-    let from = label_start(space, colon);
-    let count = numbers(&text[colon..], values);
-    let stored = as_bytes(&values[..count], bytes);
+    let from = label_start(text, colon);
+    let count = parse(&text[colon..], values, bytes);
     step(
         text[0],
         &text[from..colon],
         &values[..count],
-        &bytes[..stored],
+        &bytes[..count],
         table,
         left,
     )

@@ -7,6 +7,7 @@ use crate::show::refusal;
 use crate::show::text;
 use crate::show::words;
 use automaton::Automaton;
+use winning::Solution;
 
 fn counted(label: &[u8], a: Automaton) {
     let c = winning::buffers_count(a);
@@ -16,14 +17,18 @@ fn counted(label: &[u8], a: Automaton) {
     text(b" buffers\n");
 }
 
+fn show_solution(s: Solution) {
+    field(b" buffers, refusal ", base::size(s.refusal));
+    field(b", rounds ", s.rounds as usize);
+}
+
 // What solving into a lent table gives, and the table afterwards.
 fn solved(label: &[u8], a: Automaton, table: &mut [u32]) {
     let c = winning::buffers_count(a);
     let s = winning::solve(a, table);
     text(label);
     field(b": ", c.count as usize);
-    field(b" buffers, refusal ", base::size(s.refusal));
-    field(b", rounds ", s.rounds as usize);
+    show_solution(s);
     words(b", table", table);
     end();
 }

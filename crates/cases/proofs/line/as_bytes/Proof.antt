@@ -14,51 +14,51 @@ Inv-loop values out₀ i₀ out i = (i ≤ length values) × (i ≤ length out�
 abbrev μ-loop : tie.MeasureT-loop
 μ-loop values out₀ i₀ out i = length values - i
 
--- src/line.rt:123:5
+-- src/line.rt:153:5
 loop-holds : tie.Need-loop-holds Inv-loop μ-loop
 loop-holds c = search needs
 
--- src/line.rt:125:13
+-- src/line.rt:155:13
 same-length : tie.Need-same-length Inv-loop μ-loop
 same-length c = search needs
 
--- src/line.rt:125:13
+-- src/line.rt:155:13
 returns : tie.Need-returns Inv-loop μ-loop
 returns c = search needs
 
--- src/line.rt:127:19
+-- src/line.rt:157:19
 mul-out : tie.Need-mul-out Inv-loop μ-loop
 mul-out c = search needs
 
--- src/line.rt:127:19
+-- src/line.rt:157:19
 shared-slice-read-out : tie.Need-shared-slice-read-out Inv-loop μ-loop
 shared-slice-read-out c = search needs
 
--- src/line.rt:127:18
+-- src/line.rt:157:18
 cast-out : tie.Need-cast-out Inv-loop μ-loop
 cast-out c = search needs
 
--- src/line.rt:127:9
+-- src/line.rt:157:9
 slice-write-out : tie.Need-slice-write-out Inv-loop μ-loop
 slice-write-out c = search needs
 
--- src/line.rt:128:13
+-- src/line.rt:158:13
 add-i : tie.Need-add-i Inv-loop μ-loop
 add-i c = search needs
 
--- src/line.rt:123:5
+-- src/line.rt:153:5
 loop-less : tie.Need-loop-less Inv-loop μ-loop
 loop-less c = search needs
 
--- src/line.rt:123:5
+-- src/line.rt:153:5
 loop-again : tie.Need-loop-again Inv-loop μ-loop
 loop-again c = search needs
 
--- src/line.rt:119:1
+-- src/line.rt:149:1
 same-length-2 : tie.Need-same-length-2 Inv-loop μ-loop
 same-length-2 c = search needs
 
--- src/line.rt:119:1
+-- src/line.rt:149:1
 returns-2 : tie.Need-returns-2 Inv-loop μ-loop
 returns-2 c = search needs
 
