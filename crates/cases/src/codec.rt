@@ -38,6 +38,14 @@ fn write_number(v: u32) {
     end();
 }
 
+fn show_automaton(a: Automaton) {
+    field(b": states ", base::size(a.states));
+    field(b" symbols ", base::size(a.symbols));
+    field(b" capacity ", base::size(a.capacity));
+    field(b" initial ", base::size(a.initial));
+    end();
+}
+
 // What reading a sheet gives.
 fn read_sheet(label: &[u8], s: &[u8]) -> Automaton {
     text(label);
@@ -47,11 +55,7 @@ fn read_sheet(label: &[u8], s: &[u8]) -> Automaton {
         refused(p.refusal, p.place);
         return a;
     }
-    field(b": states ", base::size(a.states));
-    field(b" symbols ", base::size(a.symbols));
-    field(b" capacity ", base::size(a.capacity));
-    field(b" initial ", base::size(a.initial));
-    end();
+    show_automaton(a);
     a
 }
 

@@ -17,13 +17,23 @@ fn show_configuration(row: u8, c: Configuration) {
     bytes(b", buffer", &c.buffer);
 }
 
+fn show_emitted(emitted: [u8; 7], count: u8) {
+    bytes(b", emitted", &emitted);
+    field(b", count ", base::size(count));
+}
+
+fn show_counts(length: usize, refused: usize) {
+    field(b", length ", length);
+    field(b", refused ", refused);
+}
+
 // One event with its whole answer.
 fn event(a: Automaton, table: &[u32], c: Configuration, e: u32) -> Configuration {
     let r = monitor::receive(a, table, c, e);
     field(b"  event ", e as usize);
     show_configuration(r.refusal, r.configuration);
-    bytes(b", emitted", &r.emitted);
-    field(b", count ", base::size(r.count));
+    let emitted = r.emitted;
+    show_emitted(emitted, r.count);
     winning(r.winning);
     end();
     r.configuration
@@ -93,8 +103,7 @@ fn ran(
     let r = batch::run(a, table, c, events, out);
     text(label);
     show_configuration(r.refusal, r.configuration);
-    field(b", length ", r.length);
-    field(b", refused ", r.refused);
+    show_counts(r.length, r.refused);
     bytes(b", output", out);
     end();
     r.configuration

@@ -160,16 +160,20 @@ fn described(states: u8, symbols: u8, first: u8) -> Shape {
     }
 }
 
+fn show_agreed(all: Agreed, total: usize) {
+    field(b": ", all.count);
+    field(b" of ", total);
+    flag(b" sheets agree, more sheets ", all.more);
+    end();
+}
+
 // Every sheet of a shape, from the one whose flags and next states are 0.
 fn every(label: &[u8], s: &mut [u8], total: usize, first: u8) {
     let states = nth_byte(s, 0);
     let symbols = nth_byte(s, 1);
     let all = compared(s, described(states, symbols, first), total);
     text(label);
-    field(b": ", all.count);
-    field(b" of ", total);
-    flag(b" sheets agree, more sheets ", all.more);
-    end();
+    show_agreed(all, total);
 }
 
 // The first two numbers are how many sheets there are, and the first controllable symbol.
