@@ -1,22 +1,22 @@
 // The game, and the game against the solver on every automaton of some small shapes.
-use crate::events::start;
-use crate::samples;
-use crate::show::answer;
-use crate::show::number;
+use crate::line::as_bytes;
+use crate::line::nth;
+use crate::line::nth_byte;
+use crate::show::end;
+use crate::show::field;
+use crate::show::flag;
+use crate::show::refusal;
 use crate::show::text;
 use automaton::Automaton;
 use configuration::Configuration;
 
 fn judged(label: &[u8], a: Automaton, c: Configuration) {
-    text(label);
     let v = game::judge(a, c);
-    text(b": refusal ");
-    number(base::size(v.refusal));
-    text(b", may rest ");
-    answer(v.may_rest);
-    text(b", can rest ");
-    answer(v.can_rest);
-    text(b"\n");
+    text(label);
+    refusal(v.refusal);
+    flag(b", may rest ", v.may_rest);
+    flag(b", can rest ", v.can_rest);
+    end();
 }
 
 // The greatest value at place i of a sheet whose next states begin at `next`: a flag or a state.
@@ -88,7 +88,7 @@ fn all_agree(a: Automaton, table: &[u32; 32], buffers: usize, first: u8, last: u
     if 16 < buffers {
         return false;
     }
-    let mut c = start(a);
+    let mut c = configuration::initial(a).configuration;
     let mut j: usize = 0;
     while j < buffers {
         if !agrees(a, table[2 * j], table[2 * j + 1], c) {
@@ -111,192 +111,90 @@ fn sheet_agrees(s: &[u8], first: u8, last: u8) -> bool {
     all_agree(a, &table, buffers as usize, first, last)
 }
 
-// A shape of sheets: its greatest state, its controllable symbols, the places where its flags and next states begin, and how many
-// sheets have it.
+// How many sheets agreed, and whether there are more of the shape.
+struct Agreed {
+    count: usize,
+    more: bool,
+}
+
+// A shape of sheets: its greatest state, the controllable symbols, and the places where its flags and next states begin.
 struct Shape {
     state: u8,
     first: u8,
     last: u8,
     flags: usize,
     next: usize,
-    total: usize,
 }
 
-fn told(label: &[u8], agreed: usize, total: usize, more: bool) {
-    text(label);
-    text(b": ");
-    number(agreed);
-    text(b" of ");
-    number(total);
-    text(b" sheets agree, more sheets ");
-    answer(more);
-    text(b"\n");
-}
-
-// Every sheet of a shape, from the one whose flags and next states are 0 to the first that does not agree.
-fn every(label: &[u8], s: &mut [u8], shape: Shape) {
-    let total = shape.total;
+// So many sheets of a shape, from a given one to the first that does not agree.
+fn compared(s: &mut [u8], shape: Shape, total: usize) -> Agreed {
     let mut more = true;
     let mut i: usize = 0;
     while i < total {
         if !sheet_agrees(s, shape.first, shape.last) {
-            told(label, i, total, more);
-            return;
+            break;
         }
         more = next_sheet(s, shape.state, shape.flags, shape.next);
         i = i + 1;
     }
-    told(label, total, total, more);
+    Agreed { count: i, more }
 }
 
-fn shapes() {
+// A number less one; 0 has none.
+fn below(n: u8) -> u8 {
+    if n == 0 {
+        return 0;
+    }
+    n - 1
+}
+
+// The shape of a sheet of so many states and symbols, the controllable ones from `first` on.
+fn described(states: u8, symbols: u8, first: u8) -> Shape {
+    let flags = 4 + base::size(symbols);
+    Shape {
+        state: below(states),
+        first,
+        last: below(symbols),
+        flags,
+        next: flags + base::size(states),
+    }
+}
+
+fn show_agreed(all: Agreed, total: usize) {
+    field(b": ", all.count);
+    field(b" of ", total);
+    flag(b" sheets agree, more sheets ", all.more);
+    end();
+}
+
+// Every sheet of a shape, from the one whose flags and next states are 0.
+fn every(label: &[u8], s: &mut [u8], total: usize, first: u8) {
+    let states = nth_byte(s, 0);
+    let symbols = nth_byte(s, 1);
+    let all = compared(s, described(states, symbols, first), total);
+    text(label);
+    show_agreed(all, total);
+}
+
+// The first two numbers are how many sheets there are, and the first controllable symbol.
+fn many(label: &[u8], values: &[u32], s: &[u8]) {
+    if values.len() < 2 {
+        return;
+    }
+    let mut first_sheet = [0u8; 32];
+    let length = as_bytes(&values[2..], &mut first_sheet);
     every(
-        b"2 states, 1 uncontrollable, 1 controllable, capacity 3",
-        &mut [2, 2, 3, 0, 0, 1, 0, 0, 0, 0, 0, 0],
-        Shape {
-            state: 1,
-            first: 1,
-            last: 1,
-            flags: 6,
-            next: 8,
-            total: 64,
-        },
-    );
-    every(
-        b"3 states, 1 uncontrollable, 1 controllable, capacity 3",
-        &mut [3, 2, 3, 0, 0, 1, 0, 0, 0, 0, 0, 0, 0, 0, 0],
-        Shape {
-            state: 2,
-            first: 1,
-            last: 1,
-            flags: 6,
-            next: 9,
-            total: 5832,
-        },
-    );
-    every(
-        b"2 states, 2 uncontrollable, 1 controllable, capacity 2",
-        &mut [2, 3, 2, 0, 0, 0, 1, 0, 0, 0, 0, 0, 0, 0, 0],
-        Shape {
-            state: 1,
-            first: 2,
-            last: 2,
-            flags: 7,
-            next: 9,
-            total: 256,
-        },
-    );
-    every(
-        b"2 states, 1 uncontrollable, 2 controllable, capacity 2",
-        &mut [2, 3, 2, 0, 0, 1, 1, 0, 0, 0, 0, 0, 0, 0, 0],
-        Shape {
-            state: 1,
-            first: 1,
-            last: 2,
-            flags: 7,
-            next: 9,
-            total: 256,
-        },
-    );
-    every(
-        b"2 states, 2 uncontrollable, 2 controllable, capacity 3",
-        &mut [2, 4, 3, 0, 0, 0, 1, 1, 0, 0, 0, 0, 0, 0, 0, 0, 0, 0],
-        Shape {
-            state: 1,
-            first: 2,
-            last: 3,
-            flags: 8,
-            next: 10,
-            total: 1024,
-        },
-    );
-    every(
-        b"2 states, 2 uncontrollable, capacity 1",
-        &mut [2, 2, 1, 0, 0, 0, 0, 0, 0, 0, 0, 0],
-        Shape {
-            state: 1,
-            first: 0,
-            last: 0,
-            flags: 6,
-            next: 8,
-            total: 64,
-        },
-    );
-    every(
-        b"2 states, 2 controllable, capacity 2",
-        &mut [2, 2, 2, 0, 1, 1, 0, 0, 0, 0, 0, 0],
-        Shape {
-            state: 1,
-            first: 0,
-            last: 1,
-            flags: 6,
-            next: 8,
-            total: 64,
-        },
+        label,
+        &mut first_sheet[..length],
+        nth(values, 0, 0) as usize,
+        nth_byte(s, 1),
     );
 }
 
-fn limits() {
-    let three = Configuration {
-        state: 0,
-        held: 3,
-        buffer: [0, 0, 0, 0, 0, 0],
-    };
-    let four = Configuration {
-        state: 0,
-        held: 4,
-        buffer: [0, 0, 0, 0, 0, 0],
-    };
-    let wrong = Configuration {
-        state: 5,
-        held: 0,
-        buffer: [0, 0, 0, 0, 0, 0],
-    };
-    let page = Configuration {
-        state: 0,
-        held: 1,
-        buffer: [3, 0, 0, 0, 0, 0],
-    };
-    let many = samples::many_held();
-    judged(b"3 held", many, three);
-    judged(b"row 17, 4 held", many, four);
-    judged(
-        b"row 17, 5 states",
-        samples::five_states(),
-        start(samples::five_states()),
-    );
-    judged(
-        b"row 13 before 17, state 5 of 5",
-        samples::five_states(),
-        wrong,
-    );
-    judged(
-        b"row 17, 3 uncontrollable symbols",
-        samples::three_uncontrollable(),
-        page,
-    );
-    judged(
-        b"row 11 before 13, a broken record",
-        samples::broken(),
-        wrong,
-    );
-}
-
-pub fn games() {
-    let answered = Configuration {
-        state: 0,
-        held: 1,
-        buffer: [1, 0, 0, 0, 0, 0],
-    };
-    judged(b"V, initially", samples::v(), start(samples::v()));
-    judged(b"V, Answer held", samples::v(), answered);
-    let asked = Configuration {
-        state: 1,
-        held: 1,
-        buffer: [1, 0, 0, 0, 0, 0],
-    };
-    judged(b"V, Answer held in state 1", samples::v(), asked);
-    judged(b"W, initially", samples::w(), start(samples::w()));
-    limits();
-    shapes();
+pub fn case(word: u8, label: &[u8], values: &[u32], s: &[u8], a: Automaton, c: Configuration) {
+    match word {
+        b'j' => judged(label, a, c),
+        b'm' => many(label, values, s),
+        _ => {}
+    }
 }

@@ -1,16 +1,16 @@
-// The test program: runs the calls on cases of document 01 and prints a line for each, with what came out.
+// The test program. Standard input has a case on each line (script.rt says how a line is read); the program runs the calls on it and
+// prints what came out.
 mod codec;
-mod day;
+mod days;
 mod events;
 mod games;
-mod samples;
+mod line;
+mod script;
 mod show;
 mod solver;
 
 fn main() {
-    codec::codec();
-    solver::solver();
-    games::games();
-    events::events();
-    day::days();
+    let mut text = [0u8; 32768];
+    let count = io::read_full(0, &mut text);
+    script::cases(&text[..count]);
 }

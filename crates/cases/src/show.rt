@@ -8,32 +8,52 @@ pub fn number(n: usize) {
     io::print_decimal(1, n as u64);
 }
 
-pub fn bytes(s: &[u8]) {
-    let mut i: usize = 0;
-    while i < s.len() {
-        text(b" ");
-        number(base::size(s[i]));
-        i = i + 1;
-    }
+// A number after its label.
+pub fn field(label: &[u8], n: usize) {
+    text(label);
+    number(n);
 }
 
-pub fn word(n: u32) {
-    io::print_decimal(1, n as u64);
+fn word_field(label: &[u8], n: u32) {
+    field(label, n as usize);
 }
 
-pub fn words(s: &[u32]) {
-    let mut i: usize = 0;
-    while i < s.len() {
-        text(b" ");
-        word(s[i]);
-        i = i + 1;
-    }
+pub fn refusal(row: u8) {
+    field(b": refusal ", base::size(row));
 }
 
-pub fn answer(yes: bool) {
+pub fn end() {
+    text(b"\n");
+}
+
+// A yes or no after its label.
+pub fn flag(label: &[u8], yes: bool) {
+    text(label);
     if yes {
         text(b"yes");
     } else {
         text(b"no");
+    }
+}
+
+pub fn winning(yes: bool) {
+    flag(b", winning ", yes);
+}
+
+pub fn bytes(label: &[u8], s: &[u8]) {
+    text(label);
+    let mut i: usize = 0;
+    while i < s.len() {
+        field(b" ", base::size(s[i]));
+        i = i + 1;
+    }
+}
+
+pub fn words(label: &[u8], s: &[u32]) {
+    text(label);
+    let mut i: usize = 0;
+    while i < s.len() {
+        word_field(b" ", s[i]);
+        i = i + 1;
     }
 }

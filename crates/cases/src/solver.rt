@@ -1,73 +1,86 @@
 // The solver.
-use crate::samples;
-use crate::show::number;
+use crate::line::nth;
+use crate::line::places;
+use crate::show::end;
+use crate::show::field;
+use crate::show::refusal;
 use crate::show::text;
 use crate::show::words;
 use automaton::Automaton;
-
-// How many buffers there are, what solving gives, and the lent table afterwards.
-fn solved(label: &[u8], a: Automaton, table: &mut [u32]) {
-    text(label);
-    text(b": ");
-    number(winning::buffers_count(a).count as usize);
-    text(b" buffers, refusal ");
-    let s = winning::solve(a, table);
-    number(base::size(s.refusal));
-    text(b", rounds ");
-    number(s.rounds as usize);
-    text(b", table");
-    words(table);
-    text(b"\n");
-}
+use winning::Solution;
 
 fn counted(label: &[u8], a: Automaton) {
-    text(label);
     let c = winning::buffers_count(a);
-    text(b": refusal ");
-    number(base::size(c.refusal));
-    text(b", ");
-    number(c.count as usize);
+    text(label);
+    refusal(c.refusal);
+    field(b", ", c.count as usize);
     text(b" buffers\n");
 }
 
-pub fn solver() {
-    counted(b"V", samples::v());
-    counted(
-        b"8 controllable symbols, capacity 6",
-        samples::most_buffers(),
-    );
-    counted(
-        b"no controllable symbol, capacity 6",
-        samples::all_uncontrollable(),
-    );
-    counted(b"row 11, a broken record", samples::broken());
-    let mut four = [9u32; 4];
-    solved(b"V", samples::v(), &mut four);
-    let mut sixteen = [9u32; 16];
-    solved(b"W, two places more", samples::w(), &mut sixteen);
-    let mut rounds = [9u32; 4];
-    solved(b"two rounds a buffer", samples::two_rounds(), &mut rounds);
-    let mut two = [9u32; 2];
-    solved(
-        b"no controllable symbol",
-        samples::all_uncontrollable(),
-        &mut two,
-    );
-    let mut six = [9u32; 6];
-    solved(
-        b"no uncontrollable symbol",
-        samples::all_controllable(),
-        &mut six,
-    );
-    let mut fourteen = [9u32; 14];
-    solved(b"six held", samples::six_held(), &mut fourteen);
-    let mut short = [9u32; 3];
-    solved(b"row 12, V with 3 places", samples::v(), &mut short);
-    let mut shorter = [9u32; 13];
-    solved(b"row 12, W with 13 places", samples::w(), &mut shorter);
-    solved(
-        b"row 11 before 12, a broken record with 3 places",
-        samples::broken(),
-        &mut short,
-    );
+fn show_solution(s: Solution) {
+    field(b" buffers, refusal ", base::size(s.refusal));
+    field(b", rounds ", s.rounds as usize);
+}
+
+// What solving into a lent table gives, and the table afterwards.
+fn solved(label: &[u8], a: Automaton, table: &mut [u32]) {
+    let c = winning::buffers_count(a);
+    let s = winning::solve(a, table);
+    text(label);
+    field(b": ", c.count as usize);
+    show_solution(s);
+    words(b", table", table);
+    end();
+}
+
+// Stores the numbers in the table, and 9s behind them.
+fn fill(table: &mut [u32], values: &[u32]) {
+    let mut i: usize = 0;
+    while i < table.len() {
+        table[i] = nth(values, i, 9);
+        i = i + 1;
+    }
+}
+
+// The solver over so many places of the table, with or without a word.
+fn solve(label: &[u8], a: Automaton, table: &mut [u32], places: usize, shown: bool) -> usize {
+    if table.len() < places {
+        return 0;
+    }
+    if shown {
+        solved(label, a, &mut table[..places]);
+    } else {
+        winning::solve(a, &mut table[..places]);
+    }
+    places
+}
+
+// The table with these numbers.
+fn given(table: &mut [u32], values: &[u32]) -> usize {
+    fill(table, values);
+    values.len()
+}
+
+// How many places the table has after a line.
+pub fn case(
+    word: u8,
+    label: &[u8],
+    values: &[u32],
+    a: Automaton,
+    table: &mut [u32],
+    before: usize,
+) -> usize {
+    match word {
+        b'c' => {
+            counted(label, a);
+            before
+        }
+        b't' => {
+            fill(table, &[]);
+            solve(label, a, table, places(values), true)
+        }
+        b'l' => solve(label, a, table, places(values), false),
+        b'b' => given(table, values),
+        _ => before,
+    }
 }

@@ -1,5 +1,5 @@
-use Prim.Native.Nat.{_≤_, _-_}
 use lib.ListN.{length}
+use Prim.Native.Nat.{_≤_, _-_}
 use native.Mathlib.Omega.{arith}
 use borrow.Author.Needs.{needs}
 use Rattle.cases.proofs.events.in_turn.Statement.{statement}
@@ -7,55 +7,52 @@ use Rattle.cases.proofs.events.in_turn.Tie as tie
 use Rattle.cases.proofs.events.in_turn.Reads as reads
 use Rattle.cases.proofs.events.in_turn.Lts as lts
 use Rattle.cases.proofs.events.event.Reads as event-reads
+use Rattle.cases.proofs.show.end.Reads as end-reads
 use Rattle.cases.proofs.show.text.Reads as text-reads
 
 abbrev Inv-loop : tie.InvT-loop
-Inv-loop label a table es now₀ i₀ now i = i ≤ length es
+Inv-loop label a table events now₀ i₀ now i = i ≤ length events
 
 abbrev μ-loop : tie.MeasureT-loop
-μ-loop label a table es now₀ i₀ now i = length es - i
+μ-loop label a table events now₀ i₀ now i = length events - i
 
--- src/events.rt:45:5
+-- src/events.rt:40:5
 text-requires : tie.Need-text-requires Inv-loop μ-loop
 text-requires c κs = search needs
 
--- src/events.rt:46:10
-slice-aggregate-text : tie.Need-slice-aggregate-text Inv-loop μ-loop
-slice-aggregate-text c = search needs
+-- src/events.rt:41:5
+end-requires : tie.Need-end-requires Inv-loop μ-loop
+end-requires c κs = search needs
 
--- src/events.rt:46:5
-text-requires-2 : tie.Need-text-requires-2 Inv-loop μ-loop
-text-requires-2 c κs = search needs
-
--- src/events.rt:49:5
+-- src/events.rt:44:5
 loop-holds : tie.Need-loop-holds Inv-loop μ-loop
-loop-holds c = omega arith
+loop-holds c = search needs
 
--- src/events.rt:50:36
+-- src/events.rt:45:36
 mul-event : tie.Need-mul-event Inv-loop μ-loop
 mul-event c = search needs
 
--- src/events.rt:50:36
+-- src/events.rt:45:36
 shared-slice-read-event : tie.Need-shared-slice-read-event Inv-loop μ-loop
 shared-slice-read-event c = search needs
 
--- src/events.rt:50:9
+-- src/events.rt:45:9
 event-requires : tie.Need-event-requires Inv-loop μ-loop
 event-requires c κs = search needs
 
--- src/events.rt:51:13
+-- src/events.rt:46:13
 add-i : tie.Need-add-i Inv-loop μ-loop
 add-i c = search needs
 
--- src/events.rt:49:5
+-- src/events.rt:44:5
 loop-less : tie.Need-loop-less Inv-loop μ-loop
 loop-less c = search needs
 
--- src/events.rt:49:5
+-- src/events.rt:44:5
 loop-again : tie.Need-loop-again Inv-loop μ-loop
 loop-again c = search needs
 
--- src/events.rt:38:1
+-- src/events.rt:33:1
 returns : tie.Need-returns Inv-loop μ-loop
 returns c = search needs
 
@@ -66,8 +63,7 @@ in-turn-spec =
     Inv-loop
     μ-loop
     text-requires
-    slice-aggregate-text
-    text-requires-2
+    end-requires
     loop-holds
     mul-event
     shared-slice-read-event
