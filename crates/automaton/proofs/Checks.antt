@@ -1,17 +1,17 @@
 -- Laws of the record's check.
-use Prim.Native.Nat.{ℕ, zero, suc, _+_, _-_, _*_, _<_, _≤_}
-use mathlib.Core.Path.{_≡_, refl, sym, _∙_, ap, ap₂}
-use mathlib.Core.Bool.{Bool, true, false, cond, not}
-use mathlib.Core.List.{List, [], _∷_, _++_, append-assoc}
+use Prim.Native.Nat.{ℕ, zero, suc, _+_, _-_, _<_, _≤_}
+use mathlib.Core.Path.{_≡_, refl, _∙_, ap}
+use mathlib.Core.Bool.{Bool, true, false}
+use mathlib.Core.List.{List, _∷_, _++_}
 use native.Mathlib.Numerals.{add-one}
 use native.Mathlib.Omega.{arith}
-use lib.ListN.{length, getD, set, replicate, length-replicate, getD-replicate, List·getD-append}
-use lib.Seq.{set-at, getD-append-add}
-use lib.Dec.{eqb, leb, ltb}
-use borrow.Author.Tests.{lt-ltb, le-ltb, le-leb, lt-leb, eq-eqb, ne-eqb}
-use Rattle.base.specs.Each.{each, count}
+use lib.ListN.{getD, set, replicate, length-replicate}
+use lib.Seq.{set-at}
+use lib.Dec.{ltb}
+use borrow.Author.Tests.{lt-ltb, le-ltb, eq-eqb, ne-eqb}
+use Rattle.base.specs.Each.{each}
 use Rattle.base.proofs.Ranges.{each-falls, each-keeps, count-adds, count-skips}
-use Rattle.automaton.specs.Parts.{rangesHold, belowFrom, limitsOf, rowBelow, rowsBelow, controllableIn, tablesHold}
+use Rattle.automaton.specs.Parts.{controllableAt, controllableIn, goes, belowFrom, rowBelow, rowsBelow}
 
 module _ (l : List ℕ) (from i limit : ℕ) (fine : Bool) (so-far : fine ≡ belowFrom l from i limit) where
   pub below-falls : limit ≤ getD l (from + i) 0 → false ≡ belowFrom l from (i + 1) limit
@@ -25,18 +25,18 @@ module _ (l : List ℕ) (from i limit : ℕ) (fine : Bool) (so-far : fine ≡ be
 module _ (next : List ℕ) (q e : ℕ) (limits : List ℕ) where
   -- the first e symbols of a row
   unfoldable pub rowBelowTo : Bool
-  rowBelowTo = each e (λ i. ltb (getD next (q * 16 + i) 0) (getD limits i 0))
+  rowBelowTo = each e (λ i. ltb (goes next q i) (getD limits i 0))
 
 module _ (next : List ℕ) (q e : ℕ) (limits : List ℕ) (fine : Bool) (so-far : fine ≡ rowBelowTo next q e limits) where
-  pub row-falls : getD limits e 0 ≤ getD next (q * 16 + e) 0 → false ≡ rowBelowTo next q (e + 1) limits
+  pub row-falls : getD limits e 0 ≤ goes next q e → false ≡ rowBelowTo next q (e + 1) limits
   unfolding rowBelowTo
   row-falls h =
-      each-falls (λ i. ltb (getD next (q * 16 + i) 0) (getD limits i 0)) e fine so-far (le-ltb (getD next (q * 16 + e) 0) (getD limits e 0) h)
+      each-falls (λ i. ltb (goes next q i) (getD limits i 0)) e fine so-far (le-ltb (goes next q e) (getD limits e 0) h)
 
-  pub row-keeps : getD next (q * 16 + e) 0 < getD limits e 0 → fine ≡ rowBelowTo next q (e + 1) limits
+  pub row-keeps : goes next q e < getD limits e 0 → fine ≡ rowBelowTo next q (e + 1) limits
   unfolding rowBelowTo
   row-keeps h =
-      each-keeps (λ i. ltb (getD next (q * 16 + i) 0) (getD limits i 0)) e fine so-far (lt-ltb (getD next (q * 16 + e) 0) (getD limits e 0) h)
+      each-keeps (λ i. ltb (goes next q i) (getD limits i 0)) e fine so-far (lt-ltb (goes next q e) (getD limits e 0) h)
 
 module _ (next : List ℕ) (from q : ℕ) (limits : List ℕ) (fine : Bool) (so-far : fine ≡ rowsBelow next from q limits) where
   pub rows-fall : rowBelow next (from + q) limits ≡ false → false ≡ rowsBelow next from (q + 1) limits
@@ -51,11 +51,11 @@ module _ (next : List ℕ) (from q : ℕ) (limits : List ℕ) (fine : Bool) (so-
 module _ (classes : List ℕ) (e n : ℕ) (so-far : n ≡ controllableIn classes e) where
   pub counted : getD classes e 0 ≡ 1 → n + 1 ≡ controllableIn classes (e + 1)
   unfolding controllableIn
-  counted h = count-adds (λ e. eqb (getD classes e 0) 1) e n so-far (eq-eqb (getD classes e 0) 1 h)
+  counted h = count-adds (controllableAt classes) e n so-far (eq-eqb (getD classes e 0) 1 h)
 
   pub passed : (getD classes e 0 ≡ 1 → ⊥) → n ≡ controllableIn classes (e + 1)
   unfolding controllableIn
-  passed h = count-skips (λ e. eqb (getD classes e 0) 1) e n so-far (ne-eqb (getD classes e 0) 1 h)
+  passed h = count-skips (controllableAt classes) e n so-far (ne-eqb (getD classes e 0) 1 h)
 
 -- one more limit
 repeat-end : (k n : ℕ) (rest : List ℕ) → replicate k n ++ n ∷ rest ≡ replicate (suc k) n ++ rest

@@ -1,33 +1,40 @@
--- The check by parts is row 11's predicate.
-use Prim.Native.Nat.{ℕ, zero, suc, _+_, _-_, _*_, _<_, _≤_}
-use mathlib.Core.Path.{_≡_, refl, sym, _∙_, ap, ap₂}
-use mathlib.Core.Bool.{Bool, true, false, cond, _&&_, and-assoc, and-true}
+-- Lists and next states in the parts in which loops go through them, and row 11.
+use Prim.Native.Nat.{ℕ, _+_, _-_, _<_, _≤_}
+use mathlib.Core.Path.{_≡_, sym, _∙_, ap, ap₂}
+use mathlib.Core.Bool.{Bool, true, false, cond, _&&_}
 use mathlib.Core.List.{List, _++_}
 use native.Mathlib.Nat.{zero-add}
 use native.Mathlib.Omega.{arith}
 use lib.ListN.{length, getD, replicate, length-replicate, getD-replicate, List·getD-append}
 use lib.Seq.{getD-append-add}
-use lib.Dec.{eqb, leb, ltb}
-use borrow.Author.Tests.{lt-ltb, le-ltb, eq-eqb, leb-true, ltb-true, ltb-false}
-use Rattle.base.specs.Each.{each, count}
+use lib.Dec.{leb, ltb}
+use borrow.Author.Tests.{lt-ltb, le-ltb, le-leb, lt-leb, eq-eqb, leb-true, ltb-true, ltb-false}
+use Rattle.base.specs.Each.{each}
 use Rattle.base.proofs.Bools.{by, and-left, and-right, and-both}
 use Rattle.base.proofs.Ranges.{each-split, each-same}
-use Rattle.automaton.specs.Automaton.{Automaton, class, controllable, controllables, flag, step, stands, shaped, ranged, classesStand, flagsStand, nextStand, mostClass, valid}
-use Rattle.automaton.specs.Parts.{rangesHold, belowFrom, limitsOf, rowBelow, rowsBelow, controllableIn, tablesHold}
+use Rattle.automaton.specs.Parts.{controllableIn, goes, stands, placesStand, belowFrom, limitsOf, rowBelow, rowsBelow}
+use Rattle.automaton.specs.Automaton.{Automaton, shaped, ranged, classesStand, flagsStand, nextStand, tablesStand, valid}
 
--- a list whose used places are below a limit and whose other places are 0
-used-below : (l : List ℕ) (size used limit : ℕ) → used ≤ size
-    → each size (λ i. stands (ltb i used) limit (getD l i 0)) ≡ (belowFrom l 0 used limit && belowFrom l used (size - used) 1)
-unfolding belowFrom stands
-used-below l size used limit h =
-    let e : size ≡ used + (size - used) = omega arith in
+-- the used places, then the others
+places-are : (l : List ℕ) (used limit : ℕ) → used ≤ length l
+    → placesStand l used limit ≡ (belowFrom l 0 used limit && belowFrom l used (length l - used) 1)
+unfolding placesStand belowFrom stands
+places-are l used limit h =
+    let e : length l ≡ used + (length l - used) = omega arith in
     let p : ℕ → Bool = λ i. ltb (getD l i 0) (cond (ltb i used) limit 1) in
     ap (λ k. each k p) e ∙
-    each-split used (size - used) p ∙
+    each-split used (length l - used) p ∙
     ap₂ _&&_
     (each-same used p (λ i. ltb (getD l (0 + i) 0) limit) (λ i k. rw (lt-ltb i used k, zero-add i)))
-    (each-same (size - used) (λ i. p (used + i)) (λ i. ltb (getD l (used + i) 0) 1)
+    (each-same (length l - used) (λ i. p (used + i)) (λ i. ltb (getD l (used + i) 0) 1)
     (λ i k. let g : used ≤ used + i = omega arith in rw (le-ltb (used + i) used g)))
+
+module _ (l : List ℕ) (used limit : ℕ) (h : used ≤ length l) where
+  pub places-fall : belowFrom l 0 used limit ≡ false → false ≡ placesStand l used limit
+  places-fall b = sym (places-are l used limit h ∙ rw b)
+
+  pub places-rest : belowFrom l 0 used limit ≡ true → belowFrom l used (length l - used) 1 ≡ placesStand l used limit
+  places-rest b = sym (places-are l used limit h ∙ rw b)
 
 -- the limits of a row
 limits-used : (n m e : ℕ) → e < m → m ≤ 16 → getD (limitsOf n m) e 0 ≡ n
@@ -46,41 +53,67 @@ limits-unused n m e h k =
 
 -- a row of a used state, and one of an unused state
 row-used : (next : List ℕ) (n m q : ℕ) → m ≤ 16 → q < n
-    → each 16 (λ e. stands (ltb q n && ltb e m) n (getD next (q * 16 + e) 0)) ≡ rowBelow next q (limitsOf n m)
+    → each 16 (λ e. stands (ltb q n && ltb e m) n (goes next q e)) ≡ rowBelow next q (limitsOf n m)
 unfolding rowBelow stands
 row-used next n m q h k =
-    each-same 16 (λ e. ltb (getD next (q * 16 + e) 0) (cond (ltb q n && ltb e m) n 1)) (λ e. ltb (getD next (q * 16 + e) 0) (getD (limitsOf n m) e 0))
-    (λ e l. ap (λ x. ltb (getD next (q * 16 + e) 0) x) (rw (lt-ltb q n k)
+    each-same 16 (λ e. ltb (goes next q e) (cond (ltb q n && ltb e m) n 1)) (λ e. ltb (goes next q e) (getD (limitsOf n m) e 0))
+    (λ e l. ap (λ x. ltb (goes next q e) x) (rw (lt-ltb q n k)
     (by (ltb e m)
     (λ t. rw t (sym (limits-used n m e (ltb-true e m t) h)))
     (λ t. rw t (sym (limits-unused n m e (ltb-false e m t) l))))))
 
 row-unused : (next : List ℕ) (n m q : ℕ) → n ≤ q
-    → each 16 (λ e. stands (ltb q n && ltb e m) n (getD next (q * 16 + e) 0)) ≡ rowBelow next q (replicate 16 1)
+    → each 16 (λ e. stands (ltb q n && ltb e m) n (goes next q e)) ≡ rowBelow next q (replicate 16 1)
 unfolding rowBelow stands
 row-unused next n m q k =
-    each-same 16 (λ e. ltb (getD next (q * 16 + e) 0) (cond (ltb q n && ltb e m) n 1)) (λ e. ltb (getD next (q * 16 + e) 0) (getD (replicate 16 1) e 0))
-    (λ e l. ap (λ x. ltb (getD next (q * 16 + e) 0) x) (rw (le-ltb q n k) (sym (getD-replicate 16 e 1 0 l))))
+    each-same 16 (λ e. ltb (goes next q e) (cond (ltb q n && ltb e m) n 1)) (λ e. ltb (goes next q e) (getD (replicate 16 1) e 0))
+    (λ e l. ap (λ x. ltb (goes next q e) x) (rw (le-ltb q n k) (sym (getD-replicate 16 e 1 0 l))))
 
+-- the states, then the others
 rows-are : (next : List ℕ) (n m : ℕ) → n ≤ 32 → m ≤ 16
-    → each 32 (λ q. each 16 (λ e. stands (ltb q n && ltb e m) n (getD next (q * 16 + e) 0)))
-    ≡ (rowsBelow next 0 n (limitsOf n m) && rowsBelow next n (32 - n) (replicate 16 1))
-unfolding rowsBelow
+    → nextStand n m next ≡ (rowsBelow next 0 n (limitsOf n m) && rowsBelow next n (32 - n) (replicate 16 1))
+unfolding nextStand rowsBelow
 rows-are next n m h k =
     let e : 32 ≡ n + (32 - n) = omega arith in
-    let p : ℕ → Bool = λ q. each 16 (λ e. stands (ltb q n && ltb e m) n (getD next (q * 16 + e) 0)) in
+    let p : ℕ → Bool = λ q. each 16 (λ e. stands (ltb q n && ltb e m) n (goes next q e)) in
     ap (λ x. each x p) e ∙
     each-split n (32 - n) p ∙
     ap₂ _&&_
     (each-same n p (λ q. rowBelow next (0 + q) (limitsOf n m)) (λ q l. rw (zero-add q) (row-used next n m q k l)))
     (each-same (32 - n) (λ q. p (n + q)) (λ q. rowBelow next (n + q) (replicate 16 1)) (λ q l. row-unused next n m (n + q) (omega arith)))
 
-module _ (a : Automaton) where
-  pub ranges-are : rangesHold (a .states) (a .symbols) (a .capacity) (a .initial) ≡ ranged a
-  unfolding rangesHold ranged
-  ranges-are = refl
+module _ (n m : ℕ) (next : List ℕ) (h : n ≤ 32) (k : m ≤ 16) where
+  pub next-falls : rowsBelow next 0 n (limitsOf n m) ≡ false → false ≡ nextStand n m next
+  next-falls b = sym (rows-are next n m h k ∙ rw b)
 
-  ranged-small : ranged a ≡ true → (a .states ≤ 32) × (a .symbols ≤ 16)
+  pub next-rest : rowsBelow next 0 n (limitsOf n m) ≡ true → rowsBelow next n (32 - n) (replicate 16 1) ≡ nextStand n m next
+  next-rest b = sym (rows-are next n m h k ∙ rw b)
+
+-- rows 7 to 9, in their order
+module _ (n m : ℕ) (classes flags next : List ℕ) where
+  pub tables-classes : placesStand classes m 2 ≡ false → false ≡ tablesStand n m classes flags next
+  unfolding classesStand
+  tables-classes c = rw c
+
+  module _ (c : placesStand classes m 2 ≡ true) where
+    pub tables-ninth : 8 < controllableIn classes m → false ≡ tablesStand n m classes flags next
+    unfolding classesStand
+    tables-ninth k = rw (c, lt-leb (controllableIn classes m) 8 k)
+
+    module _ (k : controllableIn classes m ≤ 8) where
+      pub tables-flags : placesStand flags n 2 ≡ false → false ≡ tablesStand n m classes flags next
+      unfolding classesStand flagsStand
+      tables-flags f = rw (c, le-leb (controllableIn classes m) 8 k, f)
+
+      pub tables-next : placesStand flags n 2 ≡ true → nextStand n m next ≡ tablesStand n m classes flags next
+      unfolding classesStand flagsStand
+      tables-next f = rw (c, le-leb (controllableIn classes m) 8 k, f)
+
+module _ (a : Automaton) where
+  abbrev in-ranges : Bool
+  in-ranges = ranged (a .states) (a .symbols) (a .capacity) (a .initial)
+
+  pub ranged-small : in-ranges ≡ true → (a .states ≤ 32) × (a .symbols ≤ 16)
   unfolding ranged
   ranged-small h =
       let n = leb 1 (a .states) && leb (a .states) 32 in
@@ -90,35 +123,15 @@ module _ (a : Automaton) where
         leb-true (a .symbols) 16 (and-right (leb 1 (a .symbols)) (leb (a .symbols) 16) (and-left m rest (and-right n (m && rest) h))),
       )
 
-  pub ranges-small : rangesHold (a .states) (a .symbols) (a .capacity) (a .initial) ≡ true → (a .states ≤ 32) × (a .symbols ≤ 16)
-  ranges-small h = ranged-small (sym ranges-are ∙ h)
-
-  tables-are : a .states ≤ 32 → a .symbols ≤ 16
-      → tablesHold (a .states) (a .symbols) (a .classes) (a .accepting) (a .next) ≡ (classesStand mostClass a && (flagsStand a && nextStand a))
-  unfolding tablesHold classesStand flagsStand nextStand step controllables controllable controllableIn
-  tables-are h k =
-      sym (rw (used-below (a .classes) 16 (a .symbols) 2 k, used-below (a .accepting) 32 (a .states) 2 h, rows-are (a .next) (a .states) (a .symbols) h k)
-      (rw (and-assoc, and-assoc, and-assoc)))
-
-  -- the arrays have the lengths of their types
-  record Arrays : Type 0 where
-    pub classes : length (a .classes) ≡ 16
-    pub accepting : length (a .accepting) ≡ 32
-    pub next : length (a .next) ≡ 512
-
-  shapes : Arrays → shaped a ≡ true
+  shapes : length (a .classes) ≡ 16 → length (a .accepting) ≡ 32 → length (a .next) ≡ 512 → shaped a ≡ true
   unfolding shaped
-  shapes l = and-both (eq-eqb _ 16 (l .classes)) (and-both (eq-eqb _ 32 (l .accepting)) (eq-eqb _ 512 (l .next)))
+  shapes c f n = and-both (eq-eqb _ 16 c) (and-both (eq-eqb _ 32 f) (eq-eqb _ 512 n))
 
-  pub refuses : rangesHold (a .states) (a .symbols) (a .capacity) (a .initial) ≡ false → false ≡ valid a
+  pub refuses : in-ranges ≡ false → false ≡ valid a
   unfolding valid
-  refuses h = by (shaped a) (λ s. rw (s, ← ranges-are, h)) (λ s. rw s)
+  refuses h = by (shaped a) (λ s. rw (s, h)) (λ s. rw s)
 
-  pub passes : length (a .classes) ≡ 16 → length (a .accepting) ≡ 32 → length (a .next) ≡ 512
-      → rangesHold (a .states) (a .symbols) (a .capacity) (a .initial) ≡ true
-      → tablesHold (a .states) (a .symbols) (a .classes) (a .accepting) (a .next) ≡ valid a
+  pub passes : length (a .classes) ≡ 16 → length (a .accepting) ≡ 32 → length (a .next) ≡ 512 → in-ranges ≡ true
+      → tablesStand (a .states) (a .symbols) (a .classes) (a .accepting) (a .next) ≡ valid a
   unfolding valid
-  passes c f n h =
-      let s = ranges-small h in
-      tables-are (s .0) (s .1) ∙
-      sym (rw (shapes (record { classes = c; accepting = f; next = n }), ← ranges-are, h))
+  passes c f n h = sym (rw (shapes c f n, h))

@@ -1,13 +1,14 @@
 // Row 11: the record keeps rows 3 to 9 and every unused place is 0. No loop is left early, so that each one is vectorised.
 use crate::Automaton;
 ghost use mathlib.Core.Path.{_≡_};
-ghost use Prim.Native.Nat.{ℕ, _+_, _≤_};
-ghost use lib.ListN.{length, replicate};
-ghost use Rattle.automaton.specs.Automaton.{valid};
-ghost use Rattle.automaton.specs.Parts.{rangesHold, belowFrom, limitsOf, rowBelow, rowsBelow, controllableIn, tablesHold};
+ghost use Prim.Native.Nat.{_+_, _≤_};
+ghost use lib.ListN.{length};
+ghost use Rattle.automaton.specs.Automaton.{ranged, nextStand, tablesStand, valid};
+ghost use Rattle.automaton.specs.Parts.{controllableIn, placesStand, belowFrom, limitsOf, rowBelow, rowsBelow};
 
-fn ranges_hold(states: u8, symbols: u8, capacity: u8, initial: u8) -> bool
-    ensures { λ r. ⌜ r ≡ rangesHold states symbols capacity initial ⌝ }
+// Rows 3 to 6.
+fn ranged(states: u8, symbols: u8, capacity: u8, initial: u8) -> bool
+    ensures { λ r. ⌜ r ≡ ranged states symbols capacity initial ⌝ }
 {
     if states < 1 {
         return false;
@@ -88,7 +89,8 @@ fn rows_below<'a>(next: &'a [u8; 512], from: usize, count: usize, limits: &'a [u
     fine
 }
 
-fn controllable_in(classes: &[u8; 16], m: usize) -> usize
+// How many of the first m symbols are controllable.
+pub fn controllable_in(classes: &[u8; 16], m: usize) -> usize
     requires { ⌜ m ≤ 16 ⌝ }
     ensures { λ r. ⌜ r ≡ controllableIn (now (classes .entry)) m ⌝ }
 {
@@ -103,7 +105,33 @@ fn controllable_in(classes: &[u8; 16], m: usize) -> usize
     count
 }
 
-fn tables_hold<'a>(
+// The first `used` places are below the limit, and the others are 0.
+fn places_stand(list: &[u8], used: usize, limit: u8) -> bool
+    requires { ⌜ used ≤ length (now list) ⌝ }
+    ensures { λ r. ⌜ r ≡ placesStand (now (list .entry)) used limit ⌝ }
+{
+    if !below_from(list, 0, used, limit) {
+        return false;
+    }
+    below_from(list, used, list.len() - used, 1)
+}
+
+// Row 9.
+fn next_stand(n: u8, m: usize, next: &[u8; 512]) -> bool
+    requires { ⌜ (n ≤ 32) × (m ≤ 16) ⌝ }
+    ensures { λ r. ⌜ r ≡ nextStand n m (now (next .entry)) ⌝ }
+{
+    let states = base::size(n);
+    let limits = limits_of(n, m);
+    if !rows_below(next, 0, states, &limits) {
+        return false;
+    }
+    let unused_limits = [1u8; 16];
+    rows_below(next, states, 32 - states, &unused_limits)
+}
+
+// Rows 7 to 9.
+fn tables_stand<'a>(
     n: u8,
     m: usize,
     classes: &'a [u8; 16],
@@ -111,39 +139,27 @@ fn tables_hold<'a>(
     next: &'a [u8; 512],
 ) -> bool
     requires { ⌜ (n ≤ 32) × (m ≤ 16) ⌝ }
-    ensures { λ r. ⌜ r ≡ tablesHold n m (now (classes .entry)) (now (accepting .entry)) (now (next .entry)) ⌝ }
+    ensures { λ r. ⌜ r ≡ tablesStand n m (now (classes .entry)) (now (accepting .entry)) (now (next .entry)) ⌝ }
 {
-    let states = base::size(n);
-    if !below_from(classes, 0, m, 2) {
-        return false;
-    }
-    if !below_from(classes, m, 16 - m, 1) {
+    if !places_stand(classes, m, 2) {
         return false;
     }
     if 8 < controllable_in(classes, m) {
         return false;
     }
-    if !below_from(accepting, 0, states, 2) {
+    if !places_stand(accepting, base::size(n), 2) {
         return false;
     }
-    if !below_from(accepting, states, 32 - states, 1) {
-        return false;
-    }
-    let limits = limits_of(n, m);
-    if !rows_below(next, 0, states, &limits) {
-        return false;
-    }
-    let zeros = [1u8; 16];
-    rows_below(next, states, 32 - states, &zeros)
+    next_stand(n, m, next)
 }
 
 pub fn valid(a: Automaton) -> bool
     ensures { λ r. ⌜ r ≡ valid a ⌝ }
 {
-    if ranges_hold(a.states, a.symbols, a.capacity, a.initial) {
+    if ranged(a.states, a.symbols, a.capacity, a.initial) {
         let n = a.states;
         let m = base::size(a.symbols);
-        return tables_hold(n, m, &a.classes, &a.accepting, &a.next);
+        return tables_stand(n, m, &a.classes, &a.accepting, &a.next);
     }
     false
 }

@@ -1,6 +1,7 @@
 // The property automaton (document 01's sheet): its record, and the check of row 11.
 mod check;
 
+pub use check::controllable_in;
 pub use check::valid;
 
 // The record: how many states (n) and symbols (m, document 01's kinds), the capacity of the buffer (the hold, B), the initial state (start), the

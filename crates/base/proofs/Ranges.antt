@@ -1,7 +1,7 @@
 -- Laws of `each` and `count`.
 use Prim.Native.Nat.{ℕ, zero, suc, _+_, _<_, _≤_}
 use mathlib.Core.Path.{_≡_, refl, sym, _∙_, ap, ap₂}
-use mathlib.Core.Bool.{Bool, true, false, _&&_, cond, and-assoc, and-true}
+use mathlib.Core.Bool.{Bool, true, false, not, _&&_, cond, and-assoc, and-true}
 use native.Mathlib.Nat.{add-zero, add-suc}
 use native.Mathlib.Numerals.{add-one}
 use native.Mathlib.Omega.{arith}
@@ -114,3 +114,9 @@ count-longer n (suc m) p h =
     by (eqb n (suc m))
     (λ t. rw (eqb-true n (suc m) t) (omega arith))
     (λ t. omega (arith, count-longer n m p (omega (arith, eqb-false n (suc m) t))))
+
+-- a test holds of a number or it does not
+pub count-not : (n : ℕ) (p : ℕ → Bool) → count n p + count n (λ k. not (p k)) ≡ n
+unfolding count
+count-not zero p = omega arith
+count-not (suc n) p = by (p n) (λ e. rw e (omega (arith, count-not n p))) (λ e. rw e (omega (arith, count-not n p)))

@@ -1,4 +1,5 @@
 pub mod Each
+pub mod All
 pub mod Rows
 pub mod Pad
 pub mod Masks

@@ -36,12 +36,12 @@ module _ (a : Automaton) where
   -- a list of controllable symbols, by its places
   pub every-controllable : (w : List ℕ) → Every (ControllableSymbol a) w → Controllable a w
   every-controllable [] f = tt
-  every-controllable (e ∷ w) f = let h = f 0 (omega arith) in (h .0, h .1, every-controllable w (λ i l. f (suc i) (omega arith)))
+  every-controllable (e ∷ w) f = (f 0 (omega arith), every-controllable w (λ i l. f (suc i) (omega arith)))
 
   pub controllable-every : (w : List ℕ) → Controllable a w → Every (ControllableSymbol a) w
   controllable-every [] c i l = absurd (omega arith)
-  controllable-every (e ∷ w) c zero l = (c .0, c .1)
-  controllable-every (e ∷ w) c (suc i) l = controllable-every w (c .2) i (omega arith)
+  controllable-every (e ∷ w) c zero l = c .0
+  controllable-every (e ∷ w) c (suc i) l = controllable-every w (c .1) i (omega arith)
 
   controllable-symbol-facts : (e : ℕ) → controllableSymbol (a .symbols) (a .classes) e ≡ true → ControllableSymbol a e
   unfolding controllableSymbol controllable

@@ -8,7 +8,7 @@ use Rattle.varint.specs.declared.Number.{Number}
 use Rattle.varint.specs.Varint.{read}
 use Rattle.automaton.specs.Automaton.{mostClass}
 use Rattle.encoding.specs.Reading.{checked, between, one, tables, automatonFrom, parse, refused, Parsed}
-use Rattle.encoding.proofs.Items.{Passed, passed, range-of}
+use Rattle.encoding.proofs.Items.{passed, range-of}
 use Rattle.encoding.proofs.Sections.{one-refused, one-passes}
 
 -- a number that passed is in its range

@@ -1,22 +1,23 @@
 -- Laws of reading: one number in its range, and a run of them.
-use Prim.Native.Nat.{ℕ, zero, suc, _+_, _-_, _*_, _<_, _≤_}
-use mathlib.Core.Path.{_≡_, refl, sym, _∙_, ap, ap₂}
-use mathlib.Core.Bool.{Bool, true, false, cond, _&&_, not}
-use mathlib.Core.List.{List, [], _∷_, _++_, append-assoc, append-nil}
-use native.Mathlib.Nat.{zero-add}
+use Prim.Native.Nat.{ℕ, suc, _+_, _-_, _<_, _≤_}
+use mathlib.Core.Path.{_≡_, refl, sym, _∙_, ap}
+use mathlib.Core.List.{List, [], _∷_, _++_}
 use native.Mathlib.Numerals.{add-one}
 use native.Mathlib.Omega.{arith}
 use lib.ListN.{length, set, length-append}
 use lib.Seq.{sets, length-sets}
 use lib.Dec.{eqb, leb, ltb}
 use borrow.Author.Tests.{lt-ltb, le-ltb, le-leb, lt-leb, eq-eqb, ne-eqb, eqb-true, eqb-false, leb-true, ltb-true, ltb-false}
+use Rattle.base.specs.Each.{count}
 use Rattle.base.specs.Rows.{first}
-use Rattle.base.proofs.Bools.{by, clash, and-left, and-right, and-both}
+use Rattle.base.proofs.Bools.{by}
 use Rattle.base.proofs.Stores.{sets-more}
 use Rattle.varint.specs.declared.Number.{Number}
 use Rattle.varint.specs.Varint.{fault, read}
-use Rattle.encoding.specs.Reading.{checked, between, tally, classRow, Numbers, numbers}
-use Rattle.encoding.specs.Parts.{itemRow, outcome, oneMore}
+use Rattle.automaton.specs.Parts.{controllableIn}
+use Rattle.encoding.specs.Reading.{checked, between, tally, itemRow, Numbers, numbers}
+use Rattle.encoding.specs.Parts.{outcome, oneMore}
+use Rattle.encoding.proofs.Tally.{tally-more, tally-max}
 
 -- the three outcomes of a check
 module _ (check : ℕ → ℕ) (at : ℕ) (r : Number) where
@@ -68,17 +69,6 @@ passed check at r n e z =
     (λ b. let b' = eqb-false (check (r .value)) 0 b in
     absurd (b' (sym (ap (λ (m : Number). m .refusal) (e ∙ checked-faults check at r a' b')) ∙ z))))
     (λ a. let a' = eqb-false (r .refusal) 0 a in absurd (a' (sym (ap (λ (m : Number). m .refusal) (e ∙ checked-unread check at r a')) ∙ z)))
-
--- the tally of classes
-pub tally-more : (l : List ℕ) (v : ℕ) → tally (l ++ v ∷ []) ≡ oneMore (tally l) v
-unfolding tally oneMore
-tally-more [] v = omega arith
-tally-more (c ∷ l) v = let i = tally-more l v in omega arith
-
-pub tally-max : (l : List ℕ) → tally l ≤ length l
-unfolding tally
-tally-max [] = omega arith
-tally-max (c ∷ l) = by (eqb c 1) (λ e. rw e (omega (arith, tally-max l))) (λ e. rw e (omega (arith, tally-max l)))
 
 -- a number of a run: refused by its range, or one 1 too many, or passed
 module _ (limit row most : ℕ) (before : List ℕ) (at : ℕ) (r n : Number) (pos : 0 < row) (e : n ≡ checked (between 0 limit row) at r) where
@@ -153,7 +143,7 @@ pub record Filling (s out₀ : List ℕ) (at from count limit row most : ℕ) (o
   pub whole : numbers (read s) (itemRow limit row most) count [] at ≡ numbers (read s) (itemRow limit row most) (count - i) before place
 
 pub filling-begins : (s out : List ℕ) (at from count limit row most : ℕ) → Filling s out at from count limit row most out at 0 0
-unfolding tally
+unfolding controllableIn count
 filling-begins s out at from count limit row most =
     let e : count ≡ count - 0 = omega arith in
     record {

@@ -1,3 +1,4 @@
+pub mod Tally
 pub mod Items
 pub mod Sections
 pub mod Tables

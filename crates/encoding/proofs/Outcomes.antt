@@ -1,18 +1,18 @@
 -- The ways out of writing.
 use Prim.Native.Nat.{ℕ, _+_, _*_, _<_, _≤_}
 use mathlib.Core.Path.{_≡_, refl, sym, _∙_, ap}
-use mathlib.Core.Bool.{Bool, true, false, cond, not}
-use mathlib.Core.List.{List, [], _∷_, _++_}
+use mathlib.Core.Bool.{true, false}
+use mathlib.Core.List.{List}
 use native.Mathlib.Nat.{zero-add}
 use native.Mathlib.Omega.{arith}
-use lib.ListN.{length, drop}
+use lib.ListN.{length}
 use lib.Seq.{sets, sets-eq}
-use lib.Dec.{eqb, ltb}
+use lib.Dec.{eqb}
 use borrow.Author.Tests.{lt-ltb, le-ltb}
 use Rattle.base.specs.Rows.{first}
 use Rattle.automaton.specs.declared.Automaton.{Automaton}
 use Rattle.automaton.specs.Automaton.{valid}
-use Rattle.encoding.specs.Writing.{recordNumbers, encoded, recordBytes, writeRefusal, writeAnswer, writeBuffer}
+use Rattle.encoding.specs.Writing.{recordNumbers, recordBytes, writeRefusal, writeAnswer, writeBuffer}
 use Rattle.automaton.proofs.Facts.{valid-facts}
 use Rattle.encoding.proofs.Encoded.{encoded-small}
 use Rattle.encoding.proofs.Trips.{numbers-small}

@@ -12,14 +12,15 @@ use Rattle.base.proofs.Bools.{by}
 use Rattle.base.proofs.Padding.{pad-length, pad-inside, pad-outside, pad-take, pad-every, take-pad}
 use Rattle.varint.specs.declared.Number.{Number}
 use Rattle.automaton.specs.declared.Automaton.{Automaton}
-use Rattle.automaton.specs.Automaton.{controllable, controllables, flag, step}
+use Rattle.automaton.specs.Automaton.{controllables, flag, step}
 use Rattle.encoding.specs.Reading.{between, classRow, tally, numbers, runs, parsed, tables, automatonFrom}
 use Rattle.encoding.specs.Writing.{nextNumbers, recordNumbers}
 use Rattle.automaton.proofs.Facts.{Valid}
 use Rattle.encoding.proofs.Items.{inside, range-of}
 use Rattle.encoding.proofs.Follows.{done, Follows, Passes, one-done, one-read, many-done, many-read, follows-append, follows-split, numbers-done, numbers-all}
 use Rattle.encoding.proofs.NextStates.{Rows, next-prefix, runs-done, runs-all}
-use Rattle.encoding.proofs.Classes.{class-passed, classes-pass, classes-tally, tally-count}
+use Rattle.encoding.proofs.Tally.{tally-count}
+use Rattle.encoding.proofs.Classes.{class-passed, classes-pass, classes-tally}
 
 module _ (a : Automaton) (v : Valid a) where
   -- the used places of the arrays
@@ -55,7 +56,7 @@ module _ (a : Automaton) (v : Valid a) where
       rw e at (v .step-no-state (i / 16) (i % 16) (omega arith) (omega arith))
 
   classes-passes : Passes (classRow 1) [] classes
-  unfolding controllables controllable
+  unfolding controllables
   classes-passes =
       classes-pass 1 classes
       (λ i h. rw (getD-take (a .symbols) (a .classes) i 0 (omega (arith, classes-length))) (v .class-high i))
@@ -121,7 +122,7 @@ module _ (n m b q : ℕ) (cs fs vs : List ℕ) where
       (lc : length cs ≡ m) (pc : Passes (classRow 1) [] cs) (lf : length fs ≡ n) (pf : Passes (λ _. between 0 2 7) [] fs)
       (r : Rows m (between 0 n 9) n vs) where
     made-count : controllables made ≤ 8
-    unfolding controllables controllable
+    unfolding controllables
     made-count =
         let long : length (pad 16 cs) ≡ 16 = pad-length 16 cs (omega arith) in
         let t : tally (take m (pad 16 cs)) ≡ tally cs = rw (← lc) (ap tally (take-pad 16 cs)) in

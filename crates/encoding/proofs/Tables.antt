@@ -1,8 +1,8 @@
 -- The ways out of reading the classes, flags and next states.
-use Prim.Native.Nat.{ℕ, zero, suc, _+_, _-_, _*_, _<_, _≤_}
-use mathlib.Core.Path.{_≡_, refl, sym, _∙_, ap, ap₂}
-use mathlib.Core.Bool.{Bool, true, false, cond}
-use mathlib.Core.List.{List, [], _∷_, _++_}
+use Prim.Native.Nat.{ℕ, _<_, _≤_}
+use mathlib.Core.Path.{_≡_, sym, _∙_, ap}
+use mathlib.Core.Bool.{cond}
+use mathlib.Core.List.{List, []}
 use native.Mathlib.Omega.{arith}
 use lib.ListN.{length, replicate}
 use lib.Seq.{sets}
@@ -11,12 +11,23 @@ use borrow.Author.Tests.{lt-ltb, le-ltb}
 use Rattle.base.specs.Pad.{pad}
 use Rattle.base.proofs.Padding.{pad-stored}
 use Rattle.varint.specs.declared.Number.{Number}
-use Rattle.varint.specs.Varint.{fault, read}
+use Rattle.varint.specs.Varint.{read}
 use Rattle.automaton.specs.declared.Automaton.{Automaton}
 use Rattle.automaton.specs.Automaton.{mostClass}
-use Rattle.encoding.specs.Reading.{between, classRow, Numbers, numbers, runs, many, tables, parsed, refused, Parsed}
-use Rattle.encoding.specs.Parts.{itemRow, outcome}
-use Rattle.encoding.proofs.Sections.{classes-are, items-are, many-refused, many-passes, numbers-length, Rowing, rowing-refused, rowing-done}
+use Rattle.encoding.specs.Reading.{between, itemRow, Numbers, numbers, runs, many, tables, parsed, refused, Parsed}
+use Rattle.encoding.specs.Parts.{outcome}
+use Rattle.encoding.proofs.Sections.{items-are, many-refused, many-passes, numbers-most}
+
+-- one section: refused, or on to the next
+module _ (whole : Parsed) (ns : Numbers) (go : List ℕ → ℕ → Parsed) (w : whole ≡ many ns go) (x : Number) (e : x ≡ outcome ns) where
+  section-refused : (x .refusal ≡ 0 → ⊥) → refused (x .refusal) (x .place) ≡ whole
+  unfolding outcome
+  section-refused z = ap (λ (y : Number). refused (y .refusal) (y .place)) e ∙ many-refused ns go (rw e at z) ∙ sym w
+
+  section-passes : x .refusal ≡ 0 → whole ≡ go (ns .values) (x .place)
+  unfolding outcome
+  section-passes z =
+      w ∙ many-passes ns go (ap (λ (y : Number). y .refusal) (sym e) ∙ z) ∙ ap (λ (y : Number). go (ns .values) (y .place)) (sym e)
 
 module _ (s : List ℕ) (at n m b q : ℕ) (small : m ≤ 16) (few : n ≤ 32) where
   -- the record, and what is left to read after the classes, and after the flags
@@ -44,87 +55,57 @@ module _ (s : List ℕ) (at n m b q : ℕ) (small : m ≤ 16) (few : n ≤ 32) w
   flags-are : (place : ℕ) → numbers (read s) (λ _. between 0 2 7) n [] place ≡ numbers (read s) (itemRow 2 7 32) n [] place
   flags-are place = items-are (read s) 2 7 32 n place few
 
-  all-parts : tables (read s) mostClass (length s) n m b q at ≡ many (numbers (read s) (itemRow 2 7 8) m [] at) flag-part
+  abbrev whole : Parsed
+  whole = tables (read s) mostClass (length s) n m b q at
+
+  abbrev class-numbers : Numbers
+  class-numbers = numbers (read s) (itemRow 2 7 8) m [] at
+
+  all-parts : whole ≡ many class-numbers flag-part
   unfolding tables flag-part next-part last-part record-of
-  all-parts =
-      rw (classes-are (read s) m at) (simp flags-are)
+  all-parts = simp flags-are
 
-  module _ (c : Number) (ec : c ≡ outcome (numbers (read s) (itemRow 2 7 8) m [] at)) where
-    abbrev classes : List ℕ
-    classes = numbers (read s) (itemRow 2 7 8) m [] at .values
+  module _ (c : Number) (ec : c ≡ outcome class-numbers) where
+    pub tables-classes : (c .refusal ≡ 0 → ⊥) → refused (c .refusal) (c .place) ≡ whole
+    tables-classes z = section-refused whole class-numbers flag-part all-parts c ec z
 
-    pub tables-classes : (c .refusal ≡ 0 → ⊥) → refused (c .refusal) (c .place) ≡ tables (read s) mostClass (length s) n m b q at
-    unfolding outcome
-    tables-classes z =
-        ap (λ (x : Number). refused (x .refusal) (x .place)) ec ∙
-        many-refused (numbers (read s) (itemRow 2 7 8) m [] at) flag-part (rw ec at z) ∙
-        sym all-parts
+    abbrev flag-numbers : Numbers
+    flag-numbers = numbers (read s) (itemRow 2 7 32) n [] (c .place)
 
-    module _ (zc : c .refusal ≡ 0) where
-      to-flags : tables (read s) mostClass (length s) n m b q at ≡ flag-part classes (c .place)
-      unfolding outcome
-      to-flags =
-          all-parts ∙ many-passes (numbers (read s) (itemRow 2 7 8) m [] at) flag-part (ap (λ (x : Number). x .refusal) (sym ec) ∙ zc) ∙
-          ap (λ (x : Number). flag-part (numbers (read s) (itemRow 2 7 8) m [] at .values) (x .place)) (sym ec)
+    module _ (zc : c .refusal ≡ 0) (f : Number) (ef : f ≡ outcome flag-numbers) where
+      to-flags : whole ≡ many flag-numbers (next-part (class-numbers .values))
+      unfolding flag-part
+      to-flags = section-passes whole class-numbers flag-part all-parts c ec zc
 
-      classes-length : length classes ≡ m
-      unfolding outcome
-      classes-length = numbers-length (read s) (itemRow 2 7 8) m [] at (ap (λ (x : Number). x .refusal) (sym ec) ∙ zc) ∙ omega arith
+      pub tables-flags : (f .refusal ≡ 0 → ⊥) → refused (f .refusal) (f .place) ≡ whole
+      tables-flags z = section-refused whole flag-numbers (next-part (class-numbers .values)) to-flags f ef z
 
-      module _ (f : Number) (ef : f ≡ outcome (numbers (read s) (itemRow 2 7 32) n [] (c .place))) where
-        abbrev flags : List ℕ
-        flags = numbers (read s) (itemRow 2 7 32) n [] (c .place) .values
+      abbrev next-numbers : Numbers
+      next-numbers = runs (read s) (between 0 n 9) m n [] (f .place)
 
-        pub tables-flags : (f .refusal ≡ 0 → ⊥) → refused (f .refusal) (f .place) ≡ tables (read s) mostClass (length s) n m b q at
-        unfolding outcome flag-part
-        tables-flags z =
-            ap (λ (x : Number). refused (x .refusal) (x .place)) ef ∙
-            many-refused (numbers (read s) (itemRow 2 7 32) n [] (c .place)) (next-part classes) (rw ef at z) ∙
-            sym to-flags
+      module _ (zf : f .refusal ≡ 0) (t : Number) (et : t ≡ outcome next-numbers) where
+        to-next : whole ≡ many next-numbers (last-part (class-numbers .values) (flag-numbers .values))
+        unfolding next-part
+        to-next = section-passes whole flag-numbers (next-part (class-numbers .values)) to-flags f ef zf
 
-        module _ (zf : f .refusal ≡ 0) where
-          to-next : tables (read s) mostClass (length s) n m b q at ≡ next-part classes flags (f .place)
-          unfolding outcome flag-part
-          to-next =
-              to-flags ∙
-              many-passes (numbers (read s) (itemRow 2 7 32) n [] (c .place)) (next-part classes) (ap (λ (x : Number). x .refusal) (sym ef) ∙ zf) ∙
-              ap (λ (x : Number). next-part classes (numbers (read s) (itemRow 2 7 32) n [] (c .place) .values) (x .place)) (sym ef)
+        pub tables-next : (t .refusal ≡ 0 → ⊥) → refused (t .refusal) (t .place) ≡ whole
+        tables-next z = section-refused whole next-numbers (last-part (class-numbers .values) (flag-numbers .values)) to-next t et z
 
-          flags-length : length flags ≡ n
-          unfolding outcome
-          flags-length = numbers-length (read s) (itemRow 2 7 32) n [] (c .place) (ap (λ (x : Number). x .refusal) (sym ef) ∙ zf) ∙ omega arith
+        module _ (zt : t .refusal ≡ 0) where
+          to-last : whole ≡ last-part (class-numbers .values) (flag-numbers .values) (next-numbers .values) (t .place)
+          to-last = section-passes whole next-numbers (last-part (class-numbers .values) (flag-numbers .values)) to-next t et zt
 
-          module _ {next : List ℕ} {place i : ℕ} (g : Rowing s n m (f .place) next place i) where
-            pub tables-row : (r : Number) → r ≡ outcome (numbers (read s) (itemRow n 9 16) m [] place) → i < n → (r .refusal ≡ 0 → ⊥)
-                → refused (r .refusal) (r .place) ≡ tables (read s) mostClass (length s) n m b q at
-            unfolding next-part
-            tables-row r e h z =
-                let x = rowing-refused g r e h z in
-                many-refused (record { refusal = r .refusal; place = r .place; values = g .before }) (last-part classes flags) z ∙
-                ap (λ ns. many ns (last-part classes flags)) (sym x) ∙
-                sym to-next
+          pub tables-extra : t .place < length s → refused 10 (t .place) ≡ whole
+          unfolding last-part
+          tables-extra l = sym (to-last ∙ rw (lt-ltb (t .place) (length s) l))
 
-            to-last : n ≤ i → tables (read s) mostClass (length s) n m b q at ≡ last-part classes flags (g .before) place
-            unfolding next-part
-            to-last h =
-                to-next ∙ ap (λ ns. many ns (last-part classes flags)) (rowing-done g h) ∙
-                many-passes (record { refusal = 0; place = place; values = g .before }) (last-part classes flags) refl
-
-            pub tables-extra : n ≤ i → place < length s → refused 10 place ≡ tables (read s) mostClass (length s) n m b q at
-            unfolding last-part
-            tables-extra h l = sym (to-last h ∙ rw (lt-ltb place (length s) l))
-
-            pub tables-done : n ≤ i → length s ≤ place
-                → parsed (record {
-                  states = n;
-                  symbols = m;
-                  capacity = b;
-                  initial = q;
-                  classes = sets (replicate 16 0) 0 classes;
-                  accepting = sets (replicate 32 0) 0 flags;
-                  next = next;
-                }) ≡ tables (read s) mostClass (length s) n m b q at
-            unfolding last-part record-of
-            tables-done h l =
-                rw (pad-stored 16 classes (omega (arith, classes-length)), pad-stored 32 flags (omega (arith, flags-length)), g .stored)
-                (sym (to-last h ∙ rw (le-ltb place (length s) l)))
+          pub tables-done : length s ≤ t .place → (classes flags next : List ℕ)
+              → classes ≡ sets (replicate 16 0) 0 (class-numbers .values) → flags ≡ sets (replicate 32 0) 0 (flag-numbers .values)
+              → next ≡ pad 512 (next-numbers .values)
+              → parsed (record { states = n; symbols = m; capacity = b; initial = q; classes = classes; accepting = flags; next = next }) ≡ whole
+          unfolding last-part record-of
+          tables-done l classes flags next i j k =
+              let short-c = numbers-most (read s) (itemRow 2 7 8) m [] at in
+              let short-f = numbers-most (read s) (itemRow 2 7 32) n [] (c .place) in
+              rw (i, j, k, pad-stored 16 (class-numbers .values) (omega arith), pad-stored 32 (flag-numbers .values) (omega arith))
+              (sym (to-last ∙ rw (le-ltb (t .place) (length s) l)))

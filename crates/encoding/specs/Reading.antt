@@ -1,6 +1,6 @@
 -- Reading a sheet from bytes: left to right, the first fault stands (document 01, "The sheet" and "Numbers of refusal").
-use Prim.Native.Nat.{ℕ, zero, suc, _+_, _*_}
-use mathlib.Core.Bool.{Bool, true, false, cond, not, _&&_}
+use Prim.Native.Nat.{ℕ, zero, suc, _+_}
+use mathlib.Core.Bool.{cond, not, _&&_}
 use mathlib.Core.List.{List, [], _∷_, _++_}
 use lib.ListN.{length, replicate}
 use lib.Dec.{eqb, leb, ltb}
@@ -9,6 +9,7 @@ use Rattle.base.specs.Pad.{pad}
 use Rattle.varint.specs.declared.Number.{Number}
 use Rattle.varint.specs.Varint.{fault, read}
 use Rattle.automaton.specs.declared.Automaton.{Automaton}
+use Rattle.automaton.specs.Parts.{controllableIn}
 use Rattle.automaton.specs.Automaton.{mostClass}
 pub use Rattle.encoding.specs.declared.Parsed.{Parsed}
 
@@ -21,15 +22,18 @@ unfoldable pub between : ℕ → ℕ → ℕ → ℕ → ℕ
 between low limit row v = cond (leb low v && ltb v limit) 0 row
 
 -- how many of the classes read so far are controllable
-unfoldable pub tally : List ℕ → ℕ
-tally [] = 0
-tally (c ∷ cs) = cond (eqb c 1) 1 0 + tally cs
+abbrev pub tally : List ℕ → ℕ
+tally classes = controllableIn classes (length classes)
 
--- the row of the next class after some: 7 above the largest class, 8 for a ninth controllable one
-unfoldable pub classRow : ℕ → List ℕ → ℕ → ℕ
-classRow most before c = first ((7, ltb most c) ∷ (8, ltb 8 (tally (before ++ c ∷ []))) ∷ [])
+-- the row of the next number of a run after some: `row` from the limit on, 8 for one more than `most` that are 1
+unfoldable pub itemRow : ℕ → ℕ → ℕ → List ℕ → ℕ → ℕ
+itemRow limit row most before v = first ((row, not (ltb v limit)) ∷ (8, ltb most (tally (before ++ v ∷ []))) ∷ [])
 
--- numbers that were read one after the other: their values and the place after them, or a fault after the first of them
+-- .. of the next class: 7 above the largest class, 8 for a ninth controllable one
+abbrev pub classRow : ℕ → List ℕ → ℕ → ℕ
+classRow largest = itemRow (largest + 1) 7 8
+
+-- numbers that were read one after the other: their values and the place after them, or a fault and the values before it
 pub record Numbers : Type 0 where
   pub refusal : ℕ
   pub place : ℕ
@@ -51,7 +55,7 @@ runs from check m (suc k) before at =
     let row = numbers from (λ _. check) m [] at in
     cond (eqb (row .refusal) 0)
     (runs from check m k (before ++ pad 16 (row .values)) (row .place))
-    (record { refusal = row .refusal; place = row .place; values = before })
+    (record { refusal = row .refusal; place = row .place; values = before ++ row .values })
 
 -- the record with 0 everywhere
 abbrev pub blank : Automaton

@@ -3,14 +3,15 @@ use crate::Parsed;
 use automaton::Automaton;
 use varint::Number;
 ghost use mathlib.Core.Path.{_≡_};
-ghost use Prim.Native.Nat.{ℕ, _+_, _<_, _≤_};
+ghost use Prim.Native.Nat.{_+_, _<_, _≤_};
 ghost use mathlib.Core.List.{[]};
-ghost use lib.ListN.{length};
+ghost use lib.ListN.{length, replicate};
 ghost use lib.Seq.{sets};
 ghost use Rattle.varint.specs.Varint.{read};
 ghost use Rattle.automaton.specs.Automaton.{mostClass};
-ghost use Rattle.encoding.specs.Reading.{checked, between, numbers, tables, parse, refused};
-ghost use Rattle.encoding.specs.Parts.{itemRow, outcome, oneMore};
+ghost use Rattle.base.specs.Pad.{pad};
+ghost use Rattle.encoding.specs.Reading.{checked, between, itemRow, numbers, runs, tables, parse, refused};
+ghost use Rattle.encoding.specs.Parts.{outcome, oneMore};
 
 fn refused(row: u8, at: usize) -> Parsed
     ensures { λ r. ⌜ r ≡ refused row at ⌝ }
@@ -94,6 +95,29 @@ fn fill(
     }
 }
 
+// Fills the next states of n states, m numbers each and 16 places for each state, with numbers below n; row 9 stands otherwise.
+fn fill_rows(s: &[u8], at: usize, next: &mut [u8], n: u32, m: usize) -> Number
+    requires { ⌜ (n < 33) × (m < 17) × (now next ≡ replicate 512 0) ⌝ }
+    ensures { λ r. ⌜ r ≡ outcome (runs (read (now (s .entry))) (between 0 n 9) m n [] at) ⌝ }
+    ensures { λ r. ⌜ now (next .exit) ≡ pad 512 (runs (read (now (s .entry))) (between 0 n 9) m n [] at .values) ⌝ }
+{
+    let mut place = at;
+    let mut q: usize = 0;
+    while q < n as usize {
+        let row = fill(s, place, next, q * 16, m, n, 9, 16);
+        if row.refusal != 0 {
+            return varint::fault(row.refusal, row.place);
+        }
+        place = row.place;
+        q = q + 1;
+    }
+    Number {
+        refusal: 0,
+        value: 0,
+        place,
+    }
+}
+
 // The classes, flags and next states after the first four numbers.
 fn read_tables(
     s: &[u8],
@@ -119,18 +143,12 @@ fn read_tables(
         return refused(f.refusal, f.place);
     }
     let mut next = [0u8; 512];
-    let mut place = f.place;
-    let mut q: usize = 0;
-    while q < n {
-        let row = fill(s, place, &mut next, q * 16, m, states, 9, 16);
-        if row.refusal != 0 {
-            return refused(row.refusal, row.place);
-        }
-        place = row.place;
-        q = q + 1;
+    let t = fill_rows(s, f.place, &mut next, states, m);
+    if t.refusal != 0 {
+        return refused(t.refusal, t.place);
     }
-    if place < s.len() {
-        return refused(10, place);
+    if t.place < s.len() {
+        return refused(10, t.place);
     }
     Parsed {
         refusal: 0,

@@ -1,6 +1,6 @@
 -- The call's answers, row by row, over what its functions hand back.
 use Prim.Native.Nat.{_≤_, _<_}
-use mathlib.Core.Path.{_≡_, sym, _∙_}
+use mathlib.Core.Path.{_≡_}
 use mathlib.Core.Bool.{Bool, true, false}
 use native.Mathlib.Omega.{arith}
 use Rattle.base.specs.Rows.{first}
@@ -10,12 +10,9 @@ use Rattle.automaton.proofs.Facts.{valid-facts}
 use Rattle.configuration.specs.declared.Configuration.{Configuration}
 use Rattle.configuration.specs.Configuration.{consistent, heldEvents}
 use Rattle.configuration.proofs.Facts.{consistent-facts}
-use Rattle.game.specs.Game.{Verdict, mayRest, canRest, gameRefusal, refused, verdict}
-use Rattle.game.specs.Parts.{heldFrom, Playable, tooLargeIn}
-use Rattle.game.proofs.Arena.{arenaOf, may-same, can-same, playable, too-large-parts, held-all}
-
-abbrev pub row17 : Automaton → Configuration → Bool
-row17 a c = tooLargeIn (a .states) (a .symbols) (a .classes) (c .held)
+use Rattle.game.specs.Game.{Verdict, mayRest, canRest, tooLarge, gameRefusal, refused, verdict}
+use Rattle.game.specs.Parts.{heldFrom, Playable}
+use Rattle.game.proofs.Arena.{arenaOf, may-same, can-same, playable, held-all}
 
 abbrev answer : Bool → Bool → Verdict
 answer may can = record { refusal = 0; «may_rest» = may; «can_rest» = can }
@@ -31,15 +28,15 @@ module _ (a : Automaton) (c : Configuration) where
     refused-13 k = rw (v, k)
 
     module _ (k : consistent a c ≡ true) where
-      pub refused-17 : row17 a c ≡ true → refused 17 ≡ verdict a c
+      pub refused-17 : tooLarge a c ≡ true → refused 17 ≡ verdict a c
       unfolding verdict gameRefusal first
-      refused-17 l = rw (v, k, sym (too-large-parts a c) ∙ l)
+      refused-17 l = rw (v, k, l)
 
-      answered : row17 a c ≡ false → answer (mayRest a (heldEvents c) (a .states) (c .state)) (canRest a (heldEvents c) (a .states) (c .state)) ≡ verdict a c
+      answered : tooLarge a c ≡ false → answer (mayRest a (heldEvents c) (a .states) (c .state)) (canRest a (heldEvents c) (a .states) (c .state)) ≡ verdict a c
       unfolding verdict gameRefusal first
-      answered l = rw (v, k, sym (too-large-parts a c) ∙ l)
+      answered l = rw (v, k, l)
 
-      pub played : row17 a c ≡ false → (may can : Bool)
+      pub played : tooLarge a c ≡ false → (may can : Bool)
           → may ≡ mayRest (arenaOf a) (heldFrom (c .buffer) (c .held) 0) (a .states) (c .state)
           → can ≡ canRest (arenaOf a) (heldFrom (c .buffer) (c .held) 0) (a .states) (c .state)
           → answer may can ≡ verdict a c
@@ -48,5 +45,5 @@ module _ (a : Automaton) (c : Configuration) where
       pub can-play : Playable (arenaOf a) (c .buffer) (c .held) × (0 ≤ c .held) × (c .state < a .states)
       can-play =
           let x = valid-facts a v in
-          let y = consistent-facts a c x (k) in
+          let y = consistent-facts a c x k in
           (playable a c x y, omega arith, y .state-below)

@@ -7,13 +7,13 @@ use native.Mathlib.Omega.{arith}
 use lib.ListN.{take}
 use Rattle.base.proofs.Ranges.{each-same}
 use Rattle.automaton.specs.declared.Automaton.{Automaton}
-use Rattle.automaton.specs.Automaton.{controllable, uncontrollable, accepts, step}
+use Rattle.automaton.specs.Automaton.{controllable, accepts, step}
 use Rattle.automaton.proofs.Facts.{Valid}
 use Rattle.configuration.specs.declared.Configuration.{Configuration}
 use Rattle.configuration.specs.Configuration.{heldEvents}
 use Rattle.configuration.proofs.Facts.{Consistent, held-event}
-use Rattle.game.specs.Game.{restsBy, releases, mayRest, canRest, tooLarge}
-use Rattle.game.specs.Parts.{arena, heldFrom, Playable, uncontrollableIn, tooLargeIn}
+use Rattle.game.specs.Game.{restsBy, releases, mayRest, canRest}
+use Rattle.game.specs.Parts.{arena, heldFrom, Playable}
 
 abbrev pub arenaOf : Automaton → Automaton
 arenaOf a = arena (a .states) (a .symbols) (a .classes) (a .accepting) (a .next)
@@ -52,10 +52,6 @@ module _ (a : Automaton) (c : Configuration) where
     steps = v .step-below;
     events = λ i l. held-event a c k i l .0;
   }
-
-  pub too-large-parts : tooLargeIn (a .states) (a .symbols) (a .classes) (c .held) ≡ tooLarge a c
-  unfolding tooLargeIn tooLarge uncontrollableIn uncontrollable controllable
-  too-large-parts = refl
 
   -- all that is held
   pub held-all : heldFrom (c .buffer) (c .held) 0 ≡ heldEvents c

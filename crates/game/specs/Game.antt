@@ -6,7 +6,8 @@ use lib.Dec.{eqb, ltb}
 use Rattle.base.specs.Each.{each, count}
 use Rattle.base.specs.Rows.{first}
 use Rattle.automaton.specs.declared.Automaton.{Automaton}
-use Rattle.automaton.specs.Automaton.{controllable, uncontrollable, accepts, step, valid}
+use Rattle.automaton.specs.Parts.{controllableAt}
+use Rattle.automaton.specs.Automaton.{controllable, accepts, step, valid}
 use Rattle.configuration.specs.declared.Configuration.{Configuration}
 use Rattle.configuration.specs.Configuration.{consistent, heldEvents}
 pub use Rattle.game.specs.declared.Verdict.{Verdict}
@@ -32,8 +33,12 @@ unfoldable pub canRest : Automaton → List ℕ → ℕ → ℕ → Bool
 canRest a w r q = mayRest a w r q || releases a w q
 
 -- row 17: over 4 states, 2 uncontrollable symbols or 3 held events
-unfoldable pub tooLarge : Automaton → Configuration → Bool
-tooLarge a c = ltb 4 (a .states) || (ltb 2 (count (a .symbols) (uncontrollable a)) || ltb 3 (c .held))
+unfoldable pub tooLargeIn : ℕ → ℕ → List ℕ → ℕ → Bool
+tooLargeIn states symbols classes held =
+    ltb 4 states || (ltb 2 (count symbols (λ e. not (controllableAt classes e))) || ltb 3 held)
+
+abbrev pub tooLarge : Automaton → Configuration → Bool
+tooLarge a c = tooLargeIn (a .states) (a .symbols) (a .classes) (c .held)
 
 -- the rows that the game checks
 unfoldable pub gameRefusal : Automaton → Configuration → ℕ

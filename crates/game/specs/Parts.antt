@@ -1,15 +1,13 @@
--- What the game's inner functions hand back: they are lent the arrays of the automaton and not the record.
+-- What the game's inner functions hand back and ask. They are lent arrays and not the record, and the game is defined over an
+-- automaton: so they speak of the one that is made of what they are lent.
 use Prim.Native.Nat.{ℕ, _-_, _≤_, _<_}
 use mathlib.Core.Path.{_≡_}
-use mathlib.Core.Bool.{Bool, not, _||_}
 use mathlib.Core.List.{List}
 use lib.ListN.{length, getD, take, drop}
-use lib.Dec.{eqb, ltb}
-use Rattle.base.specs.Each.{count}
 use Rattle.automaton.specs.declared.Automaton.{Automaton}
 use Rattle.automaton.specs.Automaton.{step}
 
--- an automaton as far as the game reads it
+-- an automaton as far as the game reads it: of its capacity and initial state it reads nothing
 abbrev pub arena : ℕ → ℕ → List ℕ → List ℕ → List ℕ → Automaton
 arena states symbols classes accepting next =
     record { states = states; symbols = symbols; capacity = 0; initial = 0; classes = classes; accepting = accepting; next = next }
@@ -26,11 +24,3 @@ pub record Playable (a : Automaton) (buffer : List ℕ) (held : ℕ) : Type 0 wh
   pub buffer-length : length buffer ≡ 6
   pub steps : (q e : ℕ) → q < a .states → e < a .symbols → step a q e < a .states
   pub events : (i : ℕ) → i < held → getD buffer i 0 < a .symbols
-
--- how many of the first m symbols are uncontrollable
-unfoldable pub uncontrollableIn : List ℕ → ℕ → ℕ
-uncontrollableIn classes m = count m (λ e. not (eqb (getD classes e 0) 1))
-
--- row 17
-unfoldable pub tooLargeIn : ℕ → ℕ → List ℕ → ℕ → Bool
-tooLargeIn states symbols classes held = ltb 4 states || (ltb 2 (uncontrollableIn classes symbols) || ltb 3 held)

@@ -1,4 +1,4 @@
-// The game for small automata: may we rest here, and can we come to rest?
+// The game (document 01's second judge) for small automata: may we rest here, and can we come to rest?
 use automaton::Automaton;
 use configuration::Configuration;
 

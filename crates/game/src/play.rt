@@ -1,14 +1,14 @@
 // The two questions, which put each other, over n states and m symbols. The events still held stand from `at` to `held`.
 ghost use mathlib.Core.Path.{_≡_};
-ghost use Prim.Native.Nat.{_+_, _*_, _<_, _≤_};
-ghost use lib.ListN.{getD};
+ghost use Prim.Native.Nat.{_<_, _≤_};
+ghost use Rattle.automaton.specs.Parts.{goes};
 ghost use Rattle.game.specs.Game.{mayRest, canRest};
 ghost use Rattle.game.specs.Parts.{arena, heldFrom, Playable};
 
 // The next state of q under e.
 fn step(next: &[u8; 512], q: usize, e: usize) -> usize
     requires { ⌜ (q < 32) × (e < 16) ⌝ }
-    ensures { λ r. ⌜ r ≡ getD (now (next .entry)) (q * 16 + e) 0 ⌝ }
+    ensures { λ r. ⌜ r ≡ goes (now (next .entry)) q e ⌝ }
 {
     base::size(next[q * 16 + e])
 }

@@ -5,34 +5,34 @@ use mathlib.Core.List.{List, [], _∷_, _++_, append-nil}
 use mathlib.Core.Bool.{Bool, true, _&&_, _||_, and-true}
 use native.Mathlib.Omega.{arith}
 use lib.Bits.{bitOr}
-use lib.Dec.{eqb}
 use lib.ListN.{length, getD, length-append, List·getD-append}
 use lib.Seq.{getD-append-seam}
 use Rattle.base.specs.Each.{each, those}
-use Rattle.base.specs.Masks.{has}
+use Rattle.base.specs.Masks.{has, mask}
 use Rattle.base.specs.Pad.{pad}
 use Rattle.base.proofs.Bools.{by}
 use Rattle.base.proofs.Ranges.{each-more, each-same}
 use Rattle.base.proofs.Masks.{mask-lt, mask-same, has-or}
 use Rattle.base.proofs.Padding.{pad-inside}
 use Rattle.automaton.specs.declared.Automaton.{Automaton}
+use Rattle.automaton.specs.Parts.{controllableAt, acceptingAt, goes}
 use Rattle.automaton.specs.Automaton.{controllable, accepts, step, valid}
 use Rattle.automaton.proofs.Facts.{valid-facts}
 use Rattle.sets.specs.declared.Sets.{Sets}
 use Rattle.sets.specs.Sets.{acceptingSet, admits, stays, refine, settle, settled, into}
 use Rattle.sets.proofs.Total.{total}
-use Rattle.refinement.specs.Parts.{Fits, flagged, freeTo, leads, leftOf, settledOn, predecessors}
+use Rattle.refinement.specs.Parts.{Fits, freeTo, leads, leftOf, settledOn, predecessors}
 use Rattle.refinement.proofs.Free.{free-length, free-below}
 
 -- a test of each uncontrollable symbol
 free-each : (classes : List ℕ) (p : ℕ → Bool) (m : ℕ)
-    → each (length (freeTo classes m)) (λ k. p (getD (freeTo classes m) k 0)) ≡ each m (λ e. eqb (getD classes e 0) 1 || p e)
+    → each (length (freeTo classes m)) (λ k. p (getD (freeTo classes m) k 0)) ≡ each m (λ e. controllableAt classes e || p e)
 unfolding those each
 free-each classes p zero = refl
 free-each classes p (suc e) =
     let l = freeTo classes e in
-    by (eqb (getD classes e 0) 1)
-    (λ b. rw (b, append-nil l, free-each classes p e) (sym (and-true (each e (λ e. eqb (getD classes e 0) 1 || p e)))))
+    by (controllableAt classes e)
+    (λ b. rw (b, append-nil l, free-each classes p e) (sym (and-true (each e (λ e. controllableAt classes e || p e)))))
     (λ b. rw (b, length-append l (e ∷ []))
     (each-more (length l) (λ k. p (getD (l ++ e ∷ []) k 0)) ∙
     ap₂ _&&_
@@ -59,15 +59,15 @@ module _ (a : Automaton) where
   unfolding acceptingSet
   accepting-below = mask-lt (a .states) (accepts a)
 
-  pub flagged-is : flagged (a .accepting) (a .states) ≡ acceptingSet a
-  unfolding flagged acceptingSet accepts
-  flagged-is = refl
+  pub accepting-is : mask (a .states) (acceptingAt (a .accepting)) ≡ acceptingSet a
+  unfolding acceptingSet accepts
+  accepting-is = refl
 
   -- one round
   leads-is : (i home x q : ℕ) → leads (a .next) (pad 16 free) (length free) (bitOr x i) q ≡ stays a i home x q
   unfolding leads stays admits controllable step
   leads-is i home x q =
-      each-same (length free) (λ k. has (bitOr x i) (getD (a .next) (q * 16 + getD (pad 16 free) k 0) 0)) (λ k. has x (step a q (getD free k 0)) || has i (step a q (getD free k 0)))
+      each-same (length free) (λ k. has (bitOr x i) (goes (a .next) q (getD (pad 16 free) k 0))) (λ k. has x (step a q (getD free k 0)) || has i (step a q (getD free k 0)))
       (λ k h. ap (λ e. has (bitOr x i) (step a q e)) (pad-inside 16 free k h) ∙ has-or x i (step a q (getD free k 0))) ∙
       free-each (a .classes) (λ e. has x (step a q e) || has i (step a q e)) (a .symbols)
 

@@ -4,7 +4,6 @@ use mathlib.Core.Path.{_≡_, _∙_, ap}
 use mathlib.Core.List.{List, [], _∷_, _++_, append-nil}
 use native.Mathlib.Numerals.{add-one}
 use native.Mathlib.Omega.{arith}
-use lib.Dec.{eqb}
 use lib.ListN.{length, getD, set, length-append}
 use borrow.Author.Tests.{eq-eqb, ne-eqb}
 use Rattle.base.specs.Each.{those}
@@ -12,6 +11,7 @@ use Rattle.base.specs.Pad.{pad}
 use Rattle.base.proofs.Bools.{by}
 use Rattle.base.proofs.Every.{Every, every-cons, every-append}
 use Rattle.base.proofs.Padding.{pad-set, pad-every}
+use Rattle.automaton.specs.Parts.{controllableAt}
 use Rattle.refinement.specs.Parts.{Below, freeTo, freeOf}
 
 module _ (classes : List ℕ) where
@@ -28,7 +28,7 @@ module _ (classes : List ℕ) where
   unfolding those
   free-length zero = omega arith
   free-length (suc e) =
-      by (eqb (getD classes e 0) 1)
+      by (controllableAt classes e)
       (λ t. rw (t, length-append (freeTo classes e) []) (omega (arith, free-length e)))
       (λ f. rw (f, length-append (freeTo classes e) (e ∷ [])) (omega (arith, free-length e)))
 
@@ -36,7 +36,7 @@ module _ (classes : List ℕ) where
   unfolding those
   free-small m zero h = λ i l. absurd (omega arith)
   free-small m (suc e) h =
-      by (eqb (getD classes e 0) 1)
+      by (controllableAt classes e)
       (λ t. rw (t, append-nil (freeTo classes e)) (free-small m e (omega arith)))
       (λ f. rw f (every-append (λ x. x < m) (freeTo classes e) (e ∷ []) (free-small m e (omega arith))
       (every-cons (λ x. x < m) e [] (omega arith) (λ i l. absurd (omega arith)))))

@@ -12,7 +12,8 @@ use Rattle.base.proofs.Bools.{and-left, and-both}
 use Rattle.base.proofs.Ranges.{each-more, each-false, count-max}
 use Rattle.base.proofs.Masks.{mask-lt, mask-in, mask-part, fewer-states}
 use Rattle.sets.proofs.Rounds.{settle-keeps}
-use Rattle.refinement.specs.Parts.{goes, leads, leftOf, settledOn}
+use Rattle.automaton.specs.Parts.{goes}
+use Rattle.refinement.specs.Parts.{leads, leftOf, settledOn}
 
 -- the scan of a state's symbols
 module _ (next free : List ℕ) (x q : ℕ) where

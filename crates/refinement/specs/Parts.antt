@@ -1,14 +1,16 @@
 -- What the inner functions of the solver hand back, over the arrays that are lent to them: the next states and the first u of a list
--- of symbols.
-use Prim.Native.Nat.{ℕ, zero, suc, _+_, _*_, _<_, _≤_}
-use mathlib.Core.Bool.{Bool, cond, not, _&&_}
-use mathlib.Core.List.{List, [], _∷_, _++_}
+-- of symbols. Where that is the list of the uncontrollable symbols, a round looks at no others and at one set instead of two: `leads`,
+-- `leftOf`, `settledOn` and `predecessors` are then `stays`, `refine`, `settled` and `into` of crate sets, which follow document 01's
+-- words (proofs/Agreeing.antt).
+use Prim.Native.Nat.{ℕ, _<_, _≤_}
+use mathlib.Core.Bool.{Bool, not, _&&_}
+use mathlib.Core.List.{List}
 use lib.Bits.{bitOr}
-use lib.Dec.{eqb}
 use lib.ListN.{length, getD}
 use Rattle.base.specs.Each.{each, those}
 use Rattle.base.specs.Masks.{has, mask}
 use Rattle.base.specs.Pad.{pad}
+use Rattle.automaton.specs.Parts.{controllableAt, goes}
 use Rattle.sets.specs.declared.Settled.{Settled}
 use Rattle.sets.specs.Sets.{settle}
 pub use Rattle.refinement.specs.declared.Symbols.{Symbols}
@@ -24,21 +26,13 @@ pub record Fits (next free : List ℕ) (n u : ℕ) : Type 0 where
   pub next-below : Below 32 next
   pub free-below : Below 16 free
 
--- the states whose flag is 1
-unfoldable pub flagged : List ℕ → ℕ → ℕ
-flagged flags n = mask n (λ q. eqb (getD flags q 0) 1)
-
 -- the symbols below m that are not controllable, rising
 abbrev pub freeTo : List ℕ → ℕ → List ℕ
-freeTo classes m = those m (λ e. not (eqb (getD classes e 0) 1))
+freeTo classes m = those m (λ e. not (controllableAt classes e))
 
 -- .. as an array, with their number
 unfoldable pub freeOf : List ℕ → ℕ → Symbols
 freeOf classes m = record { count = length (freeTo classes m); list = pad 16 (freeTo classes m) }
-
--- the next state of q under e
-abbrev pub goes : List ℕ → ℕ → ℕ → ℕ
-goes next q e = getD next (q * 16 + e) 0
 
 -- each of the first u symbols leads from q into the set x
 unfoldable pub leads : List ℕ → List ℕ → ℕ → ℕ → ℕ → Bool

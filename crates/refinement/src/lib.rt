@@ -6,7 +6,9 @@ use base::size;
 use sets::Settled;
 ghost use mathlib.Core.Path.{_≡_};
 ghost use Prim.Native.Nat.{_<_, _≤_};
-ghost use Rattle.refinement.specs.Parts.{Below, Fits, flagged, freeOf, leftOf, settledOn, predecessors};
+ghost use Rattle.base.specs.Masks.{mask};
+ghost use Rattle.automaton.specs.Parts.{acceptingAt};
+ghost use Rattle.refinement.specs.Parts.{Below, Fits, freeOf, leftOf, settledOn, predecessors};
 
 // Some of the symbols, in rising order: the first `count` of the list.
 pub struct Symbols {
@@ -17,7 +19,7 @@ pub struct Symbols {
 // The accepting states as a set.
 pub fn accepting_states(flags: &[u8; 32], n: usize) -> u32
     requires { ⌜ n ≤ 32 ⌝ }
-    ensures { λ r. ⌜ r ≡ flagged (now (flags .entry)) n ⌝ }
+    ensures { λ r. ⌜ r ≡ mask n (acceptingAt (now (flags .entry))) ⌝ }
 {
     let mut set: u32 = 0;
     let mut q: usize = 0;

@@ -83,9 +83,9 @@ module _ (a : Automaton) (v : Valid a) where
   unfolding placeIn index value shorter rankingOf controllableIn controllables controllable
   place-index [] c = refl
   place-index (e ∷ w) c =
-      let i = place-index w (c .2) in
+      let i = place-index w (c .1) in
       let k = controllables a ^ length w in
-      let r = rank-controllable e (c .0) (c .1) in
+      let r = rank-controllable e (c .0 .0) (c .0 .1) in
       rw (r, i) (let m : (rank a e + 1) * k ≡ rank a e * k + k = rw (add-one (rank a e)) (suc-mul (rank a e) k) in omega (arith, m))
 
 -- what is read of a table, with the automaton's own ranks and next states

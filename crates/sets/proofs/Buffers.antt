@@ -13,11 +13,11 @@ module _ (a : Automaton) where
   controllable-drop : (k : ℕ) (w : List ℕ) → Controllable a w → Controllable a (drop k w)
   controllable-drop zero w c = c
   controllable-drop (suc k) [] c = c
-  controllable-drop (suc k) (e ∷ w) c = controllable-drop k w (c .2)
+  controllable-drop (suc k) (e ∷ w) c = controllable-drop k w (c .1)
 
   controllable-end : (w : List ℕ) (e : ℕ) → Controllable a w → e < a .symbols → controllable a e ≡ true → Controllable a (w ++ e ∷ [])
-  controllable-end [] e c l h = (l, h, tt)
-  controllable-end (d ∷ w) e c l h = (c .0, c .1, controllable-end w e (c .2) l h)
+  controllable-end [] e c l h = ((l, h), tt)
+  controllable-end (d ∷ w) e c l h = (c .0, controllable-end w e (c .1) l h)
 
   -- the rest after a front part
   pub buffer-drop : (k : ℕ) (w : List ℕ) → Buffer a w → Buffer a (drop k w)

@@ -15,6 +15,7 @@ use Rattle.base.specs.Each.{count, those}
 use Rattle.base.proofs.Bools.{by, either, clash}
 use Rattle.automaton.specs.declared.Automaton.{Automaton}
 use Rattle.automaton.specs.Automaton.{controllable, controllables}
+use Rattle.automaton.specs.Parts.{controllableIn}
 use Rattle.sets.specs.Table.{rank, value, shorter, index, buffersCount, Controllable, Buffer, controllableTo, extended, buffersAt, buffersTo}
 use Rattle.sets.specs.Claims.{Numbered, OneToOne, Onto}
 
@@ -107,7 +108,7 @@ module _ (a : Automaton) where
   symbols = controllableTo a (a .symbols)
 
   pub symbols-length : length symbols ≡ k
-  unfolding rank controllables
+  unfolding rank controllables controllableIn controllable
   symbols-length = controllableTo-length (a .symbols)
 
   -- the buffers of length l, by value
@@ -131,8 +132,8 @@ module _ (a : Automaton) where
         → (i : ℕ) × (i < length (extended symbols ws)) × (value a w ≡ 0 + i) × (getD (extended symbols ws) i [] ≡ w)
     longer-place [] h = absurd (omega (arith, h .1))
     longer-place (e ∷ w) h =
-        let r = symbols-listed (a .symbols) .place e (h .0 .0, h .0 .1) in
-        let s = shorter-listed .place w (h .0 .2, omega (arith, h .1)) in
+        let r = symbols-listed (a .symbols) .place e (h .0 .0) in
+        let s = shorter-listed .place w (h .0 .1, omega (arith, h .1)) in
         let v : value a (e ∷ w) ≡ r .0 * length ws + s .0 = longer l e w (omega (arith, h .1)) ∙ ap₂ (λ x y. x * length ws + y) (r .2 ∙ omega arith) (s .2 ∙ omega arith) in
         (r .0 * length ws + s .0, rw (extended-length symbols ws) (digits-lt (r .1) (s .1)), v ∙ omega arith, extended-at symbols ws (r .0) (s .0) (r .1) (s .1) ∙ ap₂ _∷_ (r .3) (s .3))
 
@@ -150,7 +151,7 @@ module _ (a : Automaton) where
         let parts : p ≡ j * length ws + i = sym (div-add-mod' p (length ws)) in
         let f : getD (extended symbols ws) p [] ≡ getD symbols j 0 ∷ getD ws i [] = ap (λ n. getD (extended symbols ws) n []) parts ∙ extended-at symbols ws j i lj li in
         rw f (
-          ((r .0 .0, r .0 .1, s .0 .0), ap suc (s .0 .1)),
+          ((r .0, s .0 .0), ap suc (s .0 .1)),
           longer l (getD symbols j 0) (getD ws i []) (s .0 .1) ∙ ap₂ (λ x y. x * length ws + y) (r .1 ∙ omega arith) (s .1 ∙ omega arith) ∙ sym parts ∙ omega arith,
         )
 

@@ -76,7 +76,7 @@ last e (c ∷ w) = let r = last c w in (e ∷ r .0, r .1, ap (λ l. e ∷ l) (r 
 -- the front of controllable symbols
 front : (a : Automaton) (u w : List ℕ) → Controllable a (u ++ w) → Controllable a u
 front a [] w c = tt
-front a (e ∷ u) w c = (c .0, c .1, front a u w (c .2))
+front a (e ∷ u) w c = (c .0, front a u w (c .1))
 
 module _ (a : Automaton) (t : Total a) (S I : List ℕ → States) (d : Definition6 a S I) where
   abbrev Same : List ℕ → Type 0
@@ -116,7 +116,7 @@ module _ (a : Automaton) (t : Total a) (S I : List ℕ → States) (d : Definiti
   same (suc n) [] b c = same-none
   same (suc n) (e ∷ w) b c =
       let r = last e w in
-      let i = same-first e w c (same n w (omega arith) (c .2)) in
+      let i = same-first e w c (same n w (omega arith) (c .1)) in
       let c′ : Controllable a (r .0 ++ r .1 ∷ []) = subst (Controllable a) (r .2) c in
       rw (r .2) (same-last (r .0) (r .1) c′ (same n (r .0) (omega (arith, r .3)) (front a (r .0) (r .1 ∷ []) c′)) (rw (r .2) at i))
 

@@ -1,16 +1,16 @@
 -- What is proved of the sets and the numbering: demand 2's first sentence.
-use Prim.Native.Nat.{ℕ, suc, _+_, _*_, _<_, _≤_}
+use Prim.Native.Nat.{ℕ, _+_, _*_, _<_, _≤_}
 use mathlib.Core.Path.{_≡_}
 use mathlib.Core.Logic.{_⊎_, _↔_}
-use mathlib.Core.Bool.{Bool, true}
+use mathlib.Core.Bool.{true}
 use mathlib.Core.List.{List, [], _∷_, _++_}
 use lib.ListN.{length}
 use Rattle.base.specs.Each.{count}
 use Rattle.base.specs.Masks.{has}
 use Rattle.automaton.specs.declared.Automaton.{Automaton}
-use Rattle.automaton.specs.Automaton.{controllable, accepts, step, valid}
-use Rattle.sets.specs.Sets.{Sets, sets}
-use Rattle.sets.specs.Table.{index, buffersCount, Controllable, Buffer, table, Solved}
+use Rattle.automaton.specs.Automaton.{accepts, step, valid}
+use Rattle.sets.specs.Sets.{sets}
+use Rattle.sets.specs.Table.{index, buffersCount, Buffer, table, Solved}
 use Rattle.sets.specs.Definition6.{States, Final, Uncontrollable, Definition6}
 
 -- q is in S, or in I, of a buffer

@@ -5,6 +5,7 @@ use mathlib.Core.Path.{_≡_}
 use mathlib.Core.Logic.{_⊎_, _↔_}
 use mathlib.Core.Bool.{Bool, true}
 use mathlib.Core.List.{List, [], _∷_, _++_}
+use Rattle.base.specs.All.{AllOf}
 use Rattle.automaton.specs.declared.Automaton.{Automaton}
 use Rattle.automaton.specs.Automaton.{uncontrollable, accepts, step, run}
 use Rattle.sets.specs.Table.{Controllable}
@@ -43,8 +44,7 @@ Uncontrollable a e = (e < a .symbols) × (uncontrollable a e ≡ true)
 
 -- a list of them: an element of Σu*
 abbrev pub AllUncontrollable : Automaton → List ℕ → Type 0
-AllUncontrollable a [] = Unit {0}
-AllUncontrollable a (e ∷ es) = Uncontrollable a e × AllUncontrollable a es
+AllUncontrollable a = AllOf (Uncontrollable a)
 
 -- uPred(X): the states that some uncontrollable symbol takes into X
 abbrev pub UPred : Automaton → States → States

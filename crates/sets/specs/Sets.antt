@@ -15,7 +15,8 @@ unfoldable pub acceptingSet : Automaton → ℕ
 acceptingSet a = mask (a .states) (accepts a)
 
 -- The test of one uncontrollable symbol e at q in a round: it leads into the set x, as it stood when the round began, or into i.
--- (`home` is the winning set of the empty buffer; no class asks for it yet.)
+-- (`home` is not read: it is a slot for symbols, of a later request, that have to lead into S of the empty buffer. In the rounds of a
+-- longer buffer it is that set; in those of the empty one, whose S is still sought, it is x.)
 unfoldable pub admits : Automaton → ℕ → ℕ → ℕ → ℕ → ℕ → Bool
 admits a i home x q e = has x (step a q e) || has i (step a q e)
 
@@ -38,23 +39,26 @@ settle round zero x = record { set = x; rounds = 0 }
 settle round (suc fuel) x =
     cond (eqb (round x) x) (record { set = x; rounds = 0 }) (again (settle round fuel (round x)))
 
--- S where I is i, by rounds from all accepting states
+-- S where I is i, by rounds from all accepting states; `home` says what the slot is in the round from a set
 unfoldable pub settled : Automaton → ℕ → (ℕ → ℕ) → Settled
 settled a i home = settle (λ x. refine a i (home x) x) (acceptingSet a) (acceptingSet a)
 
+-- both sets of a buffer whose I is i
 unfoldable pub setsOf : Automaton → ℕ → (ℕ → ℕ) → Sets
 setsOf a i home =
     let r = settled a i home in
     record { winning = r .set; intermediate = i; rounds = r .rounds }
 
--- of the empty buffer: no state is intermediate
+-- of the empty buffer: I is empty
 unfoldable pub emptySets : Automaton → Sets
 emptySets a = setsOf a 0 (λ x. x)
 
--- every state that e takes into S or I
+-- I of e followed by a buffer with the sets t: every state that e takes into its S or I
 unfoldable pub into : Automaton → ℕ → Sets → ℕ
 into a e t = mask (a .states) (λ q. has (t .winning) (step a q e) || has (t .intermediate) (step a q e))
 
+-- The two sets of a buffer w (document 01's held list): `winning` is S(w), where the monitor may rest; `intermediate` is I(w), where it
+-- must release its first held event.
 unfoldable pub sets : Automaton → List ℕ → Sets
 sets a [] = emptySets a
 sets a (e ∷ w) = setsOf a (into a e (sets a w)) (λ x. emptySets a .winning)

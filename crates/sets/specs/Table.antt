@@ -1,10 +1,11 @@
 -- The numbering of buffers and the table (document 01, "Where it may rest, where it must release").
-use Prim.Native.Nat.{ℕ, zero, suc, _+_, _*_, _^_, _%_, _<_, _≤_}
+use Prim.Native.Nat.{ℕ, zero, suc, _+_, _*_, _^_, _<_, _≤_}
 use mathlib.Core.Path.{_≡_}
-use mathlib.Core.Bool.{Bool, true, cond}
+use mathlib.Core.Bool.{Bool, true}
 use mathlib.Core.List.{List, [], _∷_, _++_, map}
 use lib.ListN.{length, getD}
 use lib.Dec.{ltb}
+use Rattle.base.specs.All.{AllOf}
 use Rattle.base.specs.Each.{count, those}
 use Rattle.base.specs.Masks.{has}
 use Rattle.automaton.specs.declared.Automaton.{Automaton}
@@ -39,10 +40,9 @@ short a t = ltb (length t) (2 * buffersCount a)
 
 -- a list of controllable symbols
 abbrev pub Controllable : Automaton → List ℕ → Type 0
-Controllable a [] = Unit {0}
-Controllable a (e ∷ w) = (e < a .symbols) × (controllable a e ≡ true) × Controllable a w
+Controllable a = AllOf (λ e. (e < a .symbols) × (controllable a e ≡ true))
 
--- a buffer that the automaton can hold
+-- a buffer (document 01's held list) up to the automaton's capacity
 abbrev pub Buffer : Automaton → List ℕ → Type 0
 Buffer a w = Controllable a w × (length w ≤ a .capacity)
 

@@ -8,6 +8,7 @@ use lib.Dec.{eqb}
 use lib.ListN.{length, getD, length-append}
 use borrow.Author.Tests.{eq-eqb, ne-eqb, eqb-true, eqb-false}
 use Rattle.base.proofs.Bools.{by}
+use Rattle.automaton.specs.Parts.{controllableAt}
 use Rattle.sets.specs.declared.Sets.{Sets}
 use Rattle.sets.specs.Table.{pairs, roundsSum}
 use Rattle.table.specs.Parts.{rowOf, levelOf, stored}
@@ -32,7 +33,7 @@ module _ (f : ℕ → ℕ → Sets) (classes t : List ℕ) (from count : ℕ) wh
   -- by whether it is controllable
   at-symbol : (P : List Sets → Type 0) (e : ℕ) → (getD classes e 0 ≡ 1 → P (level e ++ row e)) → P (level e) → P (level (suc e))
   at-symbol P e p r =
-      by (eqb (getD classes e 0) 1)
+      by (controllableAt classes e)
       (λ b. let h = eqb-true (getD classes e 0) 1 b in rw (level-row e h) (p h))
       (λ b. rw (level-pass e (eqb-false (getD classes e 0) 1 b)) r)
 

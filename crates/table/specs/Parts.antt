@@ -4,9 +4,9 @@ use mathlib.Core.Path.{_≡_}
 use mathlib.Core.Bool.{cond}
 use mathlib.Core.List.{List, [], _∷_, _++_}
 use lib.Bits.{bitOr}
-use lib.Dec.{eqb}
 use lib.ListN.{getD}
 use lib.Seq.{sets as stores}
+use Rattle.automaton.specs.Parts.{controllableAt}
 use Rattle.sets.specs.declared.Sets.{Sets}
 use Rattle.sets.specs.Table.{pairs, roundsSum}
 use Rattle.refinement.specs.Parts.{settledOn, predecessors}
@@ -31,7 +31,7 @@ rowOf f t from (suc j) = rowOf f t from j ++ f (goalAt t from j) ∷ []
 unfoldable pub levelOf : (ℕ → ℕ → Sets) → List ℕ → ℕ → List ℕ → ℕ → ℕ → List Sets
 levelOf f classes zero t from count = []
 levelOf f classes (suc e) t from count =
-    levelOf f classes e t from count ++ cond (eqb (getD classes e 0) 1) (rowOf (f e) t from count) []
+    levelOf f classes e t from count ++ cond (controllableAt classes e) (rowOf (f e) t from count) []
 
 -- a table with sets stored from a place on
 abbrev pub stored : List ℕ → ℕ → List Sets → List ℕ

@@ -1,6 +1,6 @@
 -- What the solver's calls answer, case by case.
 use Prim.Native.Nat.{ℕ, _+_, _-_, _*_, _^_, _<_, _≤_}
-use mathlib.Core.Path.{_≡_, refl, sym, _∙_}
+use mathlib.Core.Path.{_≡_, refl, sym, _∙_, ap}
 use mathlib.Core.Bool.{true, false, not}
 use mathlib.Core.List.{List, [], _∷_, _++_}
 use native.Mathlib.Nat.{pow-zero, pow-suc}
@@ -12,17 +12,16 @@ use Rattle.base.proofs.Bools.{by}
 use Rattle.base.proofs.Refusals.{first-stands, first-passes}
 use Rattle.base.specs.Rows.{first}
 use Rattle.automaton.specs.declared.Automaton.{Automaton}
+use Rattle.automaton.specs.Parts.{controllableIn}
 use Rattle.automaton.specs.Automaton.{valid, controllables}
 use Rattle.automaton.proofs.Facts.{valid-facts}
 use Rattle.sets.specs.Table.{shorter, buffersCount, table, rounds, short}
 use Rattle.sets.proofs.Tables.{table-is-solved}
 use Rattle.sets.proofs.Paper.{only-definition6}
 use Rattle.winning.specs.declared.Count.{Count}
-use Rattle.refinement.specs.declared.Symbols.{Symbols}
-use Rattle.refinement.specs.Parts.{freeOf}
 use Rattle.winning.specs.Solving.{solveRefusal, solution, solvedTable, countAnswer}
 use Rattle.winning.specs.Claims.{LeavesSolved, SolvesDefinition6}
-use Rattle.winning.proofs.Bounds.{pow-small, shorter-small, shorter-one, controllables-count}
+use Rattle.winning.proofs.Bounds.{pow-small, shorter-small, shorter-one}
 
 -- a loop that counts the buffers length by length
 pub record Counting (k l count sum : ℕ) : Type 0 where
@@ -46,27 +45,21 @@ module _ (k l count sum : ℕ) (s : Counting k l count sum) where
   )
 
 module _ (a : Automaton) where
-  -- the controllable symbols are those that are left
-  module _ (v : valid a ≡ true) (m : ℕ) (free : Symbols) (p : m ≡ a .symbols) (s : free ≡ freeOf (a .classes) m) where
-    parts : free .count + controllables a ≡ m
-    unfolding freeOf
-    parts = rw (s, p) (controllables-count a)
+  -- T, from the number of controllable symbols
+  module _ (v : valid a ≡ true) (m b k : ℕ) (p : m ≡ a .symbols) (q : b ≡ a .capacity) (r : k ≡ controllableIn (a .classes) m) where
+    radix : k ≡ controllables a
+    unfolding controllables
+    radix = r ∙ ap (controllableIn (a .classes)) p
 
-    pub rest-within : free .count ≤ m
-    rest-within = omega (arith, parts)
+    pub buffers-few : (k ≤ 8) × (b ≤ 6)
+    buffers-few = let f = valid-facts a v in (omega (arith, radix, f .controllables-high), omega (arith, q, f .capacity-high))
 
-    module _ (b : ℕ) (q : b ≡ a .capacity) where
-      pub rest-small : (m - free .count ≤ 8) × (b ≤ 6)
-      rest-small = let f = valid-facts a v in (omega (arith, parts, f .controllables-high), omega (arith, q, f .capacity-high))
+    pub buffers-all : shorter k (b + 1) ≡ buffersCount a
+    unfolding buffersCount
+    buffers-all = rw (radix, q, add-one (a .capacity))
 
-      pub rest-count : shorter (m - free .count) (b + 1) ≡ buffersCount a
-      unfolding buffersCount
-      rest-count = let e : m - free .count ≡ controllables a = omega (arith, parts) in rw (e, q, add-one (a .capacity))
-
-      pub rest-fits : shorter (m - free .count) (b + 1) ≤ 1835008
-      rest-fits =
-          let r = rest-small in
-          omega (arith, shorter-small (m - free .count) (b + 1) (r .0) (omega (arith, r .1)), r .1)
+    pub buffers-fit : shorter k (b + 1) ≤ 1835008
+    buffers-fit = let f = buffers-few in omega (arith, shorter-small k (b + 1) (f .0) (omega (arith, f .1)), f .1)
 
   pub count-refused : valid a ≡ false → record { refusal = 11; count = 0 } ≡ countAnswer a
   unfolding countAnswer

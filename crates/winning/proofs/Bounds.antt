@@ -1,22 +1,20 @@
 -- How many buffers there are at most, and how many rounds.
-use Prim.Native.Nat.{ℕ, zero, suc, _+_, _*_, _^_, _≤_}
+use Prim.Native.Nat.{ℕ, zero, suc, _*_, _^_, _≤_}
 use mathlib.Core.Path.{_≡_}
 use mathlib.Core.List.{List, [], _∷_, map}
 use native.Mathlib.Nat.{pow-zero, pow-le-pow-left, pow-le-pow-right}
 use native.Mathlib.Omega.{arith}
 use lib.Dec.{eqb}
-use lib.ListN.{length, getD, length-append}
+use lib.ListN.{length}
 use borrow.Author.Tests.{eqb-true, eqb-false}
-use Rattle.base.specs.Each.{count, those}
 use Rattle.base.proofs.Bools.{by}
 use Rattle.base.proofs.Ranges.{count-max}
 use Rattle.automaton.specs.declared.Automaton.{Automaton}
-use Rattle.automaton.specs.Automaton.{controllable, controllables, accepts}
+use Rattle.automaton.specs.Automaton.{accepts}
 use Rattle.automaton.proofs.Facts.{Valid}
 use Rattle.sets.specs.Sets.{sets}
 use Rattle.sets.specs.Table.{shorter, roundsSum}
 use Rattle.sets.proofs.Largest.{sets-are}
-use Rattle.refinement.specs.Parts.{freeTo}
 
 -- at most 8 symbols and 6 events
 pub pow-small : (k l : ℕ) → k ≤ 8 → l ≤ 6 → k ^ l ≤ 262144
@@ -39,20 +37,7 @@ pub shorter-one : (k : ℕ) → shorter k 1 ≡ 1
 unfolding shorter
 shorter-one k = omega (arith, pow-zero k)
 
--- a symbol is controllable or not
-free-count : (classes : List ℕ) (m : ℕ) → length (freeTo classes m) + count m (λ e. eqb (getD classes e 0) 1) ≡ m
-unfolding those count
-free-count classes zero = omega arith
-free-count classes (suc e) =
-    by (eqb (getD classes e 0) 1)
-    (λ b. rw (b, length-append (freeTo classes e) []) (omega (arith, free-count classes e)))
-    (λ b. rw (b, length-append (freeTo classes e) (e ∷ [])) (omega (arith, free-count classes e)))
-
 module _ (a : Automaton) where
-  pub controllables-count : length (freeTo (a .classes) (a .symbols)) + controllables a ≡ a .symbols
-  unfolding controllables controllable
-  controllables-count = free-count (a .classes) (a .symbols)
-
   -- the rounds of any buffers
   pub rounds-few : Valid a → (ws : List (List ℕ)) → roundsSum (map (sets a) ws) ≤ 32 * length ws
   unfolding roundsSum

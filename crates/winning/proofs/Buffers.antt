@@ -4,13 +4,13 @@ use mathlib.Core.Path.{_≡_, refl, sym, _∙_, ap, ap₂}
 use mathlib.Core.List.{List, [], _∷_, _++_, map, map-map, map-append, append-nil, append-assoc}
 use native.Mathlib.Omega.{arith}
 use lib.Bits.{bitOr}
-use lib.Dec.{eqb}
 use lib.ListN.{length, getD, take, drop, length-map, List·getD-append, List·getD-map}
 use lib.Seq.{sets-eq, take-suc, take-length}
 use Rattle.base.specs.Each.{those}
 use Rattle.base.specs.Pad.{pad}
 use Rattle.base.proofs.Bools.{by}
 use Rattle.automaton.specs.declared.Automaton.{Automaton}
+use Rattle.automaton.specs.Parts.{controllableAt}
 use Rattle.automaton.specs.Automaton.{controllable, controllables}
 use Rattle.sets.specs.declared.Sets.{Sets}
 use Rattle.sets.specs.Sets.{acceptingSet, setsOf, emptySets, into, sets}
@@ -71,7 +71,7 @@ module _ (a : Automaton) where
     unfolding levelOf those extended controllable
     level-to zero = refl
     level-to (suc c) =
-        by (eqb (getD (a .classes) c 0) 1)
+        by (controllableAt (a .classes) c)
         (λ b. rw (b, extended-append (controllableTo a c) (c ∷ []) ws, append-nil (map (λ w. c ∷ w) ws), map-append (sets a) (extended (controllableTo a c) ws) (map (λ w. c ∷ w) ws))
         (ap₂ _++_ (level-to c) (row-is c)))
         (λ b. rw (b, append-nil (controllableTo a c), append-nil (levelOf front (a .classes) c t from (length ws))) (level-to c))

@@ -8,7 +8,9 @@ use native.Mathlib.Nat.{zero-add, pow-zero, pow-suc}
 use native.Mathlib.Omega.{arith}
 use lib.ListN.{length, set, drop, length-map, length-set}
 use lib.Seq.{sets-eq, set-set, set-comm, drop-set-lt}
+use Rattle.base.specs.Masks.{mask}
 use Rattle.automaton.specs.declared.Automaton.{Automaton}
+use Rattle.automaton.specs.Parts.{controllableIn, acceptingAt}
 use Rattle.automaton.specs.Automaton.{controllables, valid}
 use Rattle.automaton.proofs.Facts.{Valid, valid-facts}
 use Rattle.sets.specs.declared.Sets.{Sets}
@@ -18,27 +20,29 @@ use Rattle.sets.specs.Table.{shorter, buffersCount, buffersAt, buffersTo, pairs
 use Rattle.sets.proofs.Numbering.{buffersAt-length, buffersTo-length}
 use Rattle.sets.proofs.Tables.{table-length}
 use Rattle.refinement.specs.declared.Symbols.{Symbols}
-use Rattle.refinement.specs.Parts.{Fits, flagged, freeOf, settledOn}
+use Rattle.refinement.specs.Parts.{Fits, freeOf, settledOn}
 use Rattle.table.specs.Parts.{setsFrom, levelOf, stored}
 use Rattle.table.proofs.Filling.{sum-append, stored-append}
-use Rattle.refinement.proofs.Agreeing.{flagged-is, lent-fits, accepting-below, settled-is}
+use Rattle.refinement.proofs.Agreeing.{accepting-is, lent-fits, accepting-below, settled-is}
 use Rattle.winning.proofs.Buffers.{front, next-level}
-use Rattle.winning.proofs.Bounds.{pow-small, shorter-small, shorter-mono, shorter-one, controllables-count, rounds-few}
+use Rattle.winning.proofs.Bounds.{pow-small, shorter-small, shorter-mono, shorter-one, rounds-few}
 
 -- what the loop has of an automaton
-pub record Lent (a : Automaton) (n m b accepting : ℕ) (free : Symbols) : Type 0 where
+pub record Lent (a : Automaton) (n m b k accepting : ℕ) (free : Symbols) : Type 0 where
   pub facts : Valid a
   pub fits : Fits (a .next) (free .list) n (free .count)
   pub states : n ≡ a .states
   pub symbols : m ≡ a .symbols
   pub capacity : b ≡ a .capacity
+  pub radix : k ≡ controllables a
   pub start : accepting ≡ acceptingSet a
   pub listed : free ≡ freeOf (a .classes) (a .symbols)
 
-pub lent-of : (a : Automaton) (n m b accepting : ℕ) (free : Symbols) → valid a ≡ true → n ≡ a .states → m ≡ a .symbols → b ≡ a .capacity
-    → accepting ≡ flagged (a .accepting) n → free ≡ freeOf (a .classes) m → Lent a n m b accepting free
-unfolding freeOf
-lent-of a n m b accepting free h p q r s t =
+pub lent-of : (a : Automaton) (n m b k accepting : ℕ) (free : Symbols) → valid a ≡ true → n ≡ a .states → m ≡ a .symbols → b ≡ a .capacity
+    → k ≡ controllableIn (a .classes) m → accepting ≡ mask n (acceptingAt (a .accepting)) → free ≡ freeOf (a .classes) m
+    → Lent a n m b k accepting free
+unfolding freeOf controllables
+lent-of a n m b k accepting free h p q r x s t =
     let l = t ∙ ap (freeOf (a .classes)) q in
     record {
       facts = valid-facts a h;
@@ -46,11 +50,12 @@ lent-of a n m b accepting free h p q r s t =
       states = p;
       symbols = q;
       capacity = r;
-      start = s ∙ ap (flagged (a .accepting)) p ∙ flagged-is a;
+      radix = x ∙ ap (controllableIn (a .classes)) q;
+      start = s ∙ ap (λ n. mask n (acceptingAt (a .accepting))) p ∙ accepting-is a;
       listed = l;
     }
 
-module _ (a : Automaton) (n m b accepting : ℕ) (free : Symbols) (lent : Lent a n m b accepting free) where
+module _ (a : Automaton) (n m b k accepting : ℕ) (free : Symbols) (lent : Lent a n m b k accepting free) where
   pub lent-small : accepting < 2 ^ n
   lent-small = rw (lent .start, lent .states) (accepting-below a)
 
@@ -61,16 +66,6 @@ module _ (a : Automaton) (n m b accepting : ℕ) (free : Symbols) (lent : Lent a
   pub lent-settled : settledOn (a .next) (free .list) n (free .count) 0 accepting ≡ settled a 0 (λ x. x)
   unfolding freeOf
   lent-settled = rw (lent .listed, lent .states, lent .start) (settled-is a 0 (λ x. x))
-
-  lent-count : free .count + controllables a ≡ m
-  unfolding freeOf
-  lent-count = rw (lent .listed, lent .symbols) (controllables-count a)
-
-  pub lent-less : free .count ≤ m
-  lent-less = omega (arith, lent-count)
-
-  lent-rest : m - free .count ≡ controllables a
-  lent-rest = omega (arith, lent-count)
 
   lent-level : (t : List ℕ) (from count : ℕ)
       → levelOf (setsFrom (a .next) (free .list) n (free .count) accepting) (a .classes) m t from count ≡ levelOf (front a) (a .classes) (a .symbols) t from count
@@ -115,17 +110,17 @@ module _ (a : Automaton) (t : List ℕ) (r : Settled) where
       drop-set-lt (2 * buffersCount a) (set t 0 (r .set)) 1 0 (omega (arith, some-buffer a)) ∙
       drop-set-lt (2 * buffersCount a) t 0 (r .set) (omega (arith, some-buffer a))
 
-module _ (a : Automaton) (n m b accepting : ℕ) (free : Symbols) (lent : Lent a n m b accepting free)
+module _ (a : Automaton) (n m b k accepting : ℕ) (free : Symbols) (lent : Lent a n m b k accepting free)
     (t₀ : List ℕ) (room : 2 * buffersCount a ≤ length t₀) (l : ℕ) (t : List ℕ) (from count sum : ℕ) (s : Lengthening a t₀ l t from count sum)
   where
-    abbrev k : ℕ
-    k = controllables a
+    abbrev c : ℕ
+    c = controllables a
 
     -- any sum of rounds is small
     pub length-fits : l ≤ b → sum ≤ 58720256
     length-fits h =
         let v = lent .facts in
-        omega (arith, lent .capacity, s .summed, rounds-few a v (buffersTo a l), buffersTo-length a l, shorter-small k (suc l) (v .controllables-high) (omega (arith, lent .capacity, v .capacity-high)))
+        omega (arith, lent .capacity, s .summed, rounds-few a v (buffersTo a l), buffersTo-length a l, shorter-small c (suc l) (v .controllables-high) (omega (arith, lent .capacity, v .capacity-high)))
 
     pub length-all : l ≡ b → (t ≡ table a ++ drop (2 * buffersCount a) t₀) × (sum ≡ rounds a)
     unfolding table rounds
@@ -139,28 +134,28 @@ module _ (a : Automaton) (n m b accepting : ℕ) (free : Symbols) (lent : Lent a
 
     -- the next length is still within the capacity
     module _ (h : l < b) where
-      longer-room : 2 * shorter k (suc (suc l)) ≤ length t₀
+      longer-room : 2 * shorter c (suc (suc l)) ≤ length t₀
       unfolding buffersCount
-      longer-room = omega (arith, lent .capacity, shorter-mono k (suc (suc l)) (suc (a .capacity)) (omega (arith, lent .capacity)))
+      longer-room = omega (arith, lent .capacity, shorter-mono c (suc (suc l)) (suc (a .capacity)) (omega (arith, lent .capacity)))
 
       pub length-small : count ≤ 262144
       length-small =
           let v = lent .facts in
-          omega (arith, s .counted, pow-small k l (v .controllables-high) (omega (arith, lent .capacity, v .capacity-high)))
+          omega (arith, s .counted, pow-small c l (v .controllables-high) (omega (arith, lent .capacity, v .capacity-high)))
 
       pub length-place : from + 2 * count ≤ 3670016
       unfolding shorter
       length-place =
           let v = lent .facts in
-          omega (arith, s .place, s .counted, lent .capacity, v .capacity-high, shorter-small k (suc l) (v .controllables-high) (omega (arith, lent .capacity, v .capacity-high)))
+          omega (arith, s .place, s .counted, lent .capacity, v .capacity-high, shorter-small c (suc l) (v .controllables-high) (omega (arith, lent .capacity, v .capacity-high)))
 
-      counted-next : count * (m - free .count) ≡ k ^ suc l
-      counted-next = rw (s .counted, lent-rest a n m b accepting free lent) (sym (pow-suc k l))
+      counted-next : count * k ≡ c ^ suc l
+      counted-next = rw (s .counted, lent .radix) (sym (pow-suc c l))
 
-      pub length-next : count * (m - free .count) ≤ 262144
+      pub length-next : count * k ≤ 262144
       length-next =
           let v = lent .facts in
-          omega (arith, counted-next, pow-small k (suc l) (v .controllables-high) (omega (arith, lent .capacity, v .capacity-high)))
+          omega (arith, counted-next, pow-small c (suc l) (v .controllables-high) (omega (arith, lent .capacity, v .capacity-high)))
 
       abbrev behind : List Sets
       behind = levelOf (setsFrom (a .next) (free .list) n (free .count) accepting) (a .classes) m t from count
@@ -171,10 +166,10 @@ module _ (a : Automaton) (n m b accepting : ℕ) (free : Symbols) (lent : Lent a
       level-is : behind ≡ level
       unfolding shorter
       level-is =
-          lent-level a n m b accepting free lent t from count ∙
+          lent-level a n m b k accepting free lent t from count ∙
           rw (s .written, s .place, s .counted) (next-level a t₀ l (omega (arith, longer-room)))
 
-      level-length : length level ≡ k ^ suc l
+      level-length : length level ≡ c ^ suc l
       level-length = rw (length-map (buffersAt a (suc l)) (sets a)) (buffersAt-length a (suc l))
 
       pub length-room : from + 2 * count + 2 * length behind ≤ length t
@@ -182,7 +177,7 @@ module _ (a : Automaton) (n m b accepting : ℕ) (free : Symbols) (lent : Lent a
       length-room = rw level-is (omega (arith, level-length, s .place, s .counted, s .same, longer-room))
 
       pub length-more : (t′ : List ℕ) (more : ℕ) → length t′ ≡ length t → t′ ≡ stored t (from + 2 * count) behind → more ≡ roundsSum behind
-          → Lengthening a t₀ (l + 1) t′ (from + 2 * count) (count * (m - free .count)) (sum + more)
+          → Lengthening a t₀ (l + 1) t′ (from + 2 * count) (count * k) (sum + more)
       unfolding buffersTo shorter
       length-more t′ more long put add =
           let so-far = map (sets a) (buffersTo a l) in

@@ -1,5 +1,6 @@
 // The solver: the sets S and I of every buffer, written into a lent table.
 use automaton::Automaton;
+use automaton::controllable_in;
 use automaton::valid;
 use base::size;
 use refinement::accepting_states;
@@ -52,9 +53,8 @@ pub fn buffers_count(a: Automaton) -> Count
             count: 0,
         };
     }
-    let m = size(a.symbols);
-    let free = uncontrollable(&a.classes, m);
-    let count = buffers_to(m - free.count, size(a.capacity));
+    let k = controllable_in(&a.classes, size(a.symbols));
+    let count = buffers_to(k, size(a.capacity));
     Count {
         refusal: 0,
         count: count as u32,
@@ -69,6 +69,7 @@ fn fill(a: Automaton, table: &mut [u32]) -> u32
     let n = size(a.states);
     let m = size(a.symbols);
     let capacity = size(a.capacity);
+    let k = controllable_in(&a.classes, m);
     let accepting = accepting_states(&a.accepting, n);
     let free = uncontrollable(&a.classes, m);
     let u = free.count;
@@ -94,7 +95,7 @@ fn fill(a: Automaton, table: &mut [u32]) -> u32
         );
         rounds = rounds + more;
         from = from + 2 * count;
-        count = count * (m - u);
+        count = count * k;
         length = length + 1;
     }
     rounds

@@ -1,8 +1,6 @@
-use Rattle.refinement.specs.Parts.{flagged}
+use Rattle.automaton.specs.Parts.{acceptingAt}
 use Rattle.base.proofs.Masks.{mask-adds, mask-passes, mask-room}
 use Rattle.base.specs.Masks.{mask}
-use lib.ListN.{getD}
-use lib.Dec.{eqb}
 use borrow.Author.Tests.{eq-eqb, ne-eqb}
 use Prim.Native.Nat.{_≤_, _-_}
 use mathlib.Core.Path.{_≡_, refl, _∙_}
@@ -13,7 +11,7 @@ use Rattle.refinement.proofs.accepting_states.Statement.{statement}
 use Rattle.refinement.proofs.accepting_states.Tie as tie
 
 abbrev Inv-loop : tie.InvT-loop
-Inv-loop flags n set₀ q₀ set q = (q ≤ n) × (set ≡ mask q (λ q. eqb (getD flags q 0) 1))
+Inv-loop flags n set₀ q₀ set q = (q ≤ n) × (set ≡ mask q (acceptingAt flags))
 
 abbrev μ-loop : tie.MeasureT-loop
 μ-loop flags n set₀ q₀ set q = n - q
@@ -41,7 +39,6 @@ loop-again : tie.Need-loop-again Inv-loop μ-loop
 loop-again c = (omega arith, ⊎-elim (λ w. w .2 ∙ mask-adds _ _ _ (c .before .before .before .loop .inv .1) (w .1 .ensures) (eq-eqb _ _ (w .0 .taken))) (λ w. w .1 ∙ mask-passes _ _ _ (c .before .before .before .loop .inv .1) (ne-eqb _ _ (w .0 .left))) (c .if1 .came))
 
 returns : tie.Need-returns Inv-loop μ-loop
-unfolding flagged
 returns c = let e : c .before .loop .q ≡ c .before .before .args .n = omega arith in rw e at (c .before .loop .inv .1)
 
 pub accepting-states-spec : {M : Type 1} → statement M

@@ -1,8 +1,8 @@
 use Prim.Native.Nat.{_≤_, _-_, _+_, _*_}
-use Rattle.refinement.specs.Parts.{goes, predecessors}
+use Rattle.automaton.specs.Parts.{goes}
+use Rattle.refinement.specs.Parts.{predecessors}
 use Rattle.base.proofs.Masks.{mask-adds, mask-passes, mask-room}
 use Rattle.base.specs.Masks.{has, mask}
-use Prim.Native.Nat.{_≤_, _-_}
 use mathlib.Core.Path.{_≡_, refl, sym, _∙_, ap}
 use mathlib.Core.Logic.{⊎-elim}
 use native.Mathlib.Omega.{arith}

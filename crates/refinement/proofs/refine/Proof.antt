@@ -1,5 +1,6 @@
 use Rattle.refinement.proofs.Scanning.{scan-none, scan-more, scan-fails}
-use Rattle.refinement.specs.Parts.{goes, leads, leftOf}
+use Rattle.refinement.specs.Parts.{leads, leftOf}
+use Rattle.automaton.specs.Parts.{goes}
 use Rattle.base.proofs.Masks.{mask-adds, mask-passes, mask-room}
 use Rattle.base.proofs.Bools.{and-both, and-left-false, and-right-false}
 use Rattle.base.specs.Masks.{has, mask}

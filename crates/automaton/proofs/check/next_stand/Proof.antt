@@ -1,0 +1,40 @@
+use Rattle.automaton.proofs.Whole.{next-falls, next-rest}
+use borrow.Author.Tests.{not-true, not-false}
+use mathlib.Core.Path.{_∙_, sym}
+use native.Mathlib.Omega.{arith}
+use borrow.Author.Needs.{needs}
+use Rattle.automaton.proofs.check.next_stand.Statement.{statement}
+use Rattle.automaton.proofs.check.next_stand.Tie as tie
+
+size-requires : tie.Need-size-requires
+size-requires c κs = search needs
+
+limits-of-requires : tie.Need-limits-of-requires
+limits-of-requires c κs = search needs
+
+rows-below-requires : tie.Need-rows-below-requires
+rows-below-requires c κs = search needs
+
+returns : tie.Need-returns
+returns c = next-falls _ _ _ (omega arith) (omega arith) (rw (c .before .before .before .before .size .ensures .0, c .before .before .before .limits-of .ensures) at (sym (c .before .rows-below .ensures) ∙ not-true _ (c .if1 .taken)))
+
+sub-rows-below : tie.Need-sub-rows-below
+sub-rows-below c = search needs
+
+rows-below-requires-2 : tie.Need-rows-below-requires-2
+rows-below-requires-2 c κs = search needs
+
+returns-2 : tie.Need-returns-2
+returns-2 c = (rw (c .before .before .before .before .before .before .size .ensures .0) at (c .rows-below2 .ensures)) ∙ next-rest _ _ _ (omega arith) (omega arith) (rw (c .before .before .before .before .before .before .size .ensures .0, c .before .before .before .before .before .limits-of .ensures) at (sym (c .before .before .before .rows-below .ensures) ∙ not-false _ (c .before .before .if1 .left)))
+
+pub next-stand-spec : {M : Type 1} → statement M
+next-stand-spec =
+    tie.close
+    (tie.spec
+    size-requires
+    limits-of-requires
+    rows-below-requires
+    returns
+    sub-rows-below
+    rows-below-requires-2
+    returns-2)
