@@ -16,10 +16,6 @@ use Rattle.monitor.specs.declared.Ran.{Ran}
 use Rattle.layout.specs.Answers.{receivedBytes, ranBytes}
 use Rattle.layout.specs.Layout.{part, numberBytes, automatonOf, automatonBytes, configurationOf, configurationBytes}
 
-pub part-length : (at count : ℕ) (bytes : List ℕ) → at + count ≤ length bytes → length (part at count bytes) ≡ count
-unfolding part
-part-length at count bytes h = length-take-le count (drop at bytes) (rw (length-drop at bytes) (omega arith))
-
 -- as many stores as there are places
 pub sets-whole : (l v : List ℕ) → length l ≡ length v → sets l 0 v ≡ v
 sets-whole l v h =
