@@ -29,11 +29,11 @@ pub extern "C" fn jaxhophasi_read(
     ensures { λ r. let x = parse (now (bytes .entry)) in
         ⌜ (r ≡ x .refusal) × (now (automaton .exit) ≡ automatonBytes (x .automaton)) × (now (place .exit) ≡ numberBytes 8 (x .place)) ⌝ }
 {
-    let p = encoding::read(bytes);
-    let a = p.automaton;
+    let parsed = encoding::read(bytes);
+    let a = parsed.automaton;
     *automaton = automaton_bytes(a);
-    *place = number_bytes(p.place);
-    p.refusal
+    *place = number_bytes(parsed.place);
+    parsed.refusal
 }
 
 // Writes a sheet at the front of `out`: how many bytes.
@@ -46,9 +46,9 @@ pub extern "C" fn jaxhophasi_write(
     ensures { λ r. let a = automatonOf (now (automaton .entry)) in let x = writeAnswer a (now (out .entry)) in
         ⌜ (r ≡ x .refusal) × (now (out .exit) ≡ writeBuffer a (now (out .entry))) × (now (length .exit) ≡ numberBytes 8 (x .length)) ⌝ }
 {
-    let w = encoding::write(automaton_of(automaton), out);
-    *length = number_bytes(w.length);
-    w.refusal
+    let written = encoding::write(automaton_of(automaton), out);
+    *length = number_bytes(written.length);
+    written.refusal
 }
 
 // How many buffers (document 01's held lists) there are: T. The table takes 2 T places.
@@ -57,9 +57,9 @@ pub extern "C" fn jaxhophasi_buffers_count(automaton: &[u8; 564], count: &mut [u
     ensures { λ r. let x = countAnswer (automatonOf (now (automaton .entry))) in
         ⌜ (r ≡ x .refusal) × (now (count .exit) ≡ numberBytes 8 (x .count)) ⌝ }
 {
-    let n = winning::buffers_count(automaton_of(automaton));
-    *count = number_bytes(n.count as usize);
-    n.refusal
+    let buffers = winning::buffers_count(automaton_of(automaton));
+    *count = number_bytes(buffers.count as usize);
+    buffers.refusal
 }
 
 // Solves the sheet into the front of `table`: the rounds that struck a state.
@@ -72,9 +72,9 @@ pub extern "C" fn jaxhophasi_solve(
     ensures { λ r. let a = automatonOf (now (automaton .entry)) in let x = solution a (now (table .entry)) in
         ⌜ (r ≡ x .refusal) × (now (table .exit) ≡ solvedTable a (now (table .entry))) × (now (rounds .exit) ≡ numberBytes 8 (x .rounds)) ⌝ }
 {
-    let s = winning::solve(automaton_of(automaton), table);
-    *rounds = number_bytes(s.rounds as usize);
-    s.refusal
+    let solution = winning::solve(automaton_of(automaton), table);
+    *rounds = number_bytes(solution.rounds as usize);
+    solution.refusal
 }
 
 // The initial configuration (document 01's fresh).
@@ -83,10 +83,10 @@ pub extern "C" fn jaxhophasi_initial(automaton: &[u8; 564], configuration: &mut 
     ensures { λ r. let x = initialAnswer (automatonOf (now (automaton .entry))) in
         ⌜ (r ≡ x .refusal) × (now (configuration .exit) ≡ configurationBytes (x .configuration)) ⌝ }
 {
-    let s = configuration::initial(automaton_of(automaton));
-    let c = s.configuration;
-    *configuration = configuration_bytes(c);
-    s.refusal
+    let start = configuration::initial(automaton_of(automaton));
+    let first = start.configuration;
+    *configuration = configuration_bytes(first);
+    start.refusal
 }
 
 // Whether a configuration is winning (document 01's guarded).
@@ -100,13 +100,13 @@ pub extern "C" fn jaxhophasi_winning(
     ensures { λ r. let x = status (automatonOf (now (automaton .entry))) (now (table .entry)) (configurationOf (now (configuration .entry))) in
         ⌜ (r ≡ x .refusal) × (now (answer .exit) ≡ statusBytes x) ⌝ }
 {
-    let s = monitor::winning(
+    let status = monitor::winning(
         automaton_of(automaton),
         table,
         configuration_of(configuration),
     );
-    *answer = status_bytes(s);
-    s.refusal
+    *answer = status_bytes(status);
+    status.refusal
 }
 
 // One event. The configuration becomes the next one.
@@ -122,11 +122,11 @@ pub extern "C" fn jaxhophasi_receive(
         ⌜ (r ≡ x .refusal) × (now (configuration .exit) ≡ configurationBytes (x .configuration)) × (now (answer .exit) ≡ receivedBytes x) ⌝ }
 {
     let a = automaton_of(automaton);
-    let r = monitor::receive(a, table, configuration_of(configuration), event);
-    let c = r.configuration;
-    *configuration = configuration_bytes(c);
-    *answer = received_bytes(r);
-    r.refusal
+    let received = monitor::receive(a, table, configuration_of(configuration), event);
+    let next = received.configuration;
+    *configuration = configuration_bytes(next);
+    *answer = received_bytes(received);
+    received.refusal
 }
 
 // A whole day from a configuration on, which becomes the next one.
@@ -145,9 +145,9 @@ pub extern "C" fn jaxhophasi_run(
         × (now (out .exit) ≡ ranBuffer a (now (table .entry)) c (now (events .entry)) (now (out .entry))) ⌝ }
 {
     let a = automaton_of(automaton);
-    let r = batch::run(a, table, configuration_of(configuration), events, out);
-    let c = r.configuration;
-    *configuration = configuration_bytes(c);
-    *answer = ran_bytes(r);
-    r.refusal
+    let ran = batch::run(a, table, configuration_of(configuration), events, out);
+    let last = ran.configuration;
+    *configuration = configuration_bytes(last);
+    *answer = ran_bytes(ran);
+    ran.refusal
 }
