@@ -1,7 +1,8 @@
 use Rattle.layout.specs.Answers.{receivedBytes}
 use Rattle.layout.specs.Layout.{configurationBytes}
 use Rattle.monitor.specs.Answers.{received}
-use mathlib.Core.Path.{_∙_, ap, ap₂}
+use Rattle.embedding.proofs.Over.{over}
+use mathlib.Core.Path.{_∙_, ap}
 use borrow.Author.Needs.{needs}
 use Rattle.embedding.proofs.jaxhophasi_receive.Statement.{statement}
 use Rattle.embedding.proofs.jaxhophasi_receive.Tie as tie
@@ -22,7 +23,7 @@ received-bytes-requires : tie.Need-received-bytes-requires
 received-bytes-requires c κs = search needs
 
 returns : tie.Need-returns
-returns c = let g = c .before .before .before .before .before .before .before .before .args in let x = c .before .before .before .receive .ensures ∙ ap₂ (λ a k. received a (g .table .now) k (g .event)) (c .before .before .before .before .before .before .automaton-of .ensures) (c .before .before .before .before .configuration-of .ensures) in (ap (λ r. r .refusal) x, c .before .configuration-bytes .ensures ∙ ap (λ r. configurationBytes (r .configuration)) x, c .received-bytes .ensures ∙ ap receivedBytes x)
+returns c = let g = c .before .before .before .before .before .before .before .before .args in let x = over (λ a k. received a (g .table .now) k (g .event)) (c .before .before .before .receive .ensures) (c .before .before .before .before .before .before .automaton-of .ensures) (c .before .before .before .before .configuration-of .ensures) in (ap (λ r. r .refusal) x, c .before .configuration-bytes .ensures ∙ ap (λ r. configurationBytes (r .configuration)) x, c .received-bytes .ensures ∙ ap receivedBytes x)
 
 pub jaxhophasi-receive-spec : {M : Type 1} → statement M
 jaxhophasi-receive-spec =

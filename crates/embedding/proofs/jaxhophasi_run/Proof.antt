@@ -1,7 +1,8 @@
 use Rattle.layout.specs.Answers.{ranBytes}
 use Rattle.layout.specs.Layout.{configurationBytes}
 use Rattle.monitor.specs.Answers.{ran, ranBuffer}
-use mathlib.Core.Path.{_∙_, ap, ap₂}
+use Rattle.embedding.proofs.Over.{over}
+use mathlib.Core.Path.{_∙_, ap}
 use borrow.Author.Needs.{needs}
 use Rattle.embedding.proofs.jaxhophasi_run.Statement.{statement}
 use Rattle.embedding.proofs.jaxhophasi_run.Tie as tie
@@ -25,7 +26,7 @@ same-length : tie.Need-same-length
 same-length c = search needs
 
 returns : tie.Need-returns
-returns c = let g = c .before .before .before .before .before .before .before .before .before .before .before .before .before .args in let a = c .before .before .before .before .before .before .before .before .before .automaton-of .ensures in let k = c .before .before .before .before .before .before .before .configuration-of .ensures in let x = c .before .before .before .before .before .run .ensures .0 ∙ ap₂ (λ a k. ran a (g .table .now) k (g .events .now) (g .out .now)) a k in (ap (λ r. r .refusal) x, c .before .configuration-bytes .ensures ∙ ap (λ r. configurationBytes (r .configuration)) x, c .ran-bytes .ensures ∙ ap ranBytes x, c .before .before .before .before .before .run .ensures .1 ∙ ap₂ (λ a k. ranBuffer a (g .table .now) k (g .events .now) (g .out .now)) a k)
+returns c = let g = c .before .before .before .before .before .before .before .before .before .before .before .before .before .args in let a = c .before .before .before .before .before .before .before .before .before .automaton-of .ensures in let k = c .before .before .before .before .before .before .before .configuration-of .ensures in let x = over (λ a k. ran a (g .table .now) k (g .events .now) (g .out .now)) (c .before .before .before .before .before .run .ensures .0) a k in (ap (λ r. r .refusal) x, c .before .configuration-bytes .ensures ∙ ap (λ r. configurationBytes (r .configuration)) x, c .ran-bytes .ensures ∙ ap ranBytes x, over (λ a k. ranBuffer a (g .table .now) k (g .events .now) (g .out .now)) (c .before .before .before .before .before .run .ensures .1) a k)
 
 pub jaxhophasi-run-spec : {M : Type 1} → statement M
 jaxhophasi-run-spec =
