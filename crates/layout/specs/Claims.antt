@@ -7,6 +7,7 @@ use lib.ListN.{length}
 use Rattle.automaton.specs.declared.Automaton.{Automaton}
 use Rattle.automaton.specs.Automaton.{shaped}
 use Rattle.configuration.specs.declared.Configuration.{Configuration}
+use Rattle.configuration.specs.Configuration.{initialAnswer}
 use Rattle.monitor.specs.Answers.{received, ran}
 use Rattle.layout.specs.Layout.{automatonOf, automatonBytes, configurationOf, configurationBytes, numberOf, numberBytes}
 
@@ -38,3 +39,17 @@ abbrev pub RefusedRunKeeps : Type 0
 RefusedRunKeeps =
     (a : Automaton) (t bytes events out : List ℕ) → length bytes ≡ 8 → (ran a t (configurationOf bytes) events out .refusal ≡ 0 → ⊥)
     → configurationBytes (ran a t (configurationOf bytes) events out .configuration) ≡ bytes
+
+-- what a call hands back is what the next call takes out of the lent bytes, so a list of calls over lent bytes is that list of calls
+abbrev pub InitialHandedOn : Type 0
+InitialHandedOn = (a : Automaton) → configurationOf (configurationBytes (initialAnswer a .configuration)) ≡ initialAnswer a .configuration
+
+abbrev pub EventHandedOn : Type 0
+EventHandedOn =
+    (a : Automaton) (t bytes : List ℕ) (e : ℕ) → length bytes ≡ 8
+    → configurationOf (configurationBytes (received a t (configurationOf bytes) e .configuration)) ≡ received a t (configurationOf bytes) e .configuration
+
+abbrev pub RunHandedOn : Type 0
+RunHandedOn =
+    (a : Automaton) (t bytes events out : List ℕ) → length bytes ≡ 8
+    → configurationOf (configurationBytes (ran a t (configurationOf bytes) events out .configuration)) ≡ ran a t (configurationOf bytes) events out .configuration
