@@ -3,7 +3,9 @@ mod check;
 
 pub use check::valid;
 
-// The record. The next state of q under e stands at q * 16 + e; unused places are 0.
+// The record: how many states (n) and symbols (m, document 01's kinds), the capacity of the buffer (the hold, B), the initial state (start), the
+// classes of the symbols (0 uncontrollable, 1 controllable), the flags of the states (1 accepting), and the next state of q under e at
+// q * 16 + e; unused places are 0.
 pub struct Automaton {
     pub states: u8,
     pub symbols: u8,

@@ -23,7 +23,7 @@ use Rattle.releasing.proofs.Runs.{run-keeps, run-occurs, run-same}
 use Rattle.releasing.proofs.Solved.{solved-agree}
 use Rattle.monitor.specs.Answers.{callRows, isWinning, callRefusal, status, receiveRefusal, received, runRefusal, ran, ranBuffer}
 use Rattle.monitor.proofs.Refusals.{Clear, clear, rows-pass, rows-stand, status-clear}
-use Rattle.claims.specs.Calls.{Call, one, day, handedBack, reply, replies, configurationAfter}
+use Rattle.claims.specs.Calls.{Call, one, many, handedBack, reply, replies, configurationAfter}
 use Rattle.claims.specs.Answers.{FlagIsStatus, FlagStays, SameBits, OthersIgnored}
 use Rattle.claims.proofs.Resting.{effect-wins}
 
@@ -143,7 +143,7 @@ module _ (a : Automaton) (t : List ℕ) (sv : Solved a t) where
       (effect-occurs (byTable a t) a (c .state) (heldEvents c) e (total a (k .record-valid)) o h)
       (event-wins (k .record-valid) (c .state) (heldEvents c) e o h (g .wins))))
       (λ z. rw z g)
-  good-on c g (day es out) =
+  good-on c g (many es out) =
       let k = g .rows in
       let o = clear-occurs a t c k in
       by (eqb (runRefusal a t c es out) 0)
@@ -166,7 +166,7 @@ pub flag-stays : FlagStays
 flag-stays a t sv c h calls =
     let d = configurationAfter a t c calls in
     let g = good-all a t sv calls c (good-status a t sv c h) in
-    record { guarded = status-good a t sv d g; flagged = flagged a t sv d g }
+    record { told = status-good a t sv d g; flagged = flagged a t sv d g }
 
 -- what is read of a table
 module _ (a : Automaton) (t u : List ℕ) (s : short a t ≡ short a u) (b : SameBits a t u) where
@@ -215,8 +215,8 @@ module _ (a : Automaton) (t u : List ℕ) (s : short a t ≡ short a u) (b : Sam
         (λ z. rw (same-receive e, z))
 
     module _ (es out : List ℕ) where
-      same-day : runRefusal a u c es out ≡ 0 → runOf (byTable a t) a (c .state) (heldEvents c) es ≡ runOf (byTable a u) a (c .state) (heldEvents c) es
-      same-day h =
+      same-many : runRefusal a u c es out ≡ 0 → runOf (byTable a t) a (c .state) (heldEvents c) es ≡ runOf (byTable a u) a (c .state) (heldEvents c) es
+      same-many h =
           let k = run-clear a u c es out h in
           run-same (byTable a t) (byTable a u) a agree (total a (k .record-valid)) es (c .state) (heldEvents c) (clear-occurs a u c k)
 
@@ -225,7 +225,7 @@ module _ (a : Automaton) (t u : List ℕ) (s : short a t ≡ short a u) (b : Sam
       same-ran =
           let n = runRefusal a u c es out in
           by (eqb n 0)
-          (λ z. rw (same-run es out, z, same-day (eqb-true n 0 z)))
+          (λ z. rw (same-run es out, z, same-many (eqb-true n 0 z)))
           (λ z. rw (same-run es out, z))
 
       same-output : ranBuffer a t c es out ≡ ranBuffer a u c es out
@@ -233,13 +233,13 @@ module _ (a : Automaton) (t u : List ℕ) (s : short a t ≡ short a u) (b : Sam
       same-output =
           let n = runRefusal a u c es out in
           by (eqb n 0)
-          (λ z. rw (same-run es out, z, same-day (eqb-true n 0 z)))
+          (λ z. rw (same-run es out, z, same-many (eqb-true n 0 z)))
           (λ z. rw (same-run es out, z))
 
     same-reply : (x : Call) → reply a t c x ≡ reply a u c x
     unfolding reply
     same-reply (one e) = rw (same-received e)
-    same-reply (day es out) = rw (same-ran es out, same-output es out)
+    same-reply (many es out) = rw (same-ran es out, same-output es out)
 
   same-replies : (xs : List Call) (c : Configuration) → replies a t c xs ≡ replies a u c xs
   unfolding replies

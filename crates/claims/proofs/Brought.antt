@@ -16,13 +16,14 @@ use Rattle.releasing.specs.Step.{bySets, byTable, eventRefusal}
 use Rattle.releasing.proofs.Effects.{effect-same}
 use Rattle.releasing.proofs.Solved.{solved-agree}
 use Rattle.claims.specs.Store.{Store, empty, stateOf, store, storeAll, lacksRoom, feed, feedAll, acceptedOf, acceptedBy, acceptedAll}
-use Rattle.claims.specs.Calls.{Call, one, day, fedBy, configurationOf}
+use Rattle.claims.specs.Calls.{Call, one, many, fedBy, configurationOf}
 use Rattle.claims.specs.Moments.{Moment, AllOf, effectAt, emittedAt, within, broughtBy, broughtAll, moments}
 use Rattle.claims.specs.Claims.{MomentsAccounted}
 use Rattle.claims.proofs.Stores.{Sound, grown, initially, initial-sound, byStore, store-accepts, store-refuses, store-state, store-sound}
 use Rattle.claims.proofs.Alone.{store-append, accepted-append}
-use Rattle.claims.proofs.Replies.{held, one-refusal, day-refusal, reply-hands, feed-sound, each-reply}
+use Rattle.claims.proofs.Replies.{held, one-refusal, many-refusal, reply-hands, feed-sound, each-reply}
 use Rattle.claims.proofs.Moments.{moments-all}
+use Rattle.claims.proofs.History.{within-traced, traced-at}
 
 module _ (a : Automaton) (t : List ℕ) (v : valid a ≡ true) (sv : Solved a t) where
   -- what is shown of the accepted ones of a list of events
@@ -107,10 +108,10 @@ module _ (a : Automaton) (t : List ℕ) (v : valid a ≡ true) (sv : Solved a t)
         by (eqb n 0)
         (λ h. rw (one-refusal a t v sv s o e, h) (record { fed = refl; accepted = refl }))
         (λ h. rw (one-refusal a t v sv s o e, h) (record { fed = store-refuses a s e (eqb-false n 0 h); accepted = rw h }))
-    brought-is (day es out) =
+    brought-is (many es out) =
         by (lacksRoom s es (length out))
-        (λ h. rw (day-refusal a t v sv s o es out, h) (record { fed = rw h; accepted = rw h }))
-        (λ h. rw (day-refusal a t v sv s o es out, h) (record { fed = rw h; accepted = rw h }))
+        (λ h. rw (many-refusal a t v sv s o es out, h) (record { fed = rw h; accepted = rw h }))
+        (λ h. rw (many-refusal a t v sv s o es out, h) (record { fed = rw h; accepted = rw h }))
 
   -- and so for all calls
   record BroughtAll (s : Store) (xs : List Call) (es : List ℕ) : Type 0 where
@@ -142,6 +143,7 @@ moments-accounted a t v sv calls =
     record {
       events = rw go (w .events ∙ sym (b .accepted));
       emitted = rw go (sym (w .emitted) ∙ ap (λ s. s .output) (sym (b .fed)) ∙ sym (each-reply a t v sv calls .all-emitted));
+      history = λ before m after e. traced-at a t before m after [] [] (rw (sym go ∙ e) at (within-traced a t es [] [] (stateOf a empty) []));
       leads = moments-all a t v (λ m. run a (a .initial) (m .output) ≡ m .state) (λ m k. k .leads) calls;
       fed = rw go (within-fed a t v sv es [] empty (initial-sound a v) refl);
     }

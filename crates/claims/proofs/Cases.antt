@@ -6,7 +6,7 @@ use Rattle.base.specs.Pad.{pad}
 use Rattle.base.specs.Masks.{has, mask}
 use Rattle.varint.specs.Varint.{groups, read, encode, bytes}
 use Rattle.automaton.specs.Automaton.{controllable, controllables, accepts, step, run, stands, shaped, ranged, classesStand, flagsStand, nextStand, valid}
-use Rattle.encoding.specs.Reading.{checked, between, tally, classRow, numbers, runs, one, many, tables, sheet, parse}
+use Rattle.encoding.specs.Reading.{checked, between, tally, classRow, numbers, runs, one, many, tables, automatonFrom, parse}
 use Rattle.sets.specs.Sets.{acceptingSet, admits, stays, refine, settle, settled, setsOf, emptySets, into, sets}
 use Rattle.sets.specs.Table.{rank, value, shorter, index, buffersCount, short, controllableTo, extended, buffersAt, buffersTo, pairs, roundsSum, table, rounds}
 use Rattle.configuration.specs.Configuration.{heldEvents, controllableSymbol, placeStands, bufferStands, consistentIn, initialOf}
@@ -21,7 +21,7 @@ unfolding
     each count those lastOr first pad has mask
     groups read encode bytes
     controllable controllables accepts step run stands shaped ranged classesStand flagsStand nextStand valid
-    checked between tally classRow numbers runs one many tables sheet parse
+    checked between tally classRow numbers runs one many tables automatonFrom parse
     acceptingSet admits stays refine settle settled setsOf emptySets into sets
     rank value shorter index buffersCount short extended buffersAt buffersTo pairs roundsSum table rounds
     heldEvents controllableSymbol placeStands bufferStands consistentIn initialOf countAnswer

@@ -2,6 +2,7 @@ pub mod Stores
 pub mod Alone
 pub mod Replies
 pub mod Moments
+pub mod History
 pub mod Brought
 pub mod Resting
 pub mod Staying

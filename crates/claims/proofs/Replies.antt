@@ -27,7 +27,7 @@ use Rattle.releasing.proofs.Runs.{run-same}
 use Rattle.monitor.proofs.Refusals.{rows-pass}
 use Rattle.releasing.proofs.Solved.{solved-agree}
 use Rattle.claims.specs.Store.{Store, empty, stateOf, store, storeAll, lacksRoom, feed, feedAll}
-use Rattle.claims.specs.Calls.{Call, one, day, handedBack, emittedBy, reply, replies, configurationAfter, emittedAll, fedBy, configurationOf, since, expected, expectedAll}
+use Rattle.claims.specs.Calls.{Call, one, many, handedBack, emittedBy, reply, replies, configurationAfter, emittedAll, fedBy, configurationOf, since, expected, expectedAll}
 use Rattle.claims.specs.Claims.{EachReply}
 use Rattle.claims.proofs.Stores.{Sound, initially, initial-sound, store-since, store-sound, since-grown, since-same, byStore, runStore, store-accepts, store-refuses, store-state, runs-state, store-runs}
 
@@ -53,9 +53,9 @@ module _ (a : Automaton) (t : List ℕ) (v : valid a ≡ true) (sv : Solved a t)
     unfolding receiveRefusal eventRefusal
     one-refusal e = rows-pass a t c v not-short (consistent-at s o) (eventRows a (heldEvents c) e) ∙ ap (λ w. first (eventRows a w e)) (held a s)
 
-    pub day-refusal : (es out : List ℕ) → runRefusal a t c es out ≡ cond (lacksRoom s es (length out)) 16 0
+    pub many-refusal : (es out : List ℕ) → runRefusal a t c es out ≡ cond (lacksRoom s es (length out)) 16 0
     unfolding runRefusal lacksRoom configurationOf first
-    day-refusal es out = rows-pass a t c v not-short (consistent-at s o) ((16, ltb (length out) (room es (c .held))) ∷ [])
+    many-refusal es out = rows-pass a t c v not-short (consistent-at s o) ((16, ltb (length out) (room es (c .held))) ∷ [])
 
     one-effect : (e : ℕ) → eventRefusal a (s .buffer) e ≡ 0 → effect (byTable a t) a (c .state) (heldEvents c) e ≡ byStore a s e
     unfolding configurationOf
@@ -63,9 +63,9 @@ module _ (a : Automaton) (t : List ℕ) (v : valid a ≡ true) (sv : Solved a t)
         ap (λ w. effect (byTable a t) a (stateOf a s) w e) (held a s) ∙
         effect-same (byTable a t) a (stateOf a s) (s .buffer) e (bySets a) (solved-agree a t sv) (total a v) o h
 
-    day-run : (es : List ℕ) → runOf (byTable a t) a (c .state) (heldEvents c) es ≡ runStore a s es
+    many-run : (es : List ℕ) → runOf (byTable a t) a (c .state) (heldEvents c) es ≡ runStore a s es
     unfolding configurationOf
-    day-run es =
+    many-run es =
         ap (λ w. runOf (byTable a t) a (stateOf a s) w es) (held a s) ∙
         run-same (byTable a t) (bySets a) a (solved-agree a t sv) (total a v) es (stateOf a s) (s .buffer) o
 
@@ -95,30 +95,30 @@ module _ (a : Automaton) (t : List ℕ) (v : valid a ≡ true) (sv : Solved a t)
         rw (one-accepted e z, store-accepts a s e z, since-grown s (f .emitted) (f .buffer), store-state a s e, z))
         (λ h. rw (one-refused e h, store-refuses a s e (eqb-false n 0 h), since-same s, h))
 
-    day-reply : (es out : List ℕ) → reply a t c (day es out) ≡ expected a s (day es out)
+    many-reply : (es out : List ℕ) → reply a t c (many es out) ≡ expected a s (many es out)
     unfolding reply expected ran ranBuffer configurationOf
-    day-reply es out =
+    many-reply es out =
         let k = store-runs a es s in
         let r = runStore a s es in
         by (lacksRoom s es (length out))
-        (λ h. rw (day-refusal es out, h) refl)
-        (λ h. rw (day-refusal es out, h, day-run es, k .whole, since-grown s (r .emitted) (r .buffer), k .refused, runs-state a s es))
+        (λ h. rw (many-refusal es out, h) refl)
+        (λ h. rw (many-refusal es out, h, many-run es, k .whole, since-grown s (r .emitted) (r .buffer), k .refused, runs-state a s es))
 
     -- one call: its reply is the function's, ..
     reply-is : (x : Call) → reply a t c x ≡ expected a s x
     reply-is (one e) = one-reply e
-    reply-is (day es out) = day-reply es out
+    reply-is (many es out) = many-reply es out
 
     -- .. which hands back the configuration of the function fed the call, and emits what it put out then
     feed-hands : (x : Call) → handedBack (expected a s x) ≡ configurationOf a (feed a s (fedBy x))
     unfolding expected handedBack feed fedBy
     feed-hands (one e) = refl
-    feed-hands (day es out) = by (lacksRoom s es (length out)) (λ h. rw h) (λ h. rw h)
+    feed-hands (many es out) = by (lacksRoom s es (length out)) (λ h. rw h) (λ h. rw h)
 
     feed-emits : (x : Call) → feed a s (fedBy x) .output ≡ s .output ++ emittedBy (expected a s x)
     unfolding expected emittedBy feed fedBy storeAll
     feed-emits (one e) = rw (take-pad 7 (since s (store a s e))) (store-since a (e ∷ []) s)
-    feed-emits (day es out) =
+    feed-emits (many es out) =
         let put = since s (storeAll a s es) in
         by (lacksRoom s es (length out))
         (λ h. rw h (sym (append-nil (s .output))))
@@ -130,7 +130,7 @@ module _ (a : Automaton) (t : List ℕ) (v : valid a ≡ true) (sv : Solved a t)
     pub feed-sound : (x : Call) → Sound a (feed a s (fedBy x))
     unfolding feed fedBy storeAll
     feed-sound (one e) = store-sound a (total a v) (e ∷ []) s o
-    feed-sound (day es out) = by (lacksRoom s es (length out)) (λ h. rw h o) (λ h. rw h (store-sound a (total a v) es s o))
+    feed-sound (many es out) = by (lacksRoom s es (length out)) (λ h. rw h o) (λ h. rw h (store-sound a (total a v) es s o))
 
   -- all calls
   record Together (s : Store) (xs : List Call) : Type 0 where

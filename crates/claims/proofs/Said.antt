@@ -15,7 +15,7 @@ use Rattle.configuration.specs.Configuration.{heldEvents, configuration, initia
 use Rattle.releasing.specs.Step.{byTable, effect, eventRefusal, runOf}
 use Rattle.monitor.specs.Answers.{isWinning, status, receiveRefusal, received, runRefusal, ran}
 use Rattle.monitor.proofs.Refusals.{status-clear}
-use Rattle.claims.specs.Calls.{Call, one, day, handedBack, reply, configurationAfter}
+use Rattle.claims.specs.Calls.{Call, one, many, handedBack, reply, configurationAfter}
 use Rattle.claims.specs.Moments.{Moment, effectAt, within, broughtBy, broughtAll, moments}
 use Rattle.claims.specs.Claims.{winningAfter, Stays}
 use Rattle.claims.specs.Answers.{OnceWinningSaid}
@@ -73,7 +73,7 @@ module _ (a : Automaton) (t : List ℕ) where
       let h = eq-eqb (eventRefusal a (heldEvents c) e) 0 (receive-event a t c e (eqb-true n 0 z)) in
       rw (z, h) (of-made _ _))
       (λ z. rw z)
-  call-ends c (day es out) = by (eqb (runRefusal a t c es out) 0) (λ z. rw z (of-made _ _)) (λ z. rw z)
+  call-ends c (many es out) = by (eqb (runRefusal a t c es out) 0) (λ z. rw z (of-made _ _)) (λ z. rw z)
 
   calls-end : (xs : List Call) (c : Configuration) → of (configurationAfter a t c xs) ≡ ends (of c) (broughtAll a t c xs)
   unfolding configurationAfter broughtAll ends runOf

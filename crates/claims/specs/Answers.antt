@@ -23,7 +23,7 @@ FlagIsStatus =
 
 -- Over a solved table: once `status` answers winning, it does so after any calls, and so does each event that is accepted then.
 pub record SaysWinning (a : Automaton) (t : List ℕ) (c : Configuration) : Type 0 where
-  pub guarded : status a t c .winning ≡ true
+  pub told : status a t c .winning ≡ true
   pub flagged : (e : ℕ) → received a t c e .refusal ≡ 0 → received a t c e .winning ≡ true
 
 abbrev pub FlagStays : Type 0

@@ -16,10 +16,10 @@ use Rattle.releasing.specs.Step.{bySets, eventRefusal}
 use Rattle.monitor.specs.Answers.{received, ran, ranBuffer}
 use Rattle.claims.specs.Store.{Store, stateOf, store, storeAll, Feed, event, events, lacksRoom, feed, refusedOf}
 
--- one event, or a day: its events and the output lent to it, of any length and contents
+-- one event, or many at once (document 01's whole day): the events and the output lent to it, of any length and contents
 pub data Call : Type 0 where
   one : ℕ → Call
-  day : List ℕ → List ℕ → Call
+  many : List ℕ → List ℕ → Call
 
 -- what a call hands back: the answer of its contract, and for a day the lent output afterwards
 pub data Reply : Type 0 where
@@ -30,7 +30,7 @@ unfoldable pub handedBack : Reply → Configuration
 handedBack (receive r) = r .configuration
 handedBack (run r out) = r .configuration
 
--- the kinds that it emitted
+-- the symbols that it emitted
 unfoldable pub emittedBy : Reply → List ℕ
 emittedBy (receive r) = take (r .count) (r .emitted)
 emittedBy (run r out) = take (r .length) out
@@ -38,7 +38,7 @@ emittedBy (run r out) = take (r .length) out
 -- a call over a table, by the definitions that the contracts of `receive` and `run` cite
 unfoldable pub reply : Automaton → List ℕ → Configuration → Call → Reply
 reply a t c (one e) = receive (received a t c e)
-reply a t c (day es out) = run (ran a t c es out) (ranBuffer a t c es out)
+reply a t c (many es out) = run (ran a t c es out) (ranBuffer a t c es out)
 
 unfoldable pub replies : Automaton → List ℕ → Configuration → List Call → List Reply
 replies a t c [] = []
@@ -57,7 +57,7 @@ emittedAll (r ∷ rs) = emittedBy r ++ emittedAll rs
 -- what the published function is fed from a call: of a day's output only the length
 unfoldable pub fedBy : Call → Feed
 fedBy (one e) = event e
-fedBy (day es out) = events es (length out)
+fedBy (many es out) = events es (length out)
 
 -- the configuration that it stands for
 unfoldable pub configurationOf : Automaton → Store → Configuration
@@ -80,7 +80,7 @@ expected a s (one e) =
       count = length (since s z);
       winning = eqb n 0 && bySets a (z .buffer) (stateOf a z);
     })
-expected a s (day es out) =
+expected a s (many es out) =
     let z = storeAll a s es in
     cond (lacksRoom s es (length out))
     (run (record { refusal = 16; configuration = configurationOf a s; length = 0; refused = 0 }) out)

@@ -68,14 +68,14 @@ sized k b =
       next = replicate 512 0;
     }
 
--- the whole answer to an event: refusal, kinds emitted, state, held events, winning (document 01's guarded)
+-- the whole answer to an event: refusal, symbols emitted, state, held events, winning (document 01's guarded)
 abbrev pub answer : ℕ → List ℕ → ℕ → List ℕ → Bool → Received
 answer row emitted q held winning =
     record { refusal = row; configuration = configuration q held; emitted = pad 7 emitted; count = length emitted; winning = winning }
 
 pub data Case : Type 0 where
   -- bytes of a sheet, its record
-  sheet : List ℕ → Automaton → Case
+  encoded : List ℕ → Automaton → Case
   -- its table and rounds
   solved : Automaton → List ℕ → ℕ → Case
   -- whether it is initially winning
@@ -90,7 +90,7 @@ pub data Case : Type 0 where
   buffers : ℕ → ℕ → ℕ → Case
 
 abbrev pub Holds : Case → Type 0
-Holds (sheet s a) = parse s ≡ parsed a
+Holds (encoded s a) = parse s ≡ parsed a
 Holds (solved a t r) = (table a ≡ t) × (rounds a ≡ r)
 Holds (initially a w) = status a (table a) (initialOf a) ≡ record { refusal = 0; winning = w }
 Holds (events a es rs) = replies a (table a) (initialOf a) (map one es) ≡ map receive rs
@@ -100,8 +100,8 @@ Holds (buffers k b t) = (controllables (sized k b) ≡ k) × (countAnswer (sized
 
 abbrev pub cases : List Case
 cases =
-    sheet bytesV automatonV ∷
-    sheet bytesW automatonW ∷
+    encoded bytesV automatonV ∷
+    encoded bytesW automatonW ∷
     solved automatonV (4 ∷ 0 ∷ 5 ∷ 6 ∷ []) 1 ∷
     solved automatonW (3 ∷ 0 ∷ 3 ∷ 0 ∷ 3 ∷ 7 ∷ 3 ∷ 0 ∷ 3 ∷ 2 ∷ 3 ∷ 7 ∷ 3 ∷ 7 ∷ []) 0 ∷
     initially automatonV false ∷

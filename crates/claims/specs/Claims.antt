@@ -48,11 +48,13 @@ unfoldable pub outputAfter : Automaton → List ℕ → Moment → List ℕ
 outputAfter a t m = m .output ++ effectAt a t m .emitted
 
 -- The accepted events of the calls, one by one, are those that the function accepts; what they emit, end to end, is all that is
--- emitted; the state that each of them meets is where the output leads; and fed the events before it, the function has the output and
--- buffer that it meets.
+-- emitted; each of them has the events and the output of those before it; the state that it meets is where that output leads; and
+-- fed the events before it, the function has the output and buffer that it meets.
 pub record Accounted (a : Automaton) (t : List ℕ) (calls : List Call) : Type 0 where
   pub events : acceptedEvents a t calls ≡ acceptedAll a empty (map fedBy calls)
   pub emitted : emittedAt a t (moments a t (initialOf a) calls) ≡ emittedAll (replies a t (initialOf a) calls)
+  pub history : (before : List Moment) (m : Moment) (after : List Moment) → moments a t (initialOf a) calls ≡ before ++ m ∷ after
+      → (m .past ≡ map (λ (x : Moment). x .event) before) × (m .output ≡ emittedAt a t before)
   pub leads : AllOf (λ m. run a (a .initial) (m .output) ≡ m .state) (moments a t (initialOf a) calls)
   pub fed : AllOf (λ m. storeAll a empty (m .past) ≡ record { output = m .output; buffer = m .buffer }) (moments a t (initialOf a) calls)
 

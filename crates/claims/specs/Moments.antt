@@ -8,9 +8,9 @@ use Rattle.configuration.specs.declared.Configuration.{Configuration}
 use Rattle.configuration.specs.Configuration.{heldEvents}
 use Rattle.releasing.specs.Step.{byTable, Effect, effect, eventRefusal}
 use Rattle.monitor.specs.Answers.{receiveRefusal, runRefusal}
-use Rattle.claims.specs.Calls.{Call, one, day, reply, handedBack}
+use Rattle.claims.specs.Calls.{Call, one, many, reply, handedBack}
 
--- an accepted event: the events accepted and the kinds emitted before it, the state and buffer that it meets, and the event
+-- an accepted event: the events accepted and the symbols emitted before it, the state and buffer that it meets, and the event
 pub record Moment : Type 0 where
   pub past : List ℕ
   pub output : List ℕ
@@ -45,7 +45,7 @@ within a t past output q w (e ∷ es) =
 -- the events that a call brings: none where it is refused
 unfoldable pub broughtBy : Automaton → List ℕ → Configuration → Call → List ℕ
 broughtBy a t c (one e) = cond (eqb (receiveRefusal a t c e) 0) (e ∷ []) []
-broughtBy a t c (day es out) = cond (eqb (runRefusal a t c es out) 0) es []
+broughtBy a t c (many es out) = cond (eqb (runRefusal a t c es out) 0) es []
 
 unfoldable pub broughtAll : Automaton → List ℕ → Configuration → List Call → List ℕ
 broughtAll a t c [] = []

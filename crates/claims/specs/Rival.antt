@@ -30,6 +30,6 @@ pub record Lost (a : Automaton) (rule : Strategy) (events output buffer : List �
   pub short : length list ≤ bound
   pub outside : accepts a (run a (a .initial) (play a rule events output buffer list)) ≡ false
 
--- the bound with a buffer: one round of the accepting states for each held event, and one more
+-- the bound with a buffer: as many events as there are accepting states, once for each held event and once more
 unfoldable pub lostBound : Automaton → List ℕ → ℕ
 lostBound a buffer = suc (length buffer) * count (a .states) (accepts a)

@@ -4,11 +4,11 @@ use Prim.Native.Nat.{ℕ, _+_}
 use mathlib.Core.Bool.{Bool, cond}
 use mathlib.Core.List.{List, [], _∷_, _++_}
 use lib.ListN.{length, take, drop}
-use lib.Dec.{eqb, ltb}
+use lib.Dec.{eqb}
 use Rattle.automaton.specs.declared.Automaton.{Automaton}
 use Rattle.automaton.specs.Automaton.{controllable, run}
 use Rattle.releasing.specs.Step.{bySets, release, remaining, eventRefusal}
-use Rattle.monitor.specs.Answers.{room}
+use Rattle.monitor.specs.Answers.{tooShort}
 
 pub record Store : Type 0 where
   pub output : List ℕ
@@ -50,7 +50,7 @@ pub data Feed : Type 0 where
 
 -- row 16, by this buffer
 unfoldable pub lacksRoom : Store → List ℕ → ℕ → Bool
-lacksRoom s es size = ltb size (room es (length (s .buffer)))
+lacksRoom s es size = tooShort size es (length (s .buffer))
 
 unfoldable pub feed : Automaton → Store → Feed → Store
 feed a s (event e) = store a s e

@@ -7,7 +7,7 @@ use lib.ListN.{length}
 use Rattle.varint.specs.declared.Number.{Number}
 use Rattle.varint.specs.Varint.{read}
 use Rattle.automaton.specs.Automaton.{mostClass}
-use Rattle.encoding.specs.Reading.{checked, between, one, tables, sheet, parse, refused, Parsed}
+use Rattle.encoding.specs.Reading.{checked, between, one, tables, automatonFrom, parse, refused, Parsed}
 use Rattle.encoding.proofs.Items.{Passed, passed, range-of}
 use Rattle.encoding.proofs.Sections.{one-refused, one-passes}
 
@@ -28,7 +28,7 @@ module _ (s : List ℕ) where
   symbols-part n at = one (checked (between 1 17 4) at (read s at)) (capacity-part n)
 
   all-parts : parse s ≡ one (checked (between 1 33 3) 0 (read s 0)) symbols-part
-  unfolding parse sheet symbols-part capacity-part start-part
+  unfolding parse automatonFrom symbols-part capacity-part start-part
   all-parts = refl
 
   -- one part: refused, or on to the next

@@ -13,7 +13,7 @@ use Rattle.base.proofs.Padding.{pad-length, pad-inside, pad-outside, pad-take, 
 use Rattle.varint.specs.declared.Number.{Number}
 use Rattle.automaton.specs.declared.Automaton.{Automaton}
 use Rattle.automaton.specs.Automaton.{controllable, controllables, flag, step}
-use Rattle.encoding.specs.Reading.{between, classRow, tally, numbers, runs, parsed, tables, sheet}
+use Rattle.encoding.specs.Reading.{between, classRow, tally, numbers, runs, parsed, tables, automatonFrom}
 use Rattle.encoding.specs.Writing.{nextNumbers, recordNumbers}
 use Rattle.automaton.proofs.Facts.{Valid}
 use Rattle.encoding.proofs.Items.{inside, range-of}
@@ -91,8 +91,8 @@ module _ (a : Automaton) (v : Valid a) where
         next-prefix states (drop (a .states * 16) (a .next)) (a .symbols) (a .states) (v .symbols-high) (omega (arith, states-length)) in
         runs-done (a .symbols) (between 0 (a .states) 9) (v .symbols-high) from (a .states) states [] at stop states-rows (rw e at f)
 
-    pub parsed-of : (end stop : ℕ) → Follows from (recordNumbers a) 0 stop → end ≤ stop → sheet from 1 end ≡ parsed a
-    unfolding sheet tables recordNumbers
+    pub parsed-of : (end stop : ℕ) → Follows from (recordNumbers a) 0 stop → end ≤ stop → automatonFrom from 1 end ≡ parsed a
+    unfolding automatonFrom tables recordNumbers
     parsed-of end stop f h =
         let s5 = follows-split from classes (flags ++ nextNumbers (a .next) (a .symbols) (a .states)) _ stop (f .2 .2 .2 .2) in
         let s6 = follows-split from flags (nextNumbers (a .next) (a .symbols) (a .states)) (s5 .0) stop (s5 .2) in
@@ -173,8 +173,8 @@ module _ (n m b q : ℕ) (cs fs vs : List ℕ) where
     made-standing from end stop f h =
         record { valid = made-valid; stop = stop; follows = subst (λ l. Follows from l 0 stop) (sym made-numbers) f; reaches = h }
 
-pub parsed-facts : (from : ℕ → Number) (end : ℕ) (a : Automaton) → sheet from 1 end ≡ parsed a → Standing from end a
-unfolding sheet tables
+pub parsed-facts : (from : ℕ → Number) (end : ℕ) (a : Automaton) → automatonFrom from 1 end ≡ parsed a → Standing from end a
+unfolding automatonFrom tables
 parsed-facts from end a h =
     one-read _ _ _ _ a h λ n at1 e1 c1 h1.
     one-read _ _ _ _ a h1 λ m at2 e2 c2 h2.

@@ -17,7 +17,7 @@ use Rattle.varint.specs.declared.Number.{Number}
 use Rattle.varint.specs.Varint.{fault, read}
 use Rattle.automaton.specs.declared.Automaton.{Automaton}
 use Rattle.automaton.specs.Automaton.{mostClass}
-use Rattle.encoding.specs.Reading.{checked, between, tally, classRow, Numbers, numbers, runs, many, one, tables, sheet, parse, parsed, refused, Parsed}
+use Rattle.encoding.specs.Reading.{checked, between, tally, classRow, Numbers, numbers, runs, many, one, tables, automatonFrom, parse, parsed, refused, Parsed}
 use Rattle.encoding.specs.Parts.{itemRow, outcome, oneMore}
 use Rattle.encoding.proofs.Items.{passed, range-of, inside, over, tally-more, tally-max, run-refused, run-passes}
 

@@ -98,8 +98,8 @@ tables from most end n m b q at =
     }))
 
 -- a sheet's numbers in their order, by a number reader and up to a largest class: n, m, B, start, then the tables
-unfoldable pub sheet : (ℕ → Number) → ℕ → ℕ → Parsed
-sheet from most end =
+unfoldable pub automatonFrom : (ℕ → Number) → ℕ → ℕ → Parsed
+automatonFrom from most end =
     one (checked (between 1 33 3) 0 (from 0)) λ n at1.
     one (checked (between 1 17 4) at1 (from at1)) λ m at2.
     one (checked (between 1 7 5) at2 (from at2)) λ b at3.
@@ -108,4 +108,4 @@ sheet from most end =
 
 -- what reading a sheet's bytes gives
 unfoldable pub parse : List ℕ → Parsed
-parse s = sheet (read s) mostClass (length s)
+parse s = automatonFrom (read s) mostClass (length s)

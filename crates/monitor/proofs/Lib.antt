@@ -1,4 +1,3 @@
 pub mod Refusals
-pub mod Answering
 pub mod Entries
 pub mod Receiving

@@ -1,43 +1,37 @@
 -- The ways out of one event.
-use Prim.Native.Nat.{ℕ, suc, _+_, _*_, _<_, _≤_}
-use mathlib.Core.Path.{_≡_, refl, sym, _∙_, ap, ap₂}
-use mathlib.Core.Bool.{Bool, true, false, cond, not, _&&_}
-use mathlib.Core.List.{List, [], _∷_, _++_}
-use native.Mathlib.Numerals.{add-one}
+use Prim.Native.Nat.{ℕ, suc, _+_, _<_, _≤_}
+use mathlib.Core.Path.{_≡_, refl, sym, _∙_, ap, subst}
+use mathlib.Core.Bool.{Bool, true, false}
+use mathlib.Core.List.{List}
+use native.Mathlib.Nat.{zero-add}
 use native.Mathlib.Omega.{arith}
-use lib.ListN.{length, getD, set, take, drop, length-append}
-use lib.Seq.{getD-set-same, getD-set-other}
-use lib.Dec.{eqb, leb, ltb}
-use borrow.Author.Tests.{lt-ltb, le-ltb, le-leb, lt-leb, eq-eqb, ne-eqb, eqb-true, eqb-false, ltb-true, ltb-false}
-use Rattle.base.specs.Rows.{first}
-use Rattle.base.proofs.Bools.{by, clash}
+use lib.ListN.{length, getD, take, replicate}
+use lib.Seq.{sets}
+use borrow.Author.Tests.{ne-eqb}
+use Rattle.base.specs.Pad.{pad}
+use Rattle.base.proofs.Padding.{pad-stored}
 use Rattle.automaton.specs.declared.Automaton.{Automaton}
-use Rattle.automaton.specs.Automaton.{controllable, step, run, valid}
-use Rattle.automaton.proofs.Facts.{Valid, valid-facts, step-high}
-use Rattle.sets.specs.Table.{short, Buffer}
-use Rattle.sets.proofs.Buffers.{buffer-end}
+use Rattle.automaton.proofs.Facts.{Valid, valid-facts, valid-of}
+use Rattle.sets.proofs.Total.{total}
 use Rattle.configuration.specs.declared.Configuration.{Configuration}
-use Rattle.configuration.specs.Configuration.{heldEvents, consistent}
-use Rattle.configuration.proofs.Facts.{Consistent, consistent-facts, held-buffer, held-event, unused-place}
-use Rattle.releasing.specs.Step.{byTable, qualifies, release, remaining, arrival, effect, eventRows, eventRefusal}
-use Rattle.monitor.specs.declared.Received.{Received}
-use Rattle.monitor.specs.declared.Status.{Status}
-use Rattle.monitor.specs.Answers.{callRows, callRefusal, receiveRefusal, refusedEvent, received, isWinning, status}
+use Rattle.configuration.specs.Configuration.{heldEvents}
+use Rattle.configuration.proofs.Facts.{Consistent, consistent-facts, held-buffer}
+use Rattle.releasing.specs.Step.{byTable, Effect, effect, eventRows, eventRefusal}
 use Rattle.releasing.specs.declared.Ranking.{Ranking}
 use Rattle.releasing.specs.Parts.{rankingOf, restIn, over, Lent}
+use Rattle.releasing.proofs.Effects.{Occurs, effect-occurs, effect-length}
+use Rattle.releasing.proofs.Tabled.{rest-tabled, lent}
+use Rattle.stepping.specs.declared.Stepped.{Stepped}
+use Rattle.stepping.specs.Stepping.{eventRowBy, stepped, Ready}
+use Rattle.stepping.proofs.Tabled.{row-same, stepped-tabled, emitted-tabled, symbols-low, ready}
+use Rattle.monitor.specs.declared.Received.{Received}
+use Rattle.monitor.specs.declared.Status.{Status}
 use Rattle.monitor.specs.declared.Entry.{Entry}
-use Rattle.monitor.specs.Parts.{entryOf, releasedFrom}
+use Rattle.monitor.specs.Answers.{callRows, callRefusal, receiveRefusal, refusedEvent, received, isWinning, status}
+use Rattle.monitor.specs.Parts.{entryOf}
 use Rattle.monitor.proofs.Refusals.{Clear, clear, status-clear, rows-stand, rows-pass}
-use Rattle.releasing.proofs.Tabled.{rank-controllable, rank-uncontrollable, rest-tabled, lent}
-use Rattle.monitor.proofs.Answering.{longer, released-tabled}
 
 module _ (a : Automaton) (t : List ℕ) (c : Configuration) where
-  -- an accepted event's answer is the release after its arrival
-  accepted-is : (e : ℕ) → receiveRefusal a t c e ≡ 0
-      → let x = arrival a (c .state) (heldEvents c) e in releasedFrom (byTable a t) a (x .state) (x .buffer) (x .emitted) ≡ received a t c e
-  unfolding received releasedFrom effect qualifies
-  accepted-is e h = rw h
-
   refused-is : (e n : ℕ) → receiveRefusal a t c e ≡ n → (n ≡ 0 → ⊥) → refusedEvent n c ≡ received a t c e
   unfolding received
   refused-is e n h z = rw (h, ne-eqb n 0 z)
@@ -53,89 +47,91 @@ module _ (a : Automaton) (t : List ℕ) (c : Configuration) where
     pub place : Consistent a c
     place = consistent-facts a c facts (k .configuration-consistent)
 
-    event-row : (e n : ℕ) → eventRefusal a (heldEvents c) e ≡ n → receiveRefusal a t c e ≡ n
-    unfolding receiveRefusal eventRefusal
-    event-row e n h = rows-pass a t c (k .record-valid) (k .table-long) (k .configuration-consistent) (eventRows a (heldEvents c) e) ∙ h
+    pub occurs : Occurs a (c .state) (heldEvents c)
+    occurs = record { state-below = place .state-below; buffer = held-buffer a c place }
 
-    pub receive-unknown : (e : ℕ) → a .symbols ≤ e → refusedEvent 14 c ≡ received a t c e
-    unfolding eventRefusal eventRows first
-    receive-unknown e h = refused-is e 14 (event-row e 14 (rw (le-ltb e (a .symbols) h))) (λ z. omega arith)
-
-    pub receive-full : (e : ℕ) → e < a .symbols → controllable a e ≡ true → a .capacity ≤ c .held → refusedEvent 15 c ≡ received a t c e
-    unfolding eventRefusal eventRows first
-    receive-full e h f l =
-        let m : a .capacity ≤ length (heldEvents c) = omega (arith, place .held-length) in
-        refused-is e 15 (event-row e 15 (rw (lt-ltb e (a .symbols) h, f, le-leb (a .capacity) (length (heldEvents c)) m))) (λ z. omega arith)
-
-    receive-passes : (e : ℕ) → e < a .symbols → controllable a e ≡ false
-        → releasedFrom (byTable a t) a (step a (c .state) e) (heldEvents c) (e ∷ []) ≡ received a t c e
-    unfolding eventRefusal eventRows first arrival remaining
-    receive-passes e h f = rw f at (accepted-is e (event-row e 0 (rw (lt-ltb e (a .symbols) h, f))))
-
-    receive-adds : (e : ℕ) → e < a .symbols → controllable a e ≡ true → c .held < a .capacity
-        → releasedFrom (byTable a t) a (c .state) (heldEvents c ++ e ∷ []) [] ≡ received a t c e
-    unfolding eventRefusal eventRows first arrival
-    receive-adds e h f l =
-        let m : length (heldEvents c) < a .capacity = omega (arith, place .held-length) in
-        rw f at (accepted-is e (event-row e 0 (rw (lt-ltb e (a .symbols) h, f, lt-leb (a .capacity) (length (heldEvents c)) m))))
-
-    -- the ranking tells the classes apart
-    module _ (e : ℕ) (h : e < a .symbols) where
-      pub unranked : getD (rankingOf (a .classes) (a .symbols) .ranks) e 0 ≡ 0 → controllable a e ≡ false
-      unranked z = by (controllable a e) (λ f. absurd (let r = rank-controllable a facts e h f in omega arith)) (λ f. f)
-
-      pub ranked : (getD (rankingOf (a .classes) (a .symbols) .ranks) e 0 ≡ 0 → ⊥) → controllable a e ≡ true
-      ranked z = by (controllable a e) (λ f. f) (λ f. absurd (z (rank-uncontrollable a facts e h f)))
-
-    -- each place of the buffer is a symbol's number
-    pub symbol-low : (i : ℕ) → getD (c .buffer) i 0 < 16
-    symbol-low i =
-        by (ltb i (c .held))
-        (λ u. omega (arith, held-event a c place i (ltb-true i (c .held) u) .0, facts .symbols-high))
-        (λ u. omega (arith, unused-place a c place i (ltb-false i (c .held) u)))
-
-    abbrev own : Ranking
-    own = rankingOf (a .classes) (a .symbols)
-
-    pub lent-here : Lent (a .next) (own .ranks) (own .count) t (c .state) (c .buffer) (c .held)
+    -- what the release asks
+    pub lent-here : Lent (a .next) (rankingOf (a .classes) (a .symbols) .ranks) (rankingOf (a .classes) (a .symbols) .count) t (c .state) (c .buffer) (c .held)
     unfolding heldEvents
     lent-here =
-        lent a facts t (k .table-long) (c .state) (c .buffer) (c .held) (place .state-below) (place .held-small) (held-buffer a c place) symbol-low
+        lent a facts t (k .table-long) (c .state) (c .buffer) (c .held) (place .state-below) (place .held-small) (held-buffer a c place)
+        (λ i. subst (λ b. getD b i 0 < 16) (sym (ap (λ (y : Configuration). y .buffer) (place .whole))) (symbols-low a facts (heldEvents c) (place .events) i))
 
-    -- an uncontrollable event
-    pub passed-received : (e : ℕ) → e < a .symbols → getD (own .ranks) e 0 ≡ 0
-        → releasedFrom (restIn t (own .ranks) (own .count)) (over (a .next)) (getD (a .next) (c .state * 16 + e) 0) (take (c .held) (c .buffer)) (e ∷ [])
-        ≡ received a t c e
-    unfolding heldEvents step
-    passed-received e h z =
-        released-tabled a facts t (take (c .held) (c .buffer)) (held-buffer a c place) (step a (c .state) e) (e ∷ []) ∙
-        receive-passes e h (unranked e h z)
+    -- rows 14 and 15, as the code finds them
+    module _ (r : Ranking) (own : r ≡ rankingOf (a .classes) (a .symbols)) (capacity held e n : ℕ) (ec : capacity ≡ a .capacity) (eh : held ≡ c .held)
+        (en : n ≡ eventRowBy (r .ranks) (a .symbols) capacity held e) where
+      pub row-is : n ≡ eventRefusal a (heldEvents c) e
+      row-is = en ∙ rw (own, ec) (row-same a facts (heldEvents c) held e (place .held-length ∙ sym eh))
 
-    -- a controllable event with room for it
-    module _ (e : ℕ) (h : e < a .symbols) (z : getD (own .ranks) e 0 ≡ 0 → ⊥) (l : c .held < a .capacity) where
-      longer-buffer : Buffer a (take (c .held) (c .buffer) ++ e ∷ [])
-      unfolding heldEvents
-      longer-buffer = buffer-end a (take (c .held) (c .buffer)) e (held-buffer a c place) h (ranked e h z) (omega (arith, place .held-length))
+      pub receive-refuses : (n ≡ 0 → ⊥) → refusedEvent n c ≡ received a t c e
+      unfolding receiveRefusal eventRefusal
+      receive-refuses z =
+          refused-is e n
+          (rows-pass a t c (k .record-valid) (k .table-long) (k .configuration-consistent) (eventRows a (heldEvents c) e) ∙ sym row-is) z
 
-      low : (i : ℕ) → getD (set (c .buffer) (c .held) e) i 0 < 16
-      low i =
-          by (eqb i (c .held))
-          (λ u. rw (eqb-true i (c .held) u)
-          (rw (getD-set-same (c .buffer) (c .held) e 0 (omega (arith, place .buffer-length, facts .capacity-high))) (omega (arith, facts .symbols-high))))
-          (λ u. rw (getD-set-other (c .buffer) (c .held) i e 0 (eqb-false i (c .held) u)) (symbol-low i))
+      -- an accepted event
+      module _ (z : n ≡ 0) where
+        row : eventRefusal a (heldEvents c) e ≡ 0
+        row = sym row-is ∙ z
 
-      pub lent-longer : Lent (a .next) (own .ranks) (own .count) t (c .state) (set (c .buffer) (c .held) e) (c .held + 1)
-      lent-longer =
-          lent a facts t (k .table-long) (c .state) (set (c .buffer) (c .held) e) (c .held + 1) (place .state-below)
-          (omega (arith, facts .capacity-high))
-          (rw (longer (c .buffer) (c .held) e (omega (arith, place .buffer-length, facts .capacity-high))) longer-buffer)
-          low
+        f : Effect
+        f = effect (byTable a t) a (c .state) (heldEvents c) e
 
-      pub added-received : releasedFrom (restIn t (own .ranks) (own .count)) (over (a .next)) (c .state) (take (c .held) (c .buffer) ++ e ∷ []) [] ≡ received a t c e
-      unfolding heldEvents
-      added-received =
-          released-tabled a facts t (take (c .held) (c .buffer) ++ e ∷ []) longer-buffer (c .state) [] ∙
-          receive-adds e h (ranked e h z) l
+        seven : length (f .emitted) ≤ 7
+        unfolding f
+        seven = omega (arith, effect-length (byTable a t) a (c .state) (heldEvents c) e, place .held-length, place .held-small)
+
+        pub receive-ready : (q : ℕ) → q ≡ c .state → Ready (a .next) (r .ranks) (r .count) t q (c .buffer) held e 7 0
+        unfolding heldEvents
+        receive-ready q eq =
+            rw (own, eh, eq)
+            (ready a facts t (k .table-long) (c .state) (c .buffer) (c .held) e 7 0 occurs (place .held-small) (ap (λ (y : Configuration). y .buffer) (place .whole))
+            (place .held-length) row (omega (arith, place .held-small)) (omega arith))
+
+        -- its answer
+        module _ (q : ℕ) (eq : q ≡ c .state) (s : Stepped)
+            (es : s ≡ stepped (restIn t (r .ranks) (r .count)) (over (r .ranks) (a .next)) q (take held (c .buffer)) e 0) (out : List ℕ)
+            (eo : out ≡ sets (replicate 7 0) 0 (effect (restIn t (r .ranks) (r .count)) (over (r .ranks) (a .next)) q (take held (c .buffer)) e .emitted)) where
+          pub step-is : s ≡ stepped (byTable a t) a (c .state) (heldEvents c) e 0
+          unfolding heldEvents
+          step-is = es ∙ rw (own, eh, eq) (stepped-tabled a facts t (c .state) (heldEvents c) e occurs row 0)
+
+          out-is : out ≡ pad 7 (f .emitted)
+          unfolding heldEvents f
+          out-is =
+              eo ∙ rw (own, eh, eq) (ap (sets (replicate 7 0) 0) (emitted-tabled a facts t (c .state) (heldEvents c) e occurs row)) ∙
+              pad-stored 7 (f .emitted) seven
+
+          pub state-small : s .state < 256
+          unfolding stepped
+          state-small =
+              omega (
+                arith,
+                ap (λ (y : Stepped). y .state) step-is,
+                effect-occurs (byTable a t) a (c .state) (heldEvents c) e (total a (valid-of a facts)) occurs row .state-below,
+                facts .states-high,
+              )
+
+          pub held-small : s .held < 256
+          unfolding stepped
+          held-small =
+              omega (arith, ap (λ (y : Stepped). y .held) step-is, effect-length (byTable a t) a (c .state) (heldEvents c) e, place .held-length, place .held-small)
+
+          pub count-small : s .written < 256
+          unfolding stepped f
+          count-small = omega (arith, ap (λ (y : Stepped). y .written) step-is, seven)
+
+          pub receive-accepts : record {
+            refusal = 0;
+            configuration = record { state = s .state; held = s .held; buffer = s .buffer };
+            emitted = out;
+            count = s .written;
+            winning = s .winning;
+          } ≡ received a t c e
+          unfolding received receiveRefusal eventRefusal stepped f
+          receive-accepts =
+              rw (out-is, step-is)
+              (rw (rows-pass a t c (k .record-valid) (k .table-long) (k .configuration-consistent) (eventRows a (heldEvents c) e), row, zero-add (length (f .emitted))))
 
 -- what `enter` hands over
 pub entered : (a : Automaton) (t : List ℕ) (c : Configuration) (n : Entry) → n ≡ entryOf a t c → n .refusal ≡ callRefusal a t c

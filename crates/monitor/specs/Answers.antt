@@ -58,9 +58,13 @@ received a t c e =
 unfoldable pub room : List ℕ → ℕ → ℕ
 room events held = length events + held
 
+-- row 16: a lent output of this size is shorter
+abbrev pub tooShort : ℕ → List ℕ → ℕ → Bool
+tooShort size events held = ltb size (room events held)
+
 -- a whole day
 unfoldable pub runRefusal : Automaton → List ℕ → Configuration → List ℕ → List ℕ → ℕ
-runRefusal a t c events out = first (callRows a t c ++ (16, ltb (length out) (room events (c .held))) ∷ [])
+runRefusal a t c events out = first (callRows a t c ++ (16, tooShort (length out) events (c .held)) ∷ [])
 
 -- one that is not refused, and the lent output after it
 abbrev pub ranOf : Automaton → List ℕ → Configuration → List ℕ → Ran

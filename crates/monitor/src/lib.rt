@@ -6,7 +6,6 @@ pub use checking::enter;
 pub use checking::winning;
 use configuration::Configuration;
 pub use event::receive;
-pub use event::shifted;
 use releasing::Ranking;
 
 // Whether a configuration is winning (document 01's guarded), or the refusing row with no.
@@ -15,7 +14,7 @@ pub struct Status {
     pub winning: bool,
 }
 
-// What one event brings: the next configuration, the kinds emitted with their count (places past it are 0), and whether the
+// What one event brings: the next configuration, the symbols emitted with their count (places past it are 0), and whether the
 // configuration is winning. Refused: the row, the configuration given, nothing emitted, no.
 pub struct Received {
     pub refusal: u8,

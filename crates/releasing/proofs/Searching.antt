@@ -97,6 +97,6 @@ module _ {next ranks : List ℕ} {k : ℕ} {t : List ℕ} {q : ℕ} {buffer : Li
     unfolding restIn
     lent-rest s b f = f ∙ ap (λ x. has (getD t (2 * x) 0) s) lent-place
 
-  pub lent-step : (p r x s : ℕ) → r < held → x ≡ getD buffer r 0 → s ≡ getD next (p * 16 + x) 0 → s ≡ step (over next) p (getD (take held buffer) r 0)
+  pub lent-step : (p r x s : ℕ) → r < held → x ≡ getD buffer r 0 → s ≡ getD next (p * 16 + x) 0 → s ≡ step (over ranks next) p (getD (take held buffer) r 0)
   unfolding step
   lent-step p r x s h e f = f ∙ ap (λ y. getD next (p * 16 + y) 0) (e ∙ sym (getD-take held buffer r 0 h))

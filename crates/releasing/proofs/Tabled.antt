@@ -89,10 +89,10 @@ module _ (a : Automaton) (v : Valid a) where
       rw (r, i) (let m : (rank a e + 1) * k ≡ rank a e * k + k = rw (add-one (rank a e)) (suc-mul (rank a e) k) in omega (arith, m))
 
 -- what is read of a table, with the automaton's own ranks and next states
-pub run-over : (a : Automaton) (w : List ℕ) (q : ℕ) → run (over (a .next)) q w ≡ run a q w
+pub run-over : (a : Automaton) (ranks w : List ℕ) (q : ℕ) → run (over ranks (a .next)) q w ≡ run a q w
 unfolding run step
-run-over a [] q = refl
-run-over a (e ∷ w) q = run-over a w (step a q e)
+run-over a ranks [] q = refl
+run-over a ranks (e ∷ w) q = run-over a ranks w (step a q e)
 
 module _ (a : Automaton) (v : Valid a) (t : List ℕ) (w : List ℕ) (b : Buffer a w) (q : ℕ) where
   abbrev ranking : Ranking
@@ -102,15 +102,15 @@ module _ (a : Automaton) (v : Valid a) (t : List ℕ) (w : List ℕ) (b : Buffer
   unfolding restIn byTable
   rest-tabled = rw (place-index a v w (b .0))
 
-  pub asked : (k : ℕ) → qualifies (restIn t (ranking .ranks) (ranking .count)) (over (a .next)) q w k ≡ qualifies (byTable a t) a q w k
+  pub asked : (k : ℕ) → qualifies (restIn t (ranking .ranks) (ranking .count)) (over (ranking .ranks) (a .next)) q w k ≡ qualifies (byTable a t) a q w k
   unfolding qualifies restIn byTable
-  asked k = rw (place-index a v (drop k w) (buffer-drop a k w b .0), run-over a (take k w) q)
+  asked k = rw (place-index a v (drop k w) (buffer-drop a k w b .0), run-over a (ranking .ranks) (take k w) q)
 
-  pub release-tabled : release (restIn t (ranking .ranks) (ranking .count)) (over (a .next)) q w ≡ release (byTable a t) a q w
+  pub release-tabled : release (restIn t (ranking .ranks) (ranking .count)) (over (ranking .ranks) (a .next)) q w ≡ release (byTable a t) a q w
   unfolding release qualifying
   release-tabled =
       ap (lastOr 0)
-      (those-same (suc (length w)) (qualifies (restIn t (ranking .ranks) (ranking .count)) (over (a .next)) q w) (qualifies (byTable a t) a q w) (λ k _. asked k))
+      (those-same (suc (length w)) (qualifies (restIn t (ranking .ranks) (ranking .count)) (over (ranking .ranks) (a .next)) q w) (qualifies (byTable a t) a q w) (λ k _. asked k))
 
 -- what the release asks
 module _ (a : Automaton) (v : Valid a) (t : List ℕ) (long : short a t ≡ false) where

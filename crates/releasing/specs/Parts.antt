@@ -2,7 +2,7 @@
 use Prim.Native.Nat.{ℕ, zero, suc, _+_, _*_, _^_, _<_, _≤_}
 use mathlib.Core.Path.{_≡_}
 use mathlib.Core.Bool.{Bool, cond}
-use mathlib.Core.List.{List, [], _∷_, _++_}
+use mathlib.Core.List.{List, [], _∷_, _++_, map}
 use lib.ListN.{length, getD, take, drop}
 use lib.Dec.{eqb}
 use Rattle.base.specs.Masks.{has}
@@ -36,9 +36,22 @@ placesOf ranks k (e ∷ w) = placeIn ranks k (e ∷ w) ∷ placesOf ranks k w
 unfoldable pub restIn : List ℕ → List ℕ → ℕ → Rest
 restIn t ranks k w q = has (getD t (2 * placeIn ranks k w) 0) q
 
--- an automaton of which only the next states are known
-abbrev pub over : List ℕ → Automaton
-over next = record { states = 0; symbols = 0; capacity = 0; initial = 0; classes = []; accepting = []; next = next }
+-- the class that a rank tells
+abbrev pub classBy : ℕ → ℕ
+classBy r = cond (eqb r 0) 0 1
+
+-- the automaton of which only the ranks and the next states are lent: a ranked symbol is controllable
+abbrev pub over : List ℕ → List ℕ → Automaton
+over ranks next =
+    record {
+      states = 0;
+      symbols = 0;
+      capacity = 0;
+      initial = 0;
+      classes = map classBy ranks;
+      accepting = [];
+      next = next;
+    }
 
 -- the longest front part that qualifies, where it leads, and whether the monitor may rest then
 unfoldable pub front : Rest → Automaton → ℕ → List ℕ → Front

@@ -63,9 +63,12 @@ effect rest a q w e =
       buffer = drop k (x .buffer);
     }
 
--- the rows of one event with a buffer: 14, no symbol of the automaton; 15, controllable with the buffer full
+-- the rows of one event with so many held: 14, no symbol of the automaton; 15, controllable with the buffer full
+abbrev pub eventRowsIn : ℕ → ℕ → Bool → ℕ → ℕ → List (ℕ × Bool)
+eventRowsIn symbols capacity holds held e = (14, not (ltb e symbols)) ∷ (15, holds && leb capacity held) ∷ []
+
 unfoldable pub eventRows : Automaton → List ℕ → ℕ → List (ℕ × Bool)
-eventRows a w e = (14, not (ltb e (a .symbols))) ∷ (15, controllable a e && leb (a .capacity) (length w)) ∷ []
+eventRows a w e = eventRowsIn (a .symbols) (a .capacity) (controllable a e) (length w) e
 
 unfoldable pub eventRefusal : Automaton → List ℕ → ℕ → ℕ
 eventRefusal a w e = first (eventRows a w e)

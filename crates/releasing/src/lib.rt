@@ -79,7 +79,7 @@ pub fn release<'a>(
     held: usize,
 ) -> Front
     requires { ⌜ Lent (now next) (now ranks) k (now table) q buffer held ⌝ }
-    ensures { λ r. ⌜ r ≡ front (restIn (now (table .entry)) (now (ranks .entry)) k) (over (now (next .entry))) q (take held buffer) ⌝ }
+    ensures { λ r. ⌜ r ≡ front (restIn (now (table .entry)) (now (ranks .entry)) k) (over (now (ranks .entry)) (now (next .entry))) q (take held buffer) ⌝ }
 {
     let places = places(ranks, k, buffer, held);
     let mut winning = in_set(table, places[0], q);

@@ -1,4 +1,4 @@
--- What the monitor answers: never more than seven kinds, and the same over two solved tables.
+-- What the monitor answers: never more than seven symbols, and the same over two solved tables.
 use Prim.Native.Nat.{ℕ, _≤_}
 use mathlib.Core.Path.{_≡_, refl, sym, _∙_, ap, ap₂}
 use mathlib.Core.Bool.{Bool, true, false, cond}

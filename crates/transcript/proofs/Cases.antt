@@ -9,7 +9,7 @@ use Rattle.base.specs.Pad.{pad}
 use Rattle.base.specs.Rows.{first}
 use Rattle.varint.specs.Varint.{groups, read}
 use Rattle.automaton.specs.Automaton.{controllable, controllables, accepts, step, run, stands, shaped, ranged, classesStand, flagsStand, nextStand, valid}
-use Rattle.encoding.specs.Reading.{checked, between, tally, classRow, numbers, runs, one, many, tables, sheet, parse}
+use Rattle.encoding.specs.Reading.{checked, between, tally, classRow, numbers, runs, one, many, tables, automatonFrom, parse}
 use Rattle.sets.specs.Sets.{acceptingSet, admits, stays, refine, settle, settled, setsOf, emptySets, into, sets}
 use Rattle.sets.specs.Table.{rank, value, shorter, index, buffersCount, short, controllableTo, extended, buffersAt, buffersTo, pairs, table}
 use Rattle.configuration.specs.Configuration.{heldEvents, controllableSymbol, placeStands, bufferStands, consistentIn, initialOf}
@@ -22,7 +22,7 @@ use Rattle.transcript.specs.Claims.{v, large, lines, CasesPrinted, LongR
 
 -- every definition that the transcript rests on
 unfoldable all : ℕ
-unfolding each count those lastOr has mask pad first groups read controllable controllables accepts step run stands shaped ranged classesStand flagsStand nextStand valid checked between tally classRow numbers runs one many tables sheet parse acceptingSet admits stays refine settle settled setsOf emptySets into sets rank value shorter index buffersCount short extended buffersAt buffersTo pairs table heldEvents controllableSymbol placeStands bufferStands consistentIn initialOf byTable qualifies qualifying release remaining arrival effect eventRows callRows isWinning callRefusal status receiveRefusal received ascii digit digits decimal guardedEnd sheetLine spaced emission eventLine refusedEventLine endLine faultLine refusalLine sheetAt opening runFrom firstLine answerLine after eventLines runLines tooLong tooLarge transcript v large lines
+unfolding each count those lastOr has mask pad first groups read controllable controllables accepts step run stands shaped ranged classesStand flagsStand nextStand valid checked between tally classRow numbers runs one many tables automatonFrom parse acceptingSet admits stays refine settle settled setsOf emptySets into sets rank value shorter index buffersCount short extended buffersAt buffersTo pairs table heldEvents controllableSymbol placeStands bufferStands consistentIn initialOf byTable qualifies qualifying release remaining arrival effect eventRows callRows isWinning callRefusal status receiveRefusal received ascii digit digits decimal guardedEnd sheetLine spaced emission eventLine refusedEventLine endLine faultLine refusalLine sheetAt opening runFrom firstLine answerLine after eventLines runLines tooLong tooLarge transcript v large lines
 all = 0
 
 pub cases-printed : CasesPrinted

@@ -13,7 +13,7 @@ use Rattle.varint.specs.declared.Number.{Number}
 use Rattle.varint.specs.Varint.{fault, value, groups, read}
 use Rattle.automaton.specs.Automaton.{mostClass}
 use Rattle.encoding.specs.declared.Parsed.{Parsed}
-use Rattle.encoding.specs.Reading.{checked, between, classRow, Numbers, numbers, runs, parsed, refused, one, many, tables, sheet, parse}
+use Rattle.encoding.specs.Reading.{checked, between, classRow, Numbers, numbers, runs, parsed, refused, one, many, tables, automatonFrom, parse}
 use Rattle.transcript.proofs.Events.{next-inside}
 
 -- a place of a list's bytes, or the one after them
@@ -93,7 +93,7 @@ module _ (s : List ℕ) where
       (by (ltb (x .place) (length s)) (λ e. rw e (faulty 10 (x .place) (λ z. omega arith) hx)) (λ e. rw e (record { within = omega arith; whole = λ _. refl })))))
 
   pub parse-sound : Fine (parse s)
-  unfolding parse sheet
+  unfolding parse automatonFrom
   parse-sound =
       let n = checked (between 1 33 3) 0 (read s 0) in
       let m = checked (between 1 17 4) (n .place) (read s (n .place)) in

@@ -14,7 +14,7 @@ use Rattle.releasing.proofs.release.Tie as tie
 
 abbrev Inv-loop : tie.InvT-loop
 Inv-loop next ranks k table q held buffer places winning₀ count₀ state₀ p₀ r₀ winning count state p r =
-    (r ≤ held) × (p < 32) × (length (take held buffer) ≡ held) × Searching (restIn table ranks k) (over next) q (take held buffer) winning count state p r
+    (r ≤ held) × (p < 32) × (length (take held buffer) ≡ held) × Searching (restIn table ranks k) (over ranks next) q (take held buffer) winning count state p r
 
 abbrev μ-loop : tie.MeasureT-loop
 μ-loop next ranks k table q held buffer places winning₀ count₀ state₀ p₀ r₀ winning count state p r =

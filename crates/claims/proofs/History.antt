@@ -1,0 +1,34 @@
+-- What each accepted event has before it.
+use Prim.Native.Nat.{ℕ}
+use mathlib.Core.Path.{_≡_, refl, sym, _∙_, ap}
+use mathlib.Core.List.{List, [], _∷_, _++_, map, append-assoc, append-nil}
+use lib.Dec.{eqb}
+use Rattle.base.proofs.Bools.{by}
+use Rattle.automaton.specs.declared.Automaton.{Automaton}
+use Rattle.releasing.specs.Step.{eventRefusal}
+use Rattle.claims.specs.Moments.{Moment, effectAt, emittedAt, within}
+
+module _ (a : Automaton) (t : List ℕ) where
+  -- the past and the output of each, from some past and output on
+  abbrev Traced : List ℕ → List ℕ → List Moment → Type 0
+  Traced past output [] = Unit {0}
+  Traced past output (m ∷ ms) =
+      (m .past ≡ past) × (m .output ≡ output) × Traced (past ++ m .event ∷ []) (output ++ effectAt a t m .emitted) ms
+
+  pub within-traced : (es past output : List ℕ) (q : ℕ) (w : List ℕ) → Traced past output (within a t past output q w es)
+  unfolding within
+  within-traced [] past output q w = tt
+  within-traced (e ∷ es) past output q w =
+      by (eqb (eventRefusal a w e) 0)
+      (λ h. rw h (refl, refl, within-traced es _ _ _ _))
+      (λ h. rw h (within-traced es past output q w))
+
+  pub traced-at : (before : List Moment) (m : Moment) (after : List Moment) (past output : List ℕ) → Traced past output (before ++ m ∷ after)
+      → (m .past ≡ past ++ map (λ (x : Moment). x .event) before) × (m .output ≡ output ++ emittedAt a t before)
+  unfolding emittedAt
+  traced-at [] m after past output h = (h .0 ∙ sym (append-nil past), h .1 ∙ sym (append-nil output))
+  traced-at (b ∷ before) m after past output h =
+      let k = traced-at before m after (past ++ b .event ∷ []) (output ++ effectAt a t b .emitted) (h .2) in (
+        k .0 ∙ append-assoc past (b .event ∷ []) (map (λ (x : Moment). x .event) before),
+        k .1 ∙ append-assoc output (effectAt a t b .emitted) (emittedAt a t before),
+      )
