@@ -6,7 +6,7 @@ use mathlib.Core.List.{List, [], _∷_, _++_}
 use native.Mathlib.Omega.{arith}
 use lib.ListN.{length, drop, length-drop}
 use lib.Seq.{length-take-le}
-use lib.Dec.{eqb, ltb}
+use lib.Dec.{eqb}
 use borrow.Author.Tests.{eqb-true, eqb-false}
 use Rattle.base.specs.Rows.{first}
 use Rattle.base.specs.Pad.{pad}
@@ -21,7 +21,7 @@ use Rattle.configuration.proofs.Facts.{consistent-facts, held-buffer, configura
 use Rattle.releasing.specs.Step.{byTable, eventRows, eventRefusal}
 use Rattle.releasing.proofs.Effects.{Occurs, effect-occurs}
 use Rattle.releasing.proofs.Runs.{run-occurs}
-use Rattle.monitor.specs.Answers.{callRows, callRefusal, receiveRefusal, received, room, runRefusal, ran}
+use Rattle.monitor.specs.Answers.{callRows, callRefusal, receiveRefusal, received, tooShort, runRefusal, ran}
 use Rattle.monitor.proofs.Refusals.{Clear, clear, rows-pass, rows-stand}
 use Rattle.layout.specs.Layout.{part, configurationOf}
 use Rattle.layout.specs.Claims.{InitialHandedOn, EventHandedOn, RunHandedOn}
@@ -64,7 +64,7 @@ module _ (a : Automaton) (t : List ℕ) (c : Configuration) where
   run-places events out long =
       by (eqb (runRefusal a t c events out) 0)
       (λ h.
-      let k = passes ((16, ltb (length out) (room events (c .held))) ∷ []) (eqb-true (runRefusal a t c events out) 0 h) in
+      let k = passes ((16, tooShort (length out) events (c .held)) ∷ []) (eqb-true (runRefusal a t c events out) 0 h) in
       let v = k .record-valid in
       let o = run-occurs (byTable a t) a (total a v) events (c .state) (heldEvents c) (occurs k) in
       rw h (configuration-consistent a (valid-facts a v) _ _ (o .state-below) (o .buffer) .buffer-length))
