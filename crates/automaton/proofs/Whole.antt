@@ -3,7 +3,7 @@ use Prim.Native.Nat.{ℕ, zero, suc, _+_, _-_, _*_, _<_, _≤_}
 use mathlib.Core.Path.{_≡_, refl, sym, _∙_, ap, ap₂}
 use mathlib.Core.Bool.{Bool, true, false, cond, _&&_, and-assoc, and-true}
 use mathlib.Core.List.{List, _++_}
-use native.Mathlib.Nat.{zero-add}
+use native.Mathlib.Nat.{zero-add, zero-mul, suc-mul}
 use native.Mathlib.Omega.{arith}
 use lib.ListN.{length, getD, replicate, length-replicate, getD-replicate, List·getD-append}
 use lib.Seq.{getD-append-add}
@@ -44,7 +44,7 @@ limits-unused n m e h k =
     getD-append-add (replicate m n) (replicate (16 - m) 1) (e - m) 0 ∙
     getD-replicate (16 - m) (e - m) 1 0 (omega arith)
 
--- a row of a used state, and one of an unused state
+-- a row of a used state
 row-used : (next : List ℕ) (n m q : ℕ) → m ≤ 16 → q < n
     → each 16 (λ e. stands (ltb q n && ltb e m) n (getD next (q * 16 + e) 0)) ≡ rowBelow next q (limitsOf n m)
 unfolding rowBelow stands
@@ -55,25 +55,38 @@ row-used next n m q h k =
     (λ t. rw t (sym (limits-used n m e (ltb-true e m t) h)))
     (λ t. rw t (sym (limits-unused n m e (ltb-false e m t) l))))))
 
-row-unused : (next : List ℕ) (n m q : ℕ) → n ≤ q
-    → each 16 (λ e. stands (ltb q n && ltb e m) n (getD next (q * 16 + e) 0)) ≡ rowBelow next q (replicate 16 1)
-unfolding rowBelow stands
-row-unused next n m q k =
-    each-same 16 (λ e. ltb (getD next (q * 16 + e) 0) (cond (ltb q n && ltb e m) n 1)) (λ e. ltb (getD next (q * 16 + e) 0) (getD (replicate 16 1) e 0))
-    (λ e l. ap (λ x. ltb (getD next (q * 16 + e) 0) x) (rw (le-ltb q n k) (sym (getD-replicate 16 e 1 0 l))))
+-- places of an unused state, as they follow one another
+place-unused : (next : List ℕ) (n m q e : ℕ) → stands (ltb (n + q) n && ltb e m) n (getD next ((n + q) * 16 + e) 0) ≡ ltb (getD next (n * 16 + (q * 16 + e)) 0) 1
+unfolding stands
+place-unused next n m q e =
+    let h : n ≤ n + q = omega arith in
+    let i : (n + q) * 16 + e ≡ n * 16 + (q * 16 + e) = omega arith in
+    rw (le-ltb (n + q) n h, i)
+
+-- rows of equal width, as one list
+each-rows : (w k : ℕ) (p : ℕ → Bool) → each k (λ q. each w (λ e. p (q * w + e))) ≡ each (k * w) p
+unfolding each
+each-rows w zero p = rw (zero-mul w)
+each-rows w (suc k) p =
+    ap (λ b. b && each w (λ e. p (k * w + e))) (each-rows w k p) ∙ sym (each-split (k * w) w p) ∙ ap (λ n. each n p) (sym (suc-mul k w))
 
 rows-are : (next : List ℕ) (n m : ℕ) → n ≤ 32 → m ≤ 16
     → each 32 (λ q. each 16 (λ e. stands (ltb q n && ltb e m) n (getD next (q * 16 + e) 0)))
-    ≡ (rowsBelow next 0 n (limitsOf n m) && rowsBelow next n (32 - n) (replicate 16 1))
-unfolding rowsBelow
+    ≡ (rowsBelow next 0 n (limitsOf n m) && belowFrom next (n * 16) (512 - n * 16) 1)
+unfolding rowsBelow belowFrom
 rows-are next n m h k =
     let e : 32 ≡ n + (32 - n) = omega arith in
+    let places : (32 - n) * 16 ≡ 512 - n * 16 = omega arith in
     let p : ℕ → Bool = λ q. each 16 (λ e. stands (ltb q n && ltb e m) n (getD next (q * 16 + e) 0)) in
+    let zeros : ℕ → Bool = λ i. ltb (getD next (n * 16 + i) 0) 1 in
     ap (λ x. each x p) e ∙
     each-split n (32 - n) p ∙
     ap₂ _&&_
     (each-same n p (λ q. rowBelow next (0 + q) (limitsOf n m)) (λ q l. rw (zero-add q) (row-used next n m q k l)))
-    (each-same (32 - n) (λ q. p (n + q)) (λ q. rowBelow next (n + q) (replicate 16 1)) (λ q l. row-unused next n m (n + q) (omega arith)))
+    (each-same (32 - n) (λ q. p (n + q)) (λ q. each 16 (λ e. zeros (q * 16 + e)))
+    (λ q l. each-same 16 (λ e. stands (ltb (n + q) n && ltb e m) n (getD next ((n + q) * 16 + e) 0)) (λ e. zeros (q * 16 + e)) (λ e _. place-unused next n m q e)) ∙
+    each-rows 16 (32 - n) zeros ∙
+    ap (λ c. each c zeros) places)
 
 module _ (a : Automaton) where
   pub ranges-are : rangesHold (a .states) (a .symbols) (a .capacity) (a .initial) ≡ ranged a

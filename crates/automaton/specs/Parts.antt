@@ -39,4 +39,4 @@ tablesHold n m classes accepting next =
     (belowFrom accepting 0 n 2 &&
     (belowFrom accepting n (32 - n) 1 &&
     (rowsBelow next 0 n (limitsOf n m) &&
-    rowsBelow next n (32 - n) (replicate 16 1))))))
+    belowFrom next (n * 16) (512 - n * 16) 1)))))

@@ -133,8 +133,8 @@ fn tables_hold<'a>(
     if !rows_below(next, 0, states, &limits) {
         return false;
     }
-    let zeros = [1u8; 16];
-    rows_below(next, states, 32 - states, &zeros)
+    let unused = states * 16;
+    below_from(next, unused, 512 - unused, 1)
 }
 
 pub fn valid(a: Automaton) -> bool

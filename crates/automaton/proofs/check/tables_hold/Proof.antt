@@ -61,15 +61,18 @@ returns-6 : tie.Need-returns-6
 unfolding tablesHold
 returns-6 c = rw ((sym (c .before .before .before .before .before .before .before .before .before .before .before .before .before .before .before .before .below-from .ensures) ∙ not-false _ (c .before .before .before .before .before .before .before .before .before .before .before .before .before .before .before .if1 .left)), (sym (c .before .before .before .before .before .before .before .before .before .before .before .before .before .below-from2 .ensures) ∙ not-false _ (c .before .before .before .before .before .before .before .before .before .before .before .before .if2 .left)), (ap (λ k. leb k 8) (sym (c .before .before .before .before .before .before .before .before .before .before .before .controllable-in .ensures)) ∙ le-leb (c .before .before .before .before .before .before .before .before .before .before .before .controllable-in .result) 8 (omega arith)), (rw (c .before .before .before .before .before .before .before .before .before .before .before .before .before .before .before .before .before .before .size .ensures .0) at (sym (c .before .before .before .before .before .before .before .before .below-from3 .ensures) ∙ not-false _ (c .before .before .before .before .before .before .before .if4 .left))), (rw (c .before .before .before .before .before .before .before .before .before .before .before .before .before .before .before .before .before .before .size .ensures .0) at (sym (c .before .before .before .before .before .below-from4 .ensures) ∙ not-false _ (c .before .before .before .before .if5 .left))), (rw (c .before .before .before .before .before .before .before .before .before .before .before .before .before .before .before .before .before .before .size .ensures .0, c .before .before .before .limits-of .ensures) at (sym (c .before .rows-below .ensures) ∙ not-true _ (c .if6 .taken))))
 
-sub-rows-below : tie.Need-sub-rows-below
-sub-rows-below c = search needs
+mul-unused : tie.Need-mul-unused
+mul-unused c = search needs
 
-rows-below-requires-2 : tie.Need-rows-below-requires-2
-rows-below-requires-2 c κs = search needs
+sub-below-from-3 : tie.Need-sub-below-from-3
+sub-below-from-3 c = search needs
+
+below-from-requires-5 : tie.Need-below-from-requires-5
+below-from-requires-5 c κs = search needs
 
 returns-7 : tie.Need-returns-7
 unfolding tablesHold
-returns-7 c = rw ((sym (c .before .before .before .before .before .before .before .before .before .before .before .before .before .before .before .before .before .before .below-from .ensures) ∙ not-false _ (c .before .before .before .before .before .before .before .before .before .before .before .before .before .before .before .before .before .if1 .left)), (sym (c .before .before .before .before .before .before .before .before .before .before .before .before .before .before .before .below-from2 .ensures) ∙ not-false _ (c .before .before .before .before .before .before .before .before .before .before .before .before .before .before .if2 .left)), (ap (λ k. leb k 8) (sym (c .before .before .before .before .before .before .before .before .before .before .before .before .before .controllable-in .ensures)) ∙ le-leb (c .before .before .before .before .before .before .before .before .before .before .before .before .before .controllable-in .result) 8 (omega arith)), (rw (c .before .before .before .before .before .before .before .before .before .before .before .before .before .before .before .before .before .before .before .before .size .ensures .0) at (sym (c .before .before .before .before .before .before .before .before .before .before .below-from3 .ensures) ∙ not-false _ (c .before .before .before .before .before .before .before .before .before .if4 .left))), (rw (c .before .before .before .before .before .before .before .before .before .before .before .before .before .before .before .before .before .before .before .before .size .ensures .0) at (sym (c .before .before .before .before .before .before .before .below-from4 .ensures) ∙ not-false _ (c .before .before .before .before .before .before .if5 .left))), (rw (c .before .before .before .before .before .before .before .before .before .before .before .before .before .before .before .before .before .before .before .before .size .ensures .0, c .before .before .before .before .before .limits-of .ensures) at (sym (c .before .before .before .rows-below .ensures) ∙ not-false _ (c .before .before .if6 .left)))) (rw (c .before .before .before .before .before .before .before .before .before .before .before .before .before .before .before .before .before .before .before .before .size .ensures .0) at (c .rows-below2 .ensures))
+returns-7 c = rw ((sym (c .before .before .before .before .before .before .before .before .before .before .before .before .before .before .before .before .before .before .below-from .ensures) ∙ not-false _ (c .before .before .before .before .before .before .before .before .before .before .before .before .before .before .before .before .before .if1 .left)), (sym (c .before .before .before .before .before .before .before .before .before .before .before .before .before .before .before .below-from2 .ensures) ∙ not-false _ (c .before .before .before .before .before .before .before .before .before .before .before .before .before .before .if2 .left)), (ap (λ k. leb k 8) (sym (c .before .before .before .before .before .before .before .before .before .before .before .before .before .controllable-in .ensures)) ∙ le-leb (c .before .before .before .before .before .before .before .before .before .before .before .before .before .controllable-in .result) 8 (omega arith)), (rw (c .before .before .before .before .before .before .before .before .before .before .before .before .before .before .before .before .before .before .before .before .size .ensures .0) at (sym (c .before .before .before .before .before .before .before .before .before .before .below-from3 .ensures) ∙ not-false _ (c .before .before .before .before .before .before .before .before .before .if4 .left))), (rw (c .before .before .before .before .before .before .before .before .before .before .before .before .before .before .before .before .before .before .before .before .size .ensures .0) at (sym (c .before .before .before .before .before .before .before .below-from4 .ensures) ∙ not-false _ (c .before .before .before .before .before .before .if5 .left))), (rw (c .before .before .before .before .before .before .before .before .before .before .before .before .before .before .before .before .before .before .before .before .size .ensures .0, c .before .before .before .before .before .limits-of .ensures) at (sym (c .before .before .before .rows-below .ensures) ∙ not-false _ (c .before .before .if6 .left)))) (rw (c .before .before .before .before .before .before .before .before .before .before .before .before .before .before .before .before .before .before .before .before .size .ensures .0) at (c .below-from5 .ensures))
 
 pub tables-hold-spec : {M : Type 1} → statement M
 tables-hold-spec =
@@ -91,6 +94,7 @@ tables-hold-spec =
     limits-of-requires
     rows-below-requires
     returns-6
-    sub-rows-below
-    rows-below-requires-2
+    mul-unused
+    sub-below-from-3
+    below-from-requires-5
     returns-7)
