@@ -1,0 +1,559 @@
+/*
+ * Compares the archive with the C version of the same rules, and measures both.
+ *
+ *   driver compare COUNT   COUNT rounds of every call on sheets, records, tables, states and days, valid and damaged; stops at the
+ *                          first difference
+ *   driver time            the solver, one event and a day, both in turn, best of several
+ */
+#include <stdio.h>
+#include <stdlib.h>
+#include <string.h>
+#include <time.h>
+
+#include "jaxhophasi.h"
+#include "reference.h"
+
+enum { GUARD = 16, DAY = 1000000 };
+
+/* Random numbers: the same on every machine. */
+static uint64_t seed;
+
+static uint32_t any(void)
+{
+    seed = seed * 6364136223846793005u + 1442695040888963407u;
+    uint64_t x = seed ^ seed >> 33;
+    return (uint32_t)(x * 0xff51afd7ed558ccdu >> 32);
+}
+
+static uint32_t below(uint32_t limit)
+{
+    return (uint32_t)((uint64_t)any() * limit >> 32);
+}
+
+static uint64_t number_at(const uint8_t *bytes)
+{
+    uint64_t value = 0;
+    for (int i = 8; i-- > 0;)
+        value = value << 8 | bytes[i];
+    return value;
+}
+
+static void *room(size_t size)
+{
+    void *p = malloc(size ? size : 1);
+    if (!p) {
+        puts("no memory");
+        exit(1);
+    }
+    return p;
+}
+
+/* ---- making inputs ---- */
+
+/* A valid record. With a core, the first states are acceptable and the uncontrollable kinds stay among them, so that S is not empty. */
+static void make_record(uint8_t *r, unsigned n, unsigned m, unsigned b, unsigned k, int core)
+{
+    unsigned inside = core ? 1 + below(n) : 0;
+    memset(r, 0, JAXHOPHASI_AUTOMATON_SIZE);
+    r[0] = (uint8_t)n;
+    r[1] = (uint8_t)m;
+    r[2] = (uint8_t)b;
+    r[3] = (uint8_t)below(n);
+    for (unsigned left = k; left;) {
+        unsigned e = below(m);
+        left -= !r[4 + e];
+        r[4 + e] = 1;
+    }
+    for (unsigned q = 0; q < n; q++)
+        r[20 + q] = q < inside || below(2);
+    for (unsigned q = 0; q < n; q++)
+        for (unsigned e = 0; e < m; e++)
+            r[52 + q * 16 + e] = (uint8_t)(q < inside && !r[4 + e] && below(64) ? below(inside) : below(n));
+}
+
+static unsigned least(unsigned a, unsigned b)
+{
+    return a < b ? a : b;
+}
+
+/* A record of any size up to the limits, with at most so many held lists. */
+static void make_any_record(uint8_t *r, uint32_t most)
+{
+    for (;;) {
+        unsigned m = 1 + below(16);
+        make_record(r, 1 + below(below(3) ? 8 : 32), m, 1 + below(6), below(least(m, 8) + 1), (int)below(3));
+        uint8_t count[8];
+        if (ref_buffers_count(r, count) == 0 && number_at(count) <= most)
+            return;
+    }
+}
+
+/* One byte of a record is changed, sometimes to a value that still stands. */
+static void damage_record(uint8_t *r)
+{
+    static const uint16_t start[] = { 0, 1, 2, 3, 4, 20, 52 }, size[] = { 1, 1, 1, 1, 16, 32, 512 };
+    unsigned part = below(7);
+    r[start[part] + below(size[part])] = (uint8_t)(below(2) ? below(4) : below(4) ? below(40) : any());
+}
+
+/* A record as bytes, some numbers padded; then perhaps damaged. */
+static size_t make_bytes(const uint8_t *r, uint8_t *bytes, int padded, int damaged)
+{
+    size_t used = 0;
+    uint8_t plain[JAXHOPHASI_SHEET_MOST], length[8];
+    if (ref_write(r, plain, sizeof plain, length))
+        return 0;
+    for (size_t i = 0; i < number_at(length); i++) {
+        unsigned more = padded ? below(8) : 0;
+        bytes[used++] = more == 1 || more == 2 ? plain[i] | 128 : plain[i];
+        if (more == 2)
+            bytes[used++] = 128;
+        if (more == 1 || more == 2)
+            bytes[used++] = 0;
+    }
+    for (; damaged; damaged--)
+        switch (below(5)) {
+        case 0:
+            used = below((uint32_t)used + 1);
+            break;
+        case 1:
+            bytes[used++] = (uint8_t)any();
+            break;
+        case 2:
+            if (used)
+                bytes[below(least((unsigned)used, 6))] = (uint8_t)any();
+            break;
+        default:
+            if (used)
+                bytes[below((uint32_t)used)] = (uint8_t)(below(2) ? below(4) : any());
+        }
+    return used;
+}
+
+/* A carried state of the sheet, or a damaged one. */
+static void make_configuration(const uint8_t *r, uint8_t *c, int damaged)
+{
+    uint8_t kinds[16];
+    unsigned k = 0;
+    for (unsigned e = 0; e < 16; e++)
+        if (r[4 + e] == 1)
+            kinds[k++] = (uint8_t)e;
+    memset(c, 0, 8);
+    c[0] = (uint8_t)below(r[0] ? r[0] : 1);
+    c[1] = (uint8_t)(k ? below(r[2] + 1u) : 0);
+    for (unsigned i = 0; i < c[1] && i < 6; i++)
+        c[2 + i] = kinds[below(k)];
+    if (damaged)
+        c[below(8)] = (uint8_t)(below(2) ? below(20) : any());
+}
+
+static uint32_t make_event(const uint8_t *r)
+{
+    static const uint32_t far[] = { 256, 257, 65536, 65537, 0x80000000u, 0xffffffffu };
+    return below(16) ? below(r[1] + 1u) : below(4) ? below(20) : far[below(6)];
+}
+
+/* ---- comparing ---- */
+
+static unsigned long round_now, calls;
+static const char *call_now;
+
+static void same(const char *what, const void *ours, const void *theirs, size_t size)
+{
+    calls++;
+    if (memcmp(ours, theirs, size) == 0)
+        return;
+    size_t i = 0;
+    while (((const uint8_t *)ours)[i] == ((const uint8_t *)theirs)[i])
+        i++;
+    printf("DIFFERENT: round %lu, %s: %s differs at byte %zu: %u, C says %u\n", round_now, call_now, what, i,
+        ((const uint8_t *)ours)[i], ((const uint8_t *)theirs)[i]);
+    exit(1);
+}
+
+/* Two copies of lent memory with the same contents, longer than what is lent, so that a byte written past it shows. */
+typedef struct {
+    uint8_t *ours, *theirs;
+    size_t size;
+} twin;
+
+static twin twins(size_t lent, int zero)
+{
+    twin t = { room(lent + GUARD), room(lent + GUARD), lent + GUARD };
+    for (size_t i = 0; i < t.size; i++)
+        t.ours[i] = zero ? 0 : (uint8_t)any();
+    memcpy(t.theirs, t.ours, t.size);
+    return t;
+}
+
+static void same_twins(const char *what, twin t)
+{
+    same(what, t.ours, t.theirs, t.size);
+}
+
+static void drop_twins(twin t)
+{
+    free(t.ours);
+    free(t.theirs);
+}
+
+static void set_twins(twin t, const void *from, size_t size)
+{
+    memcpy(t.ours, from, size);
+    memcpy(t.theirs, from, size);
+}
+
+static void same_row(uint8_t ours, uint8_t theirs)
+{
+    same("the refusal", &ours, &theirs, 1);
+}
+
+static void compare_read(const uint8_t *bytes, size_t length)
+{
+    twin sheet = twins(length, 0), record = twins(JAXHOPHASI_AUTOMATON_SIZE, 0), place = twins(JAXHOPHASI_NUMBER_SIZE, 0);
+    call_now = "read";
+    set_twins(sheet, bytes, length);
+    same_row(jaxhophasi_read(sheet.ours, length, record.ours, place.ours), ref_read(sheet.theirs, length, record.theirs, place.theirs));
+    same_twins("the sheet", sheet);
+    same_twins("the record", record);
+    same_twins("the place", place);
+    drop_twins(sheet);
+    drop_twins(record);
+    drop_twins(place);
+}
+
+static void compare_write(twin record, size_t lent)
+{
+    twin out = twins(lent, 0), length = twins(JAXHOPHASI_NUMBER_SIZE, 0);
+    call_now = "write";
+    same_row(jaxhophasi_write(record.ours, out.ours, lent, length.ours), ref_write(record.theirs, out.theirs, lent, length.theirs));
+    same_twins("the record", record);
+    same_twins("the output", out);
+    same_twins("the length", length);
+    drop_twins(out);
+    drop_twins(length);
+}
+
+static void compare_count_and_initial(twin record)
+{
+    twin count = twins(JAXHOPHASI_NUMBER_SIZE, 0), fresh = twins(JAXHOPHASI_CONFIGURATION_SIZE, 0);
+    call_now = "buffers_count";
+    same_row(jaxhophasi_buffers_count(record.ours, count.ours), ref_buffers_count(record.theirs, count.theirs));
+    same_twins("the count", count);
+    call_now = "initial";
+    same_row(jaxhophasi_initial(record.ours, fresh.ours), ref_initial(record.theirs, fresh.theirs));
+    same_twins("the state", fresh);
+    same_twins("the record", record);
+    drop_twins(count);
+    drop_twins(fresh);
+}
+
+static void compare_solve(twin record, twin table, size_t places)
+{
+    twin rounds = twins(JAXHOPHASI_NUMBER_SIZE, 0);
+    call_now = "solve";
+    ref_remember = (int)below(2);
+    same_row(jaxhophasi_solve(record.ours, (uint32_t *)table.ours, places, rounds.ours),
+        ref_solve(record.theirs, (uint32_t *)table.theirs, places, rounds.theirs));
+    same_twins("the record", record);
+    same_twins("the table", table);
+    same_twins("the rounds", rounds);
+    drop_twins(rounds);
+}
+
+static void compare_winning(twin record, twin table, size_t places, twin state)
+{
+    twin answer = twins(JAXHOPHASI_STATUS_SIZE, 0);
+    call_now = "winning";
+    same_row(jaxhophasi_winning(record.ours, (uint32_t *)table.ours, places, state.ours, answer.ours),
+        ref_winning(record.theirs, (uint32_t *)table.theirs, places, state.theirs, answer.theirs));
+    same_twins("the state", state);
+    same_twins("the answer", answer);
+    drop_twins(answer);
+}
+
+static void compare_receive(twin record, twin table, size_t places, twin state, uint32_t event)
+{
+    twin answer = twins(JAXHOPHASI_RECEIVED_SIZE, 0);
+    call_now = "receive";
+    same_row(jaxhophasi_receive(record.ours, (uint32_t *)table.ours, places, state.ours, event, answer.ours),
+        ref_receive(record.theirs, (uint32_t *)table.theirs, places, state.theirs, event, answer.theirs));
+    same_twins("the state", state);
+    same_twins("the answer", answer);
+    drop_twins(answer);
+}
+
+static void compare_run(twin record, twin table, size_t places, twin state, size_t count)
+{
+    size_t held = state.ours[JAXHOPHASI_CONFIGURATION_HELD];
+    size_t lent = below(2) ? count + held : below(2) ? count + held + below(9) : below((uint32_t)(count + held) + 1);
+    twin events = twins(4 * count, 0), out = twins(lent, 0), answer = twins(JAXHOPHASI_RAN_SIZE, 0);
+    uint32_t *list = (uint32_t *)events.ours;
+    call_now = "run";
+    for (size_t i = 0; i < count; i++)
+        list[i] = make_event(record.ours);
+    memcpy(events.theirs, events.ours, events.size);
+    same_row(jaxhophasi_run(record.ours, (uint32_t *)table.ours, places, state.ours, list, count, out.ours, lent, answer.ours),
+        ref_run(record.theirs, (uint32_t *)table.theirs, places, state.theirs, (uint32_t *)events.theirs, count, out.theirs, lent,
+            answer.theirs));
+    same_twins("the events", events);
+    same_twins("the state", state);
+    same_twins("the output", out);
+    same_twins("the answer", answer);
+    drop_twins(events);
+    drop_twins(out);
+    drop_twins(answer);
+}
+
+/* Calls in a row from one state, events and days mixed. */
+static void compare_calls(twin record, twin table, size_t places, twin state)
+{
+    for (unsigned i = below(40); i > 0; i--) {
+        compare_winning(record, table, places, state);
+        if (below(8))
+            compare_receive(record, table, places, state, make_event(record.ours));
+        else
+            compare_run(record, table, places, state, below(8) ? below(30) : below(2000));
+        if (below(32) == 0) {
+            make_configuration(record.ours, state.ours, (int)below(2));
+            memcpy(state.theirs, state.ours, JAXHOPHASI_CONFIGURATION_SIZE);
+        }
+    }
+    call_now = "the calls";
+    same_twins("the record", record);
+    same_twins("the table", table);
+}
+
+static void compare_round(uint32_t most)
+{
+    uint8_t r[JAXHOPHASI_AUTOMATON_SIZE], bytes[3 * JAXHOPHASI_SHEET_MOST + 8], count[8];
+    make_any_record(r, most);
+    compare_read(bytes, make_bytes(r, bytes, (int)below(2), 0));
+    compare_read(bytes, make_bytes(r, bytes, below(4) == 0, 1 + (int)below(3)));
+    ref_flat_check = (int)below(2);
+    twin record = twins(JAXHOPHASI_AUTOMATON_SIZE, 0), state = twins(JAXHOPHASI_CONFIGURATION_SIZE, 0);
+    if (below(8) == 0)
+        damage_record(r);
+    set_twins(record, r, JAXHOPHASI_AUTOMATON_SIZE);
+    size_t sheet = 4u + r[0] + r[1] + r[0] * r[1];
+    compare_write(record, below(2) ? sheet : below(2) ? sheet + below(9) : below((uint32_t)sheet + 1));
+    compare_count_and_initial(record);
+    size_t lists = ref_buffers_count(r, count) ? below(20) : 2 * number_at(count);
+    size_t places = below(4) ? lists : below(2) ? lists + below(9) : below((uint32_t)lists + 1);
+    twin table = twins(4 * places, (int)below(2));
+    if (below(4))
+        compare_solve(record, table, places);
+    make_configuration(r, state.ours, below(4) == 0);
+    memcpy(state.theirs, state.ours, JAXHOPHASI_CONFIGURATION_SIZE);
+    if (below(2) && ref_initial(r, state.theirs) == 0)
+        memcpy(state.ours, state.theirs, JAXHOPHASI_CONFIGURATION_SIZE);
+    memcpy(state.theirs, state.ours, JAXHOPHASI_CONFIGURATION_SIZE);
+    compare_calls(record, table, places, state);
+    drop_twins(record);
+    drop_twins(state);
+    drop_twins(table);
+}
+
+static int compare(unsigned long count)
+{
+    for (round_now = 0; round_now < count; round_now++) {
+        seed = round_now * 2 + 1;
+        compare_round(round_now % 997 == 996 ? 299593 : round_now % 97 == 96 ? 20000 : 400);
+    }
+    printf("the same: %lu rounds, %lu comparisons\n", count, calls);
+    return 0;
+}
+
+/* ---- measuring ---- */
+
+static double now(void)
+{
+    struct timespec t;
+    clock_gettime(CLOCK_PROCESS_CPUTIME_ID, &t);
+    return t.tv_sec * 1e9 + t.tv_nsec;
+}
+
+static uint8_t record[JAXHOPHASI_AUTOMATON_SIZE];
+static uint32_t *table, *table_by_c, *events;
+static size_t places;
+static uint8_t *output, *output_by_c;
+
+typedef void (*work)(void);
+
+/* The best times of several pieces of work that do the same, run in turn. */
+static void best_of(int times, int many, const work *pieces, double *best)
+{
+    for (int i = 0; i < many; i++)
+        best[i] = 1e18;
+    for (int t = 0; t < times; t++)
+        for (int i = 0; i < many; i++) {
+            double from = now();
+            pieces[i]();
+            double took = now() - from;
+            if (took < best[i])
+                best[i] = took;
+        }
+}
+
+static uint8_t rounds[8], rounds_by_c[8];
+
+static void solve_ours(void)
+{
+    jaxhophasi_solve(record, table, places, rounds);
+}
+
+static void solve_by_c(void)
+{
+    ref_remember = 0;
+    ref_solve(record, table_by_c, places, rounds_by_c);
+}
+
+static void solve_by_c_remembering(void)
+{
+    ref_remember = 1;
+    ref_solve(record, table_by_c, places, rounds_by_c);
+}
+
+static uint8_t state[8], state_by_c[8], answer[16], answer_by_c[16];
+static uint64_t emitted, emitted_by_c;
+
+static void events_ours(void)
+{
+    uint64_t sum = 0;
+    jaxhophasi_initial(record, state);
+    for (size_t i = 0; i < DAY; i++) {
+        sum += jaxhophasi_receive(record, table, places, state, events[i], answer);
+        sum += (uint64_t)answer[JAXHOPHASI_RECEIVED_COUNT] << 32;
+    }
+    emitted = sum;
+}
+
+static void events_by_c(void)
+{
+    uint64_t sum = 0;
+    ref_initial(record, state_by_c);
+    for (size_t i = 0; i < DAY; i++) {
+        sum += ref_receive(record, table, places, state_by_c, events[i], answer_by_c);
+        sum += (uint64_t)answer_by_c[JAXHOPHASI_RECEIVED_COUNT] << 32;
+    }
+    emitted_by_c = sum;
+}
+
+static void events_by_c_early(void)
+{
+    ref_flat_check = 0;
+    events_by_c();
+}
+
+static void events_by_c_flat(void)
+{
+    ref_flat_check = 1;
+    events_by_c();
+}
+
+static void day_ours(void)
+{
+    jaxhophasi_initial(record, state);
+    jaxhophasi_run(record, table, places, state, events, DAY, output, DAY, answer);
+}
+
+static void day_by_c(void)
+{
+    ref_initial(record, state_by_c);
+    ref_run(record, table, places, state_by_c, events, DAY, output_by_c, DAY, answer_by_c);
+}
+
+static void equal(const char *what, const void *a, const void *b, size_t size)
+{
+    if (memcmp(a, b, size)) {
+        printf("DIFFERENT: %s\n", what);
+        exit(1);
+    }
+}
+
+static void measure(const char *name)
+{
+    static const work solving[] = { solve_ours, solve_by_c, solve_by_c_remembering };
+    static const work one_by_one[] = { events_ours, events_by_c_early, events_by_c_flat };
+    static const work days[] = { day_ours, day_by_c };
+    double s[3], e[3], d[2];
+    uint8_t count[8];
+    ref_flat_check = 0;
+    if (ref_buffers_count(record, count)) {
+        puts("a bad record");
+        exit(1);
+    }
+    places = 2 * number_at(count);
+    best_of(places > 1000 ? 5 : 200, 3, solving, s);
+    equal("table", table, table_by_c, 4 * places);
+    equal("rounds", rounds, rounds_by_c, 8);
+    best_of(7, 3, one_by_one, e);
+    equal("state", state, state_by_c, 8);
+    equal("what the events put out", &emitted, &emitted_by_c, 8);
+    best_of(9, 2, days, d);
+    equal("state", state, state_by_c, 8);
+    equal("answer", answer, answer_by_c, 16);
+    equal("output", output, output_by_c, DAY);
+    printf("%-12s | %9.4f  %4.2f  %4.2f | %5.1f  %4.2f  %4.2f | %5.2f  %4.2f | %7lu %7lu\n", name, s[0] / 1e6, s[0] / s[1], s[0] / s[2],
+        e[0] / DAY, e[0] / e[1], e[0] / e[2], d[0] / DAY, d[0] / d[1], (unsigned long)number_at(answer),
+        (unsigned long)number_at(answer + 8));
+    fflush(stdout);
+}
+
+/* Any event, one in m + 1 of them refused by row 14. */
+static void any_events(void)
+{
+    for (size_t i = 0; i < DAY; i++)
+        events[i] = below(record[1] + 1u);
+}
+
+/* W's events with a Receipt behind each Page, so that requests flow: Sign, Withdraw, or Page and Receipt. */
+static void paired_events(void)
+{
+    for (size_t i = 0; i < DAY; i++) {
+        events[i] = below(3);
+        if (events[i] == 2 && i + 1 < DAY)
+            events[++i] = 3;
+    }
+}
+
+static int time_all(void)
+{
+    static const uint8_t w[] = { 4, 4, 2, 0, 0, 0, 1, 1, 1, 1, 0, 0, 1, 0, 3, 0, 1, 0, 2, 1, 2, 3, 3, 1, 3, 3, 3, 3 };
+    static const unsigned seeds[] = { 4, 8, 18, 39, 54 };
+    uint8_t place[8];
+    char name[16];
+    table = room(4 * JAXHOPHASI_TABLE_MOST);
+    table_by_c = room(4 * JAXHOPHASI_TABLE_MOST);
+    events = room(4 * DAY);
+    output = room(DAY);
+    output_by_c = room(DAY);
+    memset(output, 0, DAY);
+    memset(output_by_c, 0, DAY);
+    puts("             |       solving         |     one event      |  a day's event | of the day's events\n"
+         "             |        ms  /C   /C-r  |    ns   /C   /C-v  |   ns   /C      | put out refused");
+    seed = 1;
+    jaxhophasi_read(w, sizeof w, record, place);
+    any_events();
+    measure("W");
+    paired_events();
+    measure("W, paired");
+    for (unsigned i = 0; i < sizeof seeds / sizeof *seeds; i++) {
+        seed = 1000 + seeds[i];
+        make_record(record, 32, 16, 6, 8, 1);
+        any_events();
+        snprintf(name, sizeof name, "largest %u", seeds[i]);
+        measure(name);
+    }
+    return 0;
+}
+
+int main(int count, char **words)
+{
+    if (count == 3 && !strcmp(words[1], "compare"))
+        return compare(strtoul(words[2], 0, 10));
+    if (count == 2 && !strcmp(words[1], "time"))
+        return time_all();
+    fputs("usage: driver compare COUNT | driver time\n", stderr);
+    return 2;
+}

@@ -1,0 +1,37 @@
+use Rattle.layout.specs.Answers.{receivedBytes}
+use Rattle.layout.specs.Layout.{configurationBytes}
+use Rattle.monitor.specs.Answers.{received}
+use Rattle.embedding.proofs.Over.{over}
+use mathlib.Core.Path.{_∙_, ap}
+use borrow.Author.Needs.{needs}
+use Rattle.embedding.proofs.jaxhophasi_receive.Statement.{statement}
+use Rattle.embedding.proofs.jaxhophasi_receive.Tie as tie
+
+automaton-of-requires : tie.Need-automaton-of-requires
+automaton-of-requires c κs = search needs
+
+configuration-of-requires : tie.Need-configuration-of-requires
+configuration-of-requires c κs = search needs
+
+receive-requires : tie.Need-receive-requires
+receive-requires c κs = search needs
+
+configuration-bytes-requires : tie.Need-configuration-bytes-requires
+configuration-bytes-requires c κs = search needs
+
+received-bytes-requires : tie.Need-received-bytes-requires
+received-bytes-requires c κs = search needs
+
+returns : tie.Need-returns
+returns c = let g = c .before .before .before .before .before .before .before .before .args in let x = over (λ a k. received a (g .table .now) k (g .event)) (c .before .before .before .receive .ensures) (c .before .before .before .before .before .before .automaton-of .ensures) (c .before .before .before .before .configuration-of .ensures) in (ap (λ r. r .refusal) x, c .before .configuration-bytes .ensures ∙ ap (λ r. configurationBytes (r .configuration)) x, c .received-bytes .ensures ∙ ap receivedBytes x)
+
+pub jaxhophasi-receive-spec : {M : Type 1} → statement M
+jaxhophasi-receive-spec =
+    tie.close
+    (tie.spec
+    automaton-of-requires
+    configuration-of-requires
+    receive-requires
+    configuration-bytes-requires
+    received-bytes-requires
+    returns)

@@ -1,0 +1,153 @@
+// The interface for C and for whatever calls C: each call of the monitor over lent bytes. Each function is a thin layer over the
+// call that it names: it takes the record and the configuration out of their bytes, calls, and lays the answer into bytes. It
+// returns the number of refusal, 0 where there is none. `include/jaxhophasi.h` declares the functions for C.
+
+use layout::automaton_bytes;
+use layout::automaton_of;
+use layout::configuration_bytes;
+use layout::configuration_of;
+use layout::number_bytes;
+use layout::ran_bytes;
+use layout::received_bytes;
+use layout::status_bytes;
+ghost use mathlib.Core.Path.{_≡_};
+ghost use Rattle.encoding.specs.Reading.{parse};
+ghost use Rattle.encoding.specs.Writing.{writeAnswer, writeBuffer};
+ghost use Rattle.winning.specs.Solving.{solution, solvedTable, countAnswer};
+ghost use Rattle.configuration.specs.Configuration.{initialAnswer};
+ghost use Rattle.monitor.specs.Answers.{status, received, ran, ranBuffer};
+ghost use Rattle.layout.specs.Layout.{automatonOf, automatonBytes, configurationOf, configurationBytes, numberBytes};
+ghost use Rattle.layout.specs.Answers.{statusBytes, receivedBytes, ranBytes};
+
+// Reads and checks a sheet: the record, and the place of a fault.
+#[no_mangle]
+pub extern "C" fn jaxhophasi_read(
+    bytes: &[u8],
+    automaton: &mut [u8; 564],
+    place: &mut [u8; 8],
+) -> u8
+    ensures { λ r. let x = parse (now (bytes .entry)) in
+        ⌜ (r ≡ x .refusal) × (now (automaton .exit) ≡ automatonBytes (x .automaton)) × (now (place .exit) ≡ numberBytes 8 (x .place)) ⌝ }
+{
+    let parsed = encoding::read(bytes);
+    let a = parsed.automaton;
+    *automaton = automaton_bytes(a);
+    *place = number_bytes(parsed.place);
+    parsed.refusal
+}
+
+// Writes a sheet at the front of `out`: how many bytes.
+#[no_mangle]
+pub extern "C" fn jaxhophasi_write(
+    automaton: &[u8; 564],
+    out: &mut [u8],
+    length: &mut [u8; 8],
+) -> u8
+    ensures { λ r. let a = automatonOf (now (automaton .entry)) in let x = writeAnswer a (now (out .entry)) in
+        ⌜ (r ≡ x .refusal) × (now (out .exit) ≡ writeBuffer a (now (out .entry))) × (now (length .exit) ≡ numberBytes 8 (x .length)) ⌝ }
+{
+    let written = encoding::write(automaton_of(automaton), out);
+    *length = number_bytes(written.length);
+    written.refusal
+}
+
+// How many buffers (document 01's held lists) there are: T. The table takes 2 T places.
+#[no_mangle]
+pub extern "C" fn jaxhophasi_buffers_count(automaton: &[u8; 564], count: &mut [u8; 8]) -> u8
+    ensures { λ r. let x = countAnswer (automatonOf (now (automaton .entry))) in
+        ⌜ (r ≡ x .refusal) × (now (count .exit) ≡ numberBytes 8 (x .count)) ⌝ }
+{
+    let buffers = winning::buffers_count(automaton_of(automaton));
+    *count = number_bytes(buffers.count as usize);
+    buffers.refusal
+}
+
+// Solves the sheet into the front of `table`: the rounds that struck a state.
+#[no_mangle]
+pub extern "C" fn jaxhophasi_solve(
+    automaton: &[u8; 564],
+    table: &mut [u32],
+    rounds: &mut [u8; 8],
+) -> u8
+    ensures { λ r. let a = automatonOf (now (automaton .entry)) in let x = solution a (now (table .entry)) in
+        ⌜ (r ≡ x .refusal) × (now (table .exit) ≡ solvedTable a (now (table .entry))) × (now (rounds .exit) ≡ numberBytes 8 (x .rounds)) ⌝ }
+{
+    let solution = winning::solve(automaton_of(automaton), table);
+    *rounds = number_bytes(solution.rounds as usize);
+    solution.refusal
+}
+
+// The initial configuration (document 01's fresh).
+#[no_mangle]
+pub extern "C" fn jaxhophasi_initial(automaton: &[u8; 564], configuration: &mut [u8; 8]) -> u8
+    ensures { λ r. let x = initialAnswer (automatonOf (now (automaton .entry))) in
+        ⌜ (r ≡ x .refusal) × (now (configuration .exit) ≡ configurationBytes (x .configuration)) ⌝ }
+{
+    let start = configuration::initial(automaton_of(automaton));
+    let first = start.configuration;
+    *configuration = configuration_bytes(first);
+    start.refusal
+}
+
+// Whether a configuration is winning (document 01's guarded).
+#[no_mangle]
+pub extern "C" fn jaxhophasi_winning(
+    automaton: &[u8; 564],
+    table: &[u32],
+    configuration: &[u8; 8],
+    answer: &mut [u8; 1],
+) -> u8
+    ensures { λ r. let x = status (automatonOf (now (automaton .entry))) (now (table .entry)) (configurationOf (now (configuration .entry))) in
+        ⌜ (r ≡ x .refusal) × (now (answer .exit) ≡ statusBytes x) ⌝ }
+{
+    let status = monitor::winning(
+        automaton_of(automaton),
+        table,
+        configuration_of(configuration),
+    );
+    *answer = status_bytes(status);
+    status.refusal
+}
+
+// One event. The configuration becomes the next one.
+#[no_mangle]
+pub extern "C" fn jaxhophasi_receive(
+    automaton: &[u8; 564],
+    table: &[u32],
+    configuration: &mut [u8; 8],
+    event: u32,
+    answer: &mut [u8; 9],
+) -> u8
+    ensures { λ r. let x = received (automatonOf (now (automaton .entry))) (now (table .entry)) (configurationOf (now (configuration .entry))) event in
+        ⌜ (r ≡ x .refusal) × (now (configuration .exit) ≡ configurationBytes (x .configuration)) × (now (answer .exit) ≡ receivedBytes x) ⌝ }
+{
+    let a = automaton_of(automaton);
+    let received = monitor::receive(a, table, configuration_of(configuration), event);
+    let next = received.configuration;
+    *configuration = configuration_bytes(next);
+    *answer = received_bytes(received);
+    received.refusal
+}
+
+// A whole day from a configuration on, which becomes the next one.
+#[no_mangle]
+pub extern "C" fn jaxhophasi_run(
+    automaton: &[u8; 564],
+    table: &[u32],
+    configuration: &mut [u8; 8],
+    events: &[u32],
+    out: &mut [u8],
+    answer: &mut [u8; 16],
+) -> u8
+    ensures { λ r. let a = automatonOf (now (automaton .entry)) in let c = configurationOf (now (configuration .entry)) in
+        let x = ran a (now (table .entry)) c (now (events .entry)) (now (out .entry)) in
+        ⌜ (r ≡ x .refusal) × (now (configuration .exit) ≡ configurationBytes (x .configuration)) × (now (answer .exit) ≡ ranBytes x)
+        × (now (out .exit) ≡ ranBuffer a (now (table .entry)) c (now (events .entry)) (now (out .entry))) ⌝ }
+{
+    let a = automaton_of(automaton);
+    let ran = batch::run(a, table, configuration_of(configuration), events, out);
+    let last = ran.configuration;
+    *configuration = configuration_bytes(last);
+    *answer = ran_bytes(ran);
+    ran.refusal
+}

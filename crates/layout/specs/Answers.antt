@@ -1,0 +1,20 @@
+-- How answers lie in the bytes that a caller lends: what a call hands back beside its refusal and the configuration.
+use Prim.Native.Nat.{ℕ}
+use mathlib.Core.Bool.{cond}
+use mathlib.Core.List.{List, [], _∷_, _++_}
+use Rattle.monitor.specs.declared.Status.{Status}
+use Rattle.monitor.specs.declared.Received.{Received}
+use Rattle.monitor.specs.declared.Ran.{Ran}
+use Rattle.layout.specs.Layout.{numberBytes}
+
+-- whether the configuration is winning (document 01's guarded): 1 or 0
+unfoldable pub statusBytes : Status → List ℕ
+statusBytes s = cond (s .winning) 1 0 ∷ []
+
+-- one event: 7 places for what is emitted, how many of them are used, and whether the configuration is winning
+unfoldable pub receivedBytes : Received → List ℕ
+receivedBytes r = r .emitted ++ (r .count ∷ cond (r .winning) 1 0 ∷ [])
+
+-- a whole day: how many bytes were written, and how many events were refused
+unfoldable pub ranBytes : Ran → List ℕ
+ranBytes r = numberBytes 8 (r .length) ++ numberBytes 8 (r .refused)

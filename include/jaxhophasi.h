@@ -1,0 +1,124 @@
+/*
+ * The release gate for C and for whatever calls C.
+ *
+ * Link target/staticlib/libembedding.a, which `rt staticlib embedding` writes (Linux on x86-64).
+ *
+ * Every function returns the number of refusal, 0 where nothing is refused. A refused call writes nothing but its answer, in which
+ * every count, length and yes-or-no is 0; the lent carried state, table and output keep their contents. A refused read leaves an
+ * all-zero record and the place of the fault, a refused jaxhophasi_initial an all-zero state.
+ *
+ * What is lent: a fixed array is a plain pointer to as many bytes as its constant says; a list is a pointer and then the number of
+ * its elements. A list may be of any length and all of it may hold anything. No pointer is null, also where a list is empty; lists
+ * of uint32_t are aligned as C wants them. What a call may write (a pointer without const) overlaps nothing else that is lent to
+ * the same call. Nothing is kept after the call, nothing is allocated, and calls on different memory may run at the same time.
+ */
+#ifndef JAXHOPHASI_H
+#define JAXHOPHASI_H
+
+#include <stddef.h>
+#include <stdint.h>
+
+#ifdef __cplusplus
+extern "C" {
+#endif
+
+/* The record of a sheet. The next state of state q under kind e stands at
+ * JAXHOPHASI_AUTOMATON_NEXT + q * JAXHOPHASI_SYMBOLS_MOST + e. Unused places are 0. */
+#define JAXHOPHASI_AUTOMATON_SIZE 564
+#define JAXHOPHASI_AUTOMATON_STATES 0     /* n, 1 to 32 */
+#define JAXHOPHASI_AUTOMATON_SYMBOLS 1    /* kinds of event m, 1 to 16 */
+#define JAXHOPHASI_AUTOMATON_CAPACITY 2   /* the hold B, 1 to 6 */
+#define JAXHOPHASI_AUTOMATON_INITIAL 3    /* the start, below n */
+#define JAXHOPHASI_AUTOMATON_CLASSES 4    /* 16: 0 uncontrollable, 1 controllable */
+#define JAXHOPHASI_AUTOMATON_ACCEPTING 20 /* 32: 1 acceptable, 0 not */
+#define JAXHOPHASI_AUTOMATON_NEXT 52      /* 32 * 16 */
+#define JAXHOPHASI_STATES_MOST 32
+#define JAXHOPHASI_SYMBOLS_MOST 16
+
+/* The carried state. Unused places of the hold are 0. */
+#define JAXHOPHASI_CONFIGURATION_SIZE 8
+#define JAXHOPHASI_CONFIGURATION_STATE 0
+#define JAXHOPHASI_CONFIGURATION_HELD 1   /* how many are held */
+#define JAXHOPHASI_CONFIGURATION_BUFFER 2 /* 6: the held kinds, first in first */
+
+/* A number in an answer: eight bytes, low byte first. */
+#define JAXHOPHASI_NUMBER_SIZE 8
+
+/* What jaxhophasi_winning answers: 1 guarded, 0 not. */
+#define JAXHOPHASI_STATUS_SIZE 1
+
+/* What jaxhophasi_receive answers. */
+#define JAXHOPHASI_RECEIVED_SIZE 9
+#define JAXHOPHASI_RECEIVED_EMITTED 0 /* 7: the kinds put out; 0 past their count */
+#define JAXHOPHASI_RECEIVED_COUNT 7   /* how many are put out */
+#define JAXHOPHASI_RECEIVED_WINNING 8 /* 1 guarded, 0 not */
+
+/* What jaxhophasi_run answers: two numbers. */
+#define JAXHOPHASI_RAN_SIZE 16
+#define JAXHOPHASI_RAN_LENGTH 0  /* bytes of output written */
+#define JAXHOPHASI_RAN_REFUSED 8 /* events refused by 14 or 15 */
+
+/* Places of the table for T held lists, and of the largest sheet's. */
+#define JAXHOPHASI_TABLE_LENGTH(T) (2 * (T))
+#define JAXHOPHASI_TABLE_MOST 599186
+
+/* The longest sheet that jaxhophasi_write writes: 4 + 16 + 32 + 32 * 16. */
+#define JAXHOPHASI_SHEET_MOST 564
+
+/* Numbers of refusal. Each call checks its own in this order, and the first that holds is given. */
+enum {
+    JAXHOPHASI_FINE = 0,
+    JAXHOPHASI_ENDS_EARLY = 1,           /* read: the bytes end before the sheet does */
+    JAXHOPHASI_LONG_NUMBER = 2,          /* read: the third byte of a number has its top bit set */
+    JAXHOPHASI_BAD_STATES = 3,           /* read: n not 1 to 32 */
+    JAXHOPHASI_BAD_SYMBOLS = 4,          /* read: m not 1 to 16 */
+    JAXHOPHASI_BAD_CAPACITY = 5,         /* read: B not 1 to 6 */
+    JAXHOPHASI_BAD_INITIAL = 6,          /* read: start not below n */
+    JAXHOPHASI_BAD_FLAG = 7,             /* read: a class or flag above 1 */
+    JAXHOPHASI_MANY_CONTROLLABLE = 8,    /* read: a ninth controllable kind */
+    JAXHOPHASI_BAD_NEXT = 9,             /* read: next state not below n */
+    JAXHOPHASI_BYTES_LEFT = 10,          /* read: bytes after the sheet */
+    JAXHOPHASI_BAD_AUTOMATON = 11,       /* a record that breaks 3 to 9, or a nonzero unused place */
+    JAXHOPHASI_SHORT_TABLE = 12,         /* solve, winning, receive, run: table shorter than 2 T */
+    JAXHOPHASI_BAD_CONFIGURATION = 13,   /* winning, receive, run: no state of this sheet, or a nonzero unused place */
+    JAXHOPHASI_BAD_EVENT = 14,           /* receive: event not below m (a day passes over it and counts it) */
+    JAXHOPHASI_BUFFER_FULL = 15,         /* receive: controllable event, hold full (a day passes over it and counts it) */
+    JAXHOPHASI_SHORT_OUTPUT = 16         /* write: buffer too short; run: output shorter than events plus held */
+};
+
+/* Reads and checks a sheet. Rows 1 to 10, left to right; place is where the faulty number begins, 0 where there is none. */
+uint8_t jaxhophasi_read(const uint8_t *bytes, size_t bytes_length, uint8_t automaton[JAXHOPHASI_AUTOMATON_SIZE],
+    uint8_t place[JAXHOPHASI_NUMBER_SIZE]);
+
+/* Writes a sheet at the front of out, in the fewest bytes; length is how many. Rows 11, 16. */
+uint8_t jaxhophasi_write(const uint8_t automaton[JAXHOPHASI_AUTOMATON_SIZE], uint8_t *out, size_t out_length,
+    uint8_t length[JAXHOPHASI_NUMBER_SIZE]);
+
+/* How many held lists there are: T. Row 11. */
+uint8_t jaxhophasi_buffers_count(const uint8_t automaton[JAXHOPHASI_AUTOMATON_SIZE], uint8_t count[JAXHOPHASI_NUMBER_SIZE]);
+
+/* Solves a sheet into the first 2 T places of table; rounds is how many struck a state. Rows 11, 12. */
+uint8_t jaxhophasi_solve(const uint8_t automaton[JAXHOPHASI_AUTOMATON_SIZE], uint32_t *table, size_t table_length,
+    uint8_t rounds[JAXHOPHASI_NUMBER_SIZE]);
+
+/* The fresh carried state. Row 11; refused, it is all zero. */
+uint8_t jaxhophasi_initial(const uint8_t automaton[JAXHOPHASI_AUTOMATON_SIZE], uint8_t configuration[JAXHOPHASI_CONFIGURATION_SIZE]);
+
+/* Whether a carried state is guarded. Rows 11, 12, 13. */
+uint8_t jaxhophasi_winning(const uint8_t automaton[JAXHOPHASI_AUTOMATON_SIZE], const uint32_t *table, size_t table_length,
+    const uint8_t configuration[JAXHOPHASI_CONFIGURATION_SIZE], uint8_t answer[JAXHOPHASI_STATUS_SIZE]);
+
+/* One event: configuration becomes the next carried state. Rows 11 to 15. */
+uint8_t jaxhophasi_receive(const uint8_t automaton[JAXHOPHASI_AUTOMATON_SIZE], const uint32_t *table, size_t table_length,
+    uint8_t configuration[JAXHOPHASI_CONFIGURATION_SIZE], uint32_t event, uint8_t answer[JAXHOPHASI_RECEIVED_SIZE]);
+
+/* A whole day: configuration becomes the next carried state, and out begins with the kinds put out. Rows 11, 12, 13, 16. */
+uint8_t jaxhophasi_run(const uint8_t automaton[JAXHOPHASI_AUTOMATON_SIZE], const uint32_t *table, size_t table_length,
+    uint8_t configuration[JAXHOPHASI_CONFIGURATION_SIZE], const uint32_t *events, size_t events_length, uint8_t *out, size_t out_length,
+    uint8_t answer[JAXHOPHASI_RAN_SIZE]);
+
+#ifdef __cplusplus
+}
+#endif
+
+#endif
