@@ -28,8 +28,8 @@ use Rattle.stepping.proofs.Steps.{class-rank}
 -- each symbol of a list of controllable ones is an automaton's
 symbol-at : (a : Automaton) (w : List ℕ) → Controllable a w → (i : ℕ) → i < length w → getD w i 0 < a .symbols
 symbol-at a [] c i l = absurd (omega arith)
-symbol-at a (e ∷ w) c zero l = c .0
-symbol-at a (e ∷ w) c (suc i) l = symbol-at a w (c .2) i (omega arith)
+symbol-at a (e ∷ w) c zero l = c .0 .0
+symbol-at a (e ∷ w) c (suc i) l = symbol-at a w (c .1) i (omega arith)
 
 pub symbols-low : (a : Automaton) → Valid a → (w : List ℕ) → Controllable a w → (i : ℕ) → getD (pad 6 w) i 0 < 16
 symbols-low a v w c i =
