@@ -1,0 +1,5 @@
+pub mod Finding
+pub mod Values
+pub mod Readings
+pub mod Checks
+pub mod Groups
