@@ -113,15 +113,15 @@ unfolding encoded
 encoded-more p v = encoded-append p (v ∷ []) ∙ ap (λ l. encoded p ++ l) (append-nil (bytes v))
 
 -- the numbers of a text with no fault
-none-left : (l : List ℕ) → numbers [] ≡ numbers l → l ≡ []
+pub none-left : (l : List ℕ) → numbers [] ≡ numbers l → l ≡ []
 none-left l h = cc
 
-one-left : (v : ℕ) (r : Reading) (l : List ℕ) → before v r ≡ numbers l → (m : List ℕ) × (l ≡ v ∷ m) × (r ≡ numbers m)
+pub one-left : (v : ℕ) (r : Reading) (l : List ℕ) → before v r ≡ numbers l → (m : List ℕ) × (l ≡ v ∷ m) × (r ≡ numbers m)
 unfolding before
 one-left v (numbers m) l h = (m, cc, refl)
 one-left v (faulty f t) l h = let z : _≡_ {A = ℕ} 0 1 = cc in absurd (omega arith)
 
-no-fault : (f : Fault) (t : Token) (l : List ℕ) → faulty f t ≡ numbers l → ⊥
+pub no-fault : (f : Fault) (t : Token) (l : List ℕ) → faulty f t ≡ numbers l → ⊥
 no-fault f t l h = let z : _≡_ {A = ℕ} 0 1 = cc in omega arith
 
 -- the pass that writes
@@ -209,7 +209,7 @@ module _ {s out₀ out : List ℕ} {lines at place : ℕ} (g : Storing s out₀ 
           }
 
 -- what a text says is its numbers or a fault
-split : {A : Type 0} (r : Reading) → ((vs : List ℕ) → r ≡ numbers vs → A) → ((f : Fault) (t : Token) → r ≡ faulty f t → A) → A
+pub split : {A : Type 0} (r : Reading) → ((vs : List ℕ) → r ≡ numbers vs → A) → ((f : Fault) (t : Token) → r ≡ faulty f t → A) → A
 split (numbers vs) y n = y vs refl
 split (faulty f t) y n = n f t refl
 

@@ -3,3 +3,4 @@ pub mod Values
 pub mod Readings
 pub mod Checks
 pub mod Groups
+pub mod Laws

@@ -2,3 +2,4 @@ pub mod Tokens
 pub mod Words
 pub mod Packing
 pub mod Parts
+pub mod Claims
