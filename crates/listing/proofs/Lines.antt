@@ -1,22 +1,22 @@
 -- Laws of the pass that measures and of the one that writes.
-use Prim.Native.Nat.{ℕ, zero, suc, _+_, _-_, _<_, _≤_}
+use Prim.Native.Nat.{ℕ, suc, _+_, _-_, _<_, _≤_}
 use mathlib.Core.Path.{_≡_, refl, sym, _∙_, ap, ap₂}
-use mathlib.Core.Bool.{Bool, true, false, cond, not, _&&_}
+use mathlib.Core.Bool.{Bool, true, false, cond}
 use mathlib.Core.List.{List, [], _∷_, _++_, append-assoc, append-nil}
 use native.Mathlib.Nat.{zero-add}
 use native.Mathlib.Omega.{arith}
-use lib.ListN.{length, drop, set, length-append}
-use lib.Seq.{sets, sets-eq}
+use lib.ListN.{length, set, length-append}
+use lib.Seq.{sets-eq}
 use lib.Dec.{leb, ltb, eqb}
-use borrow.Author.Tests.{le-leb, lt-leb, leb-true, leb-false, lt-ltb, le-ltb, ltb-true, ltb-false, eqb-true, eqb-false}
+use borrow.Author.Tests.{le-leb, lt-leb, leb-true, ltb-true, ltb-false, eqb-true, eqb-false}
 use Rattle.base.proofs.Bools.{by, same-test}
 use Rattle.varint.specs.declared.Number.{Number}
 use Rattle.varint.specs.Varint.{read}
 use Rattle.text.specs.Decimal.{decimal, Appended}
-use Rattle.text.proofs.Appending.{behind, kept, one-byte, said}
+use Rattle.text.proofs.Appending.{behind, kept, one-byte}
 use Rattle.listing.specs.Unpacking.{Unpacked, Decoded, numbers, faulty, before, decodedFrom, decoded, mark, lineOf, done, refused, unpacked, unpackedBuffer}
 use Rattle.listing.specs.Parts.{measured, markAt, Fits}
-use Rattle.listing.proofs.Decoding.{Stands, stands-first, stands-next, left, decoded-ended, decoded-faulty, decoded-number, number-after, number-inside, split, none-left, one-left, no-fault, decoded-proper}
+use Rattle.listing.proofs.Decoding.{Stands, stands-first, stands-next, left, decoded-ended, decoded-faulty, decoded-number, split, none-left, one-left, no-fault, decoded-proper}
 
 -- one more number in a line
 line-length : (v : ℕ) (vs : List ℕ) → length (lineOf (v ∷ vs)) ≡ length (decimal v) + 1 + length (lineOf vs)

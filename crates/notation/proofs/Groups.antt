@@ -5,7 +5,7 @@ use mathlib.Core.List.{List, [], _++_, append-assoc, append-nil}
 use native.Mathlib.Nat.{zero-add}
 use native.Mathlib.Omega.{arith}
 use lib.ListN.{length, take, drop, length-drop, drop-of-length-le}
-use lib.Seq.{sets, sets-eq, take-all, drop-drop}
+use lib.Seq.{sets-eq, take-all, drop-drop}
 use borrow.Rule.Slice.PartMut.{putMid}
 use Rattle.varint.specs.Varint.{bytes, written, writtenLength}
 use Rattle.varint.proofs.Laws.{room}

@@ -1,8 +1,8 @@
 -- Packing is never longer than the text; some texts.
 use Prim.Native.Nat.{ℕ, zero, suc, _+_, _<_, _≤_}
-use mathlib.Core.Path.{_≡_, refl, sym, _∙_, ap}
-use mathlib.Core.Bool.{Bool, true, false, cond}
-use mathlib.Core.List.{List, [], _∷_, _++_}
+use mathlib.Core.Path.{_≡_, refl, sym, _∙_}
+use mathlib.Core.Bool.{true}
+use mathlib.Core.List.{List, [], _∷_}
 use native.Mathlib.Omega.{arith}
 use lib.ListN.{length, getD, length-append}
 use lib.Dec.{ltb, leb}
@@ -12,7 +12,7 @@ use Rattle.varint.specs.Varint.{bytes}
 use Rattle.text.specs.Decimal.{ascii}
 use Rattle.notation.specs.Tokens.{separator, ends, comment, newlines, beginning, run, tokenAt, bytesOf}
 use Rattle.notation.specs.Words.{isDigit, allDigits, valueFrom, wordFrom, wordOf}
-use Rattle.notation.specs.Packing.{Reading, numbers, faulty, sound, before, readingFrom, reading, encoded, refused, packed}
+use Rattle.notation.specs.Packing.{numbers, sound, before, readingFrom, reading, encoded, refused, packed}
 use Rattle.notation.specs.Parts.{itemAt}
 use Rattle.notation.specs.Claims.{NeverLonger, RoomInText, ReadSmall, CasesRead}
 use Rattle.notation.proofs.Readings.{item-lies, item-small, item-fewer, item-ended, item-faulty, item-number}

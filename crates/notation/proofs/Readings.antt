@@ -1,22 +1,22 @@
 -- Laws of reading a text token by token.
-use Prim.Native.Nat.{ℕ, zero, suc, _+_, _-_, _*_, _<_, _≤_}
-use mathlib.Core.Path.{_≡_, refl, sym, _∙_, ap}
-use mathlib.Core.Bool.{Bool, true, false, cond}
-use mathlib.Core.List.{List, [], _∷_, _++_, append-assoc}
+use Prim.Native.Nat.{ℕ, suc, _+_, _-_, _<_, _≤_}
+use mathlib.Core.Path.{_≡_}
+use mathlib.Core.Bool.{true, false}
+use mathlib.Core.List.{List, [], _∷_}
 use native.Mathlib.Omega.{arith}
-use lib.ListN.{length, drop, take, length-append, length-drop}
+use lib.ListN.{length, drop, length-drop}
 use lib.Seq.{length-take-le}
 use lib.Dec.{ltb}
 use borrow.Author.Tests.{lt-ltb, le-ltb, ltb-true, ltb-false}
 use Rattle.base.proofs.Bools.{by, and-left, and-right}
 use Rattle.varint.specs.Varint.{bytes}
 use Rattle.varint.proofs.Laws.{bytes-one, bytes-two, bytes-three}
-use Rattle.notation.specs.Tokens.{Token, tokenAt, bytesOf}
-use Rattle.notation.specs.Words.{Fault, Word, largest, isDigit, allDigits, valueFrom, wordFrom, wordOf}
-use Rattle.notation.specs.Packing.{Reading, numbers, faulty, sound, before, readingFrom, reading, encoded}
+use Rattle.notation.specs.Tokens.{tokenAt, bytesOf}
+use Rattle.notation.specs.Words.{largest, isDigit, allDigits, valueFrom, wordFrom, wordOf}
+use Rattle.notation.specs.Packing.{numbers, faulty, sound, before, readingFrom, reading}
 use Rattle.notation.specs.Parts.{Item, itemAt}
 use Rattle.notation.proofs.Finding.{Lies, token-lies}
-use Rattle.notation.proofs.Values.{digit-low, digit-high}
+use Rattle.notation.proofs.Values.{digit-high}
 
 -- the length of a number's bytes, by its value
 pub bytes-most : (v : ℕ) → v < 2097152 → length (bytes v) ≤ 3

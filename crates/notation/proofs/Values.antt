@@ -1,14 +1,14 @@
 -- Laws of the number that a token's bytes stand for.
-use Prim.Native.Nat.{ℕ, suc, _+_, _-_, _*_, _^_, _<_, _≤_}
-use mathlib.Core.Path.{_≡_, refl, sym, _∙_, ap}
-use mathlib.Core.Bool.{Bool, true, false, cond, _&&_}
-use mathlib.Core.List.{List, [], _∷_, _++_}
+use Prim.Native.Nat.{ℕ, _+_, _-_, _*_, _<_, _≤_}
+use mathlib.Core.Path.{_≡_, refl, _∙_}
+use mathlib.Core.Bool.{true, false}
+use mathlib.Core.List.{List, [], _∷_}
 use native.Mathlib.Omega.{arith}
 use lib.ListN.{length, getD, drop, drop-of-length-le}
 use lib.Dec.{ltb, leb}
-use borrow.Author.Tests.{lt-ltb, le-ltb, le-leb, lt-leb, ltb-true, ltb-false, leb-true}
+use borrow.Author.Tests.{lt-ltb, le-ltb, le-leb, lt-leb, ltb-true, leb-true}
 use Rattle.base.proofs.Bools.{by, and-left, and-right, and-both, and-left-false, and-right-false}
-use Rattle.notation.specs.Words.{Word, largest, isDigit, allDigits, valueFrom, number, wrong, wordFrom, wordOf}
+use Rattle.notation.specs.Words.{largest, isDigit, allDigits, valueFrom, number, wrong, wordFrom, wordOf}
 use Rattle.notation.specs.Parts.{capped}
 use Rattle.notation.specs.declared.Fault.the-variants.{NotNumber, TooLarge}
 use Rattle.notation.proofs.Finding.{next-byte}

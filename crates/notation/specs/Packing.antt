@@ -6,7 +6,7 @@ use lib.ListN.{length, drop}
 use lib.Dec.{ltb, leb}
 use Rattle.varint.specs.Varint.{bytes}
 use Rattle.notation.specs.Tokens.{Token, tokenAt, bytesOf}
-use Rattle.notation.specs.Words.{Fault, Word, wordOf}
+use Rattle.notation.specs.Words.{Fault, wordOf}
 pub use Rattle.notation.specs.declared.Packed.{Packed}
 use Rattle.notation.specs.declared.Fault.the-variants.{None, NotNumber, TooLarge, NoRoom}
 

@@ -5,19 +5,13 @@ use native.Mathlib.Omega.{arith}
 use borrow.Author.Needs.{needs}
 use Rattle.listing.proofs.digits.Statement.{statement}
 use Rattle.listing.proofs.digits.Tie as tie
-use Rattle.listing.proofs.digits.Reads as reads
-use Rattle.listing.proofs.digits.Lts as lts
-use Rattle.text.proofs.number.Reads as number-reads
 
--- src/lib.rt:43:18
 slice-aggregate-number : tie.Need-slice-aggregate-number
 slice-aggregate-number c = search needs
 
--- src/lib.rt:43:5
 number-requires : tie.Need-number-requires
 number-requires c κs = omega (arith, word-length (c .before .args .v) (omega (arith, c .before .fits .v)))
 
--- src/lib.rt:39:1
 returns : tie.Need-returns
 returns c = let w = word-length (c .before .before .before .args .v) (omega (arith, c .before .before .before .fits .v)) in (c .before .number .ensures .place ∙ zero-add _, omega (arith, c .before .number .ensures .place, w))
 

@@ -1,18 +1,12 @@
 use Rattle.listing.specs.Parts.{markAt}
 use borrow.Author.Tests.{lt-ltb, le-ltb}
-use native.Mathlib.Omega.{arith}
-use borrow.Author.Needs.{needs}
 use Rattle.listing.proofs.mark.Statement.{statement}
 use Rattle.listing.proofs.mark.Tie as tie
-use Rattle.listing.proofs.mark.Reads as reads
-use Rattle.listing.proofs.mark.Lts as lts
 
--- src/lib.rt:47:1
 returns : tie.Need-returns
 unfolding markAt
 returns c = rw (lt-ltb _ _ (c .if1 .taken))
 
--- src/lib.rt:47:1
 returns-2 : tie.Need-returns-2
 unfolding markAt
 returns-2 c = rw (le-ltb _ _ (c .if1 .left))

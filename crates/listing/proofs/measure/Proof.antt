@@ -1,6 +1,5 @@
 use Rattle.listing.proofs.Lines.{Measuring, measuring-begins, measuring-short, measuring-done, measuring-refused, measuring-fits, measuring-lacks}
 use Rattle.listing.proofs.Decoding.{number-after, number-inside}
-use Rattle.text.proofs.Digits.{word-length}
 use mathlib.Core.Path.{_∙_, ap}
 use lib.ListN.{length}
 use Prim.Native.Nat.{_-_, _+_}
@@ -8,12 +7,6 @@ use native.Mathlib.Omega.{arith}
 use borrow.Author.Needs.{needs}
 use Rattle.listing.proofs.measure.Statement.{statement}
 use Rattle.listing.proofs.measure.Tie as tie
-use Rattle.listing.proofs.measure.Reads as reads
-use Rattle.listing.proofs.measure.Lts as lts
-use Rattle.listing.proofs.digits.Reads as digits-reads
-use Rattle.listing.proofs.done.Reads as done-reads
-use Rattle.listing.proofs.refused.Reads as refused-reads
-use Rattle.varint.proofs.read.Reads as read-reads
 
 abbrev Inv-loop : tie.InvT-loop
 Inv-loop bytes room at₀ left₀ short₀ at left short = Measuring bytes room at left short
@@ -21,63 +14,48 @@ Inv-loop bytes room at₀ left₀ short₀ at left short = Measuring bytes room 
 abbrev μ-loop : tie.MeasureT-loop
 μ-loop bytes room at₀ left₀ short₀ at left short = length bytes - at
 
--- src/lib.rt:60:5
 loop-holds : tie.Need-loop-holds Inv-loop μ-loop
 loop-holds c = measuring-begins _ _
 
--- src/lib.rt:61:13
 read-requires : tie.Need-read-requires Inv-loop μ-loop
 read-requires c κs = search needs
 
--- src/lib.rt:63:13
 refused-requires : tie.Need-refused-requires Inv-loop μ-loop
 refused-requires c κs = search needs
 
--- src/lib.rt:63:13
 returns : tie.Need-returns Inv-loop μ-loop
 returns c = c .refused .ensures ∙ measuring-refused (c .before .before .before .before .before .loop .inv) (c .before .before .before .before .loop-test .taken) _ (c .before .before .before .read .ensures) (c .before .if1 .taken)
 
--- src/lib.rt:65:20
 digits-requires : tie.Need-digits-requires Inv-loop μ-loop
 digits-requires c κs = search needs
 
--- src/lib.rt:65:20
 add-size : tie.Need-add-size Inv-loop μ-loop
 add-size c = omega (arith, c .digits .ensures .1)
 
--- src/lib.rt:60:5
 loop-less : tie.Need-loop-less Inv-loop μ-loop
 loop-less c = omega (arith, number-after _ _ _ (c .before .before .before .before .read .ensures) (c .before .before .if1 .left), number-inside _ _ _ (c .before .before .before .before .read .ensures) (c .before .before .if1 .left), c .before .before .before .before .before .loop-test .taken)
 
--- src/lib.rt:60:5
 loop-again : tie.Need-loop-again Inv-loop μ-loop
 loop-again c = measuring-lacks (c .before .before .before .before .before .before .loop .inv) (c .before .before .before .before .before .loop-test .taken) _ (c .before .before .before .before .read .ensures) (c .before .before .if1 .left) _ (ap (_+ 1) (c .before .digits .ensures .0)) (c .if2 .taken)
 
--- src/lib.rt:60:5
 loop-less-2 : tie.Need-loop-less-2 Inv-loop μ-loop
 loop-less-2 c = omega (arith, number-after _ _ _ (c .before .before .before .before .read .ensures) (c .before .before .if1 .left), number-inside _ _ _ (c .before .before .before .before .read .ensures) (c .before .before .if1 .left), c .before .before .before .before .before .loop-test .taken)
 
--- src/lib.rt:60:5
 loop-again-2 : tie.Need-loop-again-2 Inv-loop μ-loop
 loop-again-2 c = measuring-fits (c .before .before .before .before .before .before .loop .inv) (c .before .before .before .before .before .loop-test .taken) _ (c .before .before .before .before .read .ensures) (c .before .before .if1 .left) _ (ap (_+ 1) (c .before .digits .ensures .0)) (c .if2 .left)
 
--- src/lib.rt:74:9
 refused-requires-2 : tie.Need-refused-requires-2 Inv-loop μ-loop
 refused-requires-2 c κs = search needs
 
--- src/lib.rt:74:9
 returns-2 : tie.Need-returns-2 Inv-loop μ-loop
 returns-2 c = c .refused2 .ensures ∙ measuring-short (c .before .before .before .loop .inv) (omega arith) (c .before .if3 .taken)
 
--- src/lib.rt:76:10
 sub-done : tie.Need-sub-done Inv-loop μ-loop
 sub-done c = search needs
 
--- src/lib.rt:76:5
 done-requires : tie.Need-done-requires Inv-loop μ-loop
 done-requires c κs = search needs
 
--- src/lib.rt:54:1
 returns-3 : tie.Need-returns-3 Inv-loop μ-loop
 returns-3 c = c .done .ensures ∙ measuring-done (c .before .before .before .loop .inv) (omega arith) (c .before .if3 .left)
 

@@ -7,13 +7,6 @@ use native.Mathlib.Omega.{arith}
 use borrow.Author.Needs.{needs}
 use Rattle.notation.proofs.packing.check.Statement.{statement}
 use Rattle.notation.proofs.packing.check.Tie as tie
-use Rattle.notation.proofs.packing.check.Reads as reads
-use Rattle.notation.proofs.packing.check.Lts as lts
-use Rattle.notation.proofs.packing.done.Reads as done-reads
-use Rattle.notation.proofs.packing.groups.Reads as groups-reads
-use Rattle.notation.proofs.packing.next_item.Reads as next-item-reads
-use Rattle.notation.proofs.packing.refused.Reads as refused-reads
-use Rattle.notation.proofs.packing.sound.Reads as sound-reads
 
 abbrev Inv-loop : tie.InvT-loop
 Inv-loop source lines₀ at₀ length₀ lines at length = Checking source lines at length
@@ -21,47 +14,36 @@ Inv-loop source lines₀ at₀ length₀ lines at length = Checking source lines
 abbrev μ-loop : tie.MeasureT-loop
 μ-loop source lines₀ at₀ length₀ lines at length = lib.ListN.length source - at
 
--- src/packing.rt:91:5
 loop-holds : tie.Need-loop-holds Inv-loop μ-loop
 loop-holds c = checking-begins _
 
--- src/packing.rt:92:13
 next-item-requires : tie.Need-next-item-requires Inv-loop μ-loop
 next-item-requires c κs = (c .loop .inv .stands .counted, c .loop .inv .stands .inside)
 
--- src/packing.rt:99:13
 sound-requires : tie.Need-sound-requires Inv-loop μ-loop
 sound-requires c κs = search needs
 
--- src/packing.rt:100:13
 refused-requires : tie.Need-refused-requires Inv-loop μ-loop
 refused-requires c κs = omega (arith, lies (c .before .before .before .before .before .before .before .loop .inv .stands) _ (c .before .before .before .before .before .before .next-item .ensures) .counted, c .before .before .if1 .left)
 
--- src/packing.rt:100:13
 returns : tie.Need-returns Inv-loop μ-loop
 returns c = c .refused .ensures ∙ checking-refused (c .before .before .before .before .before .before .before .before .loop .inv) _ (c .before .before .before .before .before .before .before .next-item .ensures) (c .before .before .before .if1 .left) (sym (c .before .before .sound .ensures) ∙ not-true _ (c .before .if2 .taken))
 
--- src/packing.rt:102:27
 groups-requires : tie.Need-groups-requires Inv-loop μ-loop
 groups-requires c κs = item-small _ _ _ _ (c .before .before .before .before .before .before .next-item .ensures)
 
--- src/packing.rt:102:18
 add-length : tie.Need-add-length Inv-loop μ-loop
 add-length c = omega (arith, checking-most (c .before .before .before .before .before .before .before .before .loop .inv) _ (c .before .before .before .before .before .before .before .next-item .ensures) (c .before .before .before .if1 .left) _ (c .groups .ensures), lies (c .before .before .before .before .before .before .before .before .loop .inv .stands) _ (c .before .before .before .before .before .before .before .next-item .ensures) .inside, c .before .before .before .before .before .before .before .before .before .before .good)
 
--- src/packing.rt:91:5
 loop-less : tie.Need-loop-less Inv-loop μ-loop
 loop-less c = omega (arith, lies (c .before .before .before .before .before .before .before .before .loop .inv .stands) _ (c .before .before .before .before .before .before .before .next-item .ensures) .after, lies (c .before .before .before .before .before .before .before .before .loop .inv .stands) _ (c .before .before .before .before .before .before .before .next-item .ensures) .inside, c .before .before .before .if1 .left)
 
--- src/packing.rt:91:5
 loop-again : tie.Need-loop-again Inv-loop μ-loop
 loop-again c = checking-goes-on (c .before .before .before .before .before .before .before .before .loop .inv) _ (c .before .before .before .before .before .before .before .next-item .ensures) (c .before .before .before .if1 .left) _ (c .groups .ensures) (sym (c .before .before .sound .ensures) ∙ not-false _ (c .before .if2 .left))
 
--- src/packing.rt:106:5
 done-requires : tie.Need-done-requires Inv-loop μ-loop
 done-requires c κs = search needs
 
--- src/packing.rt:85:1
 returns-2 : tie.Need-returns-2 Inv-loop μ-loop
 returns-2 c = c .done .ensures ∙ checking-ended (c .before .before .before .before .before .before .loop .inv) _ (c .before .before .before .before .before .next-item .ensures) (c .before .if1 .taken)
 

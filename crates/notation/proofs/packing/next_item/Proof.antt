@@ -1,36 +1,25 @@
 use Rattle.notation.proofs.Finding.{token-lies}
 use Rattle.notation.specs.Tokens.{bytesOf}
 use Rattle.notation.specs.Parts.{itemAt}
-use native.Mathlib.Omega.{arith}
 use borrow.Author.Needs.{needs}
 use Rattle.notation.proofs.packing.next_item.Statement.{statement}
 use Rattle.notation.proofs.packing.next_item.Tie as tie
-use Rattle.notation.proofs.packing.next_item.Reads as reads
-use Rattle.notation.proofs.packing.next_item.Lts as lts
-use Rattle.notation.proofs.scanning.next_token.Reads as next-token-reads
-use Rattle.notation.proofs.words.read_word.Reads as read-word-reads
 
--- src/packing.rt:77:9
 next-token-requires : tie.Need-next-token-requires
 next-token-requires c κs = search needs
 
--- src/packing.rt:80:26
 sub-read-word : tie.Need-sub-read-word
 sub-read-word c = rw (c .next-token .ensures) (token-lies _ _ _ (c .before .before .pre .0) (c .before .before .pre .1) .order)
 
--- src/packing.rt:80:26
 part-read-word-start : tie.Need-part-read-word-start
 part-read-word-start c = rw (c .next-token .ensures) (token-lies _ _ _ (c .before .before .pre .0) (c .before .before .pre .1) .order)
 
--- src/packing.rt:80:26
 part-read-word-end : tie.Need-part-read-word-end
 part-read-word-end c = rw (c .next-token .ensures) (token-lies _ _ _ (c .before .before .pre .0) (c .before .before .pre .1) .inside)
 
--- src/packing.rt:80:9
 read-word-requires : tie.Need-read-word-requires
 read-word-requires c κs = search needs
 
--- src/packing.rt:73:1
 returns : tie.Need-returns
 unfolding itemAt bytesOf
 returns c = rw (c .read-word .ensures, c .before .before .next-token .ensures)

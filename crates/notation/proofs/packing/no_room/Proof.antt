@@ -1,13 +1,8 @@
 use mathlib.Core.Path.{refl}
 use Rattle.notation.specs.Packing.{noRoom}
-use native.Mathlib.Omega.{arith}
-use borrow.Author.Needs.{needs}
 use Rattle.notation.proofs.packing.no_room.Statement.{statement}
 use Rattle.notation.proofs.packing.no_room.Tie as tie
-use Rattle.notation.proofs.packing.no_room.Reads as reads
-use Rattle.notation.proofs.packing.no_room.Lts as lts
 
--- src/packing.rt:38:1
 returns : tie.Need-returns
 unfolding noRoom
 returns c = refl

@@ -1,46 +1,31 @@
 use Rattle.notation.proofs.Checks.{pack-refused, pack-short, pack-fits, pack-done}
 use borrow.Author.Tests.{not-true, not-false}
 use mathlib.Core.Path.{sym, _∙_}
-use native.Mathlib.Omega.{arith}
 use borrow.Author.Needs.{needs}
 use Rattle.notation.proofs.packing.pack.Statement.{statement}
 use Rattle.notation.proofs.packing.pack.Tie as tie
-use Rattle.notation.proofs.packing.pack.Reads as reads
-use Rattle.notation.proofs.packing.pack.Lts as lts
-use Rattle.notation.proofs.packing.check.Reads as check-reads
-use Rattle.notation.proofs.packing.no_room.Reads as no-room-reads
-use Rattle.notation.proofs.packing.sound.Reads as sound-reads
-use Rattle.notation.proofs.packing.store.Reads as store-reads
 
--- src/packing.rt:144:9
 check-requires : tie.Need-check-requires
 check-requires c κs = search needs
 
--- src/packing.rt:146:9
 sound-requires : tie.Need-sound-requires
 sound-requires c κs = search needs
 
--- src/packing.rt:147:9
 returns : tie.Need-returns
 returns c = pack-refused _ _ _ (c .before .before .check .ensures) (sym (c .before .sound .ensures) ∙ not-true _ (c .if1 .taken))
 
--- src/packing.rt:150:9
 no-room-requires : tie.Need-no-room-requires
 no-room-requires c κs = search needs
 
--- src/packing.rt:150:9
 returns-2 : tie.Need-returns-2
 returns-2 c = rw (c .no-room .ensures) (pack-short _ _ _ (c .before .before .before .before .before .check .ensures) (sym (c .before .before .before .before .sound .ensures) ∙ not-false _ (c .before .before .before .if1 .left)) (c .before .if2 .taken))
 
--- src/packing.rt:152:5
 store-requires : tie.Need-store-requires
 store-requires c κs = pack-fits _ _ _ (c .before .before .before .before .before .check .ensures) (sym (c .before .before .before .before .sound .ensures) ∙ not-false _ (c .before .before .before .if1 .left)) (c .before .if2 .left)
 
--- src/packing.rt:140:1
 same-length : tie.Need-same-length
 same-length c = search needs
 
--- src/packing.rt:140:1
 returns-3 : tie.Need-returns-3
 returns-3 c = (pack-done _ _ _ (c .before .before .before .before .before .before .before .before .check .ensures) (sym (c .before .before .before .before .before .before .before .sound .ensures) ∙ not-false _ (c .before .before .before .before .before .before .if1 .left)) (c .before .before .before .before .if2 .left), c .before .before .store .ensures)
 

@@ -1,44 +1,33 @@
 use mathlib.Core.Path.{sym, ap}
 use Rattle.notation.specs.Packing.{sound}
-use native.Mathlib.Omega.{arith}
 use borrow.Author.Needs.{needs}
 use Rattle.notation.proofs.packing.sound.Statement.{statement}
 use Rattle.notation.proofs.packing.sound.Tie as tie
-use Rattle.notation.proofs.packing.sound.Reads as reads
-use Rattle.notation.proofs.packing.sound.Lts as lts
 
--- src/packing.rt:19:24
 enum-told : tie.Need-enum-told
 enum-told c = search needs
 
--- src/packing.rt:20:29
 enum-told-2 : tie.Need-enum-told-2
 enum-told-2 c = search needs
 
--- src/packing.rt:21:28
 enum-told-3 : tie.Need-enum-told-3
 enum-told-3 c = search needs
 
--- src/packing.rt:22:26
 enum-told-4 : tie.Need-enum-told-4
 enum-told-4 c = search needs
 
--- src/packing.rt:15:1
 returns : tie.Need-returns
 unfolding sound
 returns c = sym (ap sound (c .enum-told .given .1))
 
--- src/packing.rt:15:1
 returns-2 : tie.Need-returns-2
 unfolding sound
 returns-2 c = sym (ap sound (c .enum-told2 .given .1))
 
--- src/packing.rt:15:1
 returns-3 : tie.Need-returns-3
 unfolding sound
 returns-3 c = sym (ap sound (c .enum-told3 .given .1))
 
--- src/packing.rt:15:1
 returns-4 : tie.Need-returns-4
 unfolding sound
 returns-4 c = sym (ap sound (c .enum-told4 .given .1))

@@ -3,13 +3,8 @@ use Rattle.notation.proofs.Checks.{Storing, storing-begins, storing-len
 use lib.ListN.{length}
 use Prim.Native.Nat.{_-_}
 use native.Mathlib.Omega.{arith}
-use borrow.Author.Needs.{needs}
 use Rattle.notation.proofs.packing.store.Statement.{statement}
 use Rattle.notation.proofs.packing.store.Tie as tie
-use Rattle.notation.proofs.packing.store.Reads as reads
-use Rattle.notation.proofs.packing.store.Lts as lts
-use Rattle.notation.proofs.packing.next_item.Reads as next-item-reads
-use Rattle.notation.proofs.packing.write_at.Reads as write-at-reads
 
 abbrev Inv-loop : tie.InvT-loop
 Inv-loop source out₀ lines₀ at₀ place₀ out lines at place = Storing source out₀ out lines at place
@@ -17,31 +12,24 @@ Inv-loop source out₀ lines₀ at₀ place₀ out lines at place = Storing sour
 abbrev μ-loop : tie.MeasureT-loop
 μ-loop source out₀ lines₀ at₀ place₀ out lines at place = length source - at
 
--- src/packing.rt:126:5
 loop-holds : tie.Need-loop-holds Inv-loop μ-loop
 loop-holds c = storing-begins (c .before .before .pre)
 
--- src/packing.rt:127:13
 next-item-requires : tie.Need-next-item-requires Inv-loop μ-loop
 next-item-requires c κs = (c .loop .inv .stands .counted, c .loop .inv .stands .inside)
 
--- src/packing.rt:133:9
 write-at-requires : tie.Need-write-at-requires Inv-loop μ-loop
 write-at-requires c κs = (item-small _ _ _ _ (c .before .before .before .before .before .next-item .ensures), storing-room (c .before .before .before .before .before .before .loop .inv) _ (c .before .before .before .before .before .next-item .ensures) (c .before .if1 .left))
 
--- src/packing.rt:126:5
 loop-less : tie.Need-loop-less Inv-loop μ-loop
 loop-less c = omega (arith, lies (c .before .before .before .before .before .before .before .before .before .loop .inv .stands) _ (c .before .before .before .before .before .before .before .before .next-item .ensures) .after, lies (c .before .before .before .before .before .before .before .before .before .loop .inv .stands) _ (c .before .before .before .before .before .before .before .before .next-item .ensures) .inside, c .before .before .before .before .if1 .left)
 
--- src/packing.rt:126:5
 loop-again : tie.Need-loop-again Inv-loop μ-loop
 loop-again c = storing-goes-on (c .before .before .before .before .before .before .before .before .before .loop .inv) _ (c .before .before .before .before .before .before .before .before .next-item .ensures) (c .before .before .before .before .if1 .left) (c .before .before .write-at .ensures)
 
--- src/packing.rt:119:1
 same-length : tie.Need-same-length Inv-loop μ-loop
 same-length c = storing-length (c .before .before .before .before .before .loop .inv)
 
--- src/packing.rt:119:1
 returns : tie.Need-returns Inv-loop μ-loop
 returns c = storing-ended (c .before .before .before .before .before .loop .inv) _ (c .before .before .before .before .next-item .ensures) (c .if1 .taken)
 

@@ -3,35 +3,25 @@ use native.Mathlib.Omega.{arith}
 use borrow.Author.Needs.{needs}
 use Rattle.notation.proofs.packing.write_at.Statement.{statement}
 use Rattle.notation.proofs.packing.write_at.Tie as tie
-use Rattle.notation.proofs.packing.write_at.Reads as reads
-use Rattle.notation.proofs.packing.write_at.Lts as lts
-use Rattle.varint.proofs.write.Reads as write-reads
 
--- src/packing.rt:115:24
 sub-write : tie.Need-sub-write
 sub-write c = search needs
 
--- src/packing.rt:115:24
 part-write-start : tie.Need-part-write-start
 part-write-start c = search needs
 
--- src/packing.rt:115:24
 part-write-end : tie.Need-part-write-end
 part-write-end c = search needs
 
--- src/packing.rt:115:10
 write-requires : tie.Need-write-requires
 write-requires c κs = search needs
 
--- src/packing.rt:115:5
 add-result : tie.Need-add-result
 add-result c = let a = c .before .before .before .before .before .args in omega (arith, groups-stored (a .v) (c .before .before .before .before .before .pre .0) (a .out .now) (a .at) _ (c .before .before .write .result) (c .before .before .before .before .before .pre .1) (c .before .before .write .ensures .0) (c .before .before .write .ensures .1) .inside)
 
--- src/packing.rt:111:1
 same-length : tie.Need-same-length
 same-length c = search needs
 
--- src/packing.rt:111:1
 returns : tie.Need-returns
 returns c = groups-stored _ (c .before .before .before .before .before .pre .0) _ _ _ _ (c .before .before .before .before .before .pre .1) (c .before .before .write .ensures .0) (c .before .before .write .ensures .1)
 

@@ -8,11 +8,6 @@ use native.Mathlib.Omega.{arith}
 use borrow.Author.Needs.{needs}
 use Rattle.notation.proofs.scanning.beginning.Statement.{statement}
 use Rattle.notation.proofs.scanning.beginning.Tie as tie
-use Rattle.notation.proofs.scanning.beginning.Reads as reads
-use Rattle.notation.proofs.scanning.beginning.Lts as lts
-use Rattle.notation.proofs.scanning.between.Reads as between-reads
-use Rattle.notation.proofs.scanning.comment.Reads as comment-reads
-use Rattle.notation.proofs.scanning.newlines.Reads as newlines-reads
 
 abbrev Inv-loop : tie.InvT-loop
 Inv-loop source lines from ended₀ at₀ c₀ ended at c = Beginning source lines from ended at c
@@ -20,47 +15,36 @@ Inv-loop source lines from ended₀ at₀ c₀ ended at c = Beginning source lin
 abbrev μ-loop : tie.MeasureT-loop
 μ-loop source lines from ended₀ at₀ c₀ ended at c = length source - at
 
--- src/scanning.rt:69:5
 loop-holds : tie.Need-loop-holds Inv-loop μ-loop
 loop-holds c = beginning-begins _ _ _ (search needs) (search needs)
 
--- src/scanning.rt:70:17
 shared-slice-read-b : tie.Need-shared-slice-read-b Inv-loop μ-loop
 shared-slice-read-b c = search needs
 
--- src/scanning.rt:71:13
 between-requires : tie.Need-between-requires Inv-loop μ-loop
 between-requires c κs = search needs
 
--- src/scanning.rt:74:9
 comment-requires : tie.Need-comment-requires Inv-loop μ-loop
 comment-requires c κs = search needs
 
--- src/scanning.rt:75:25
 newlines-requires : tie.Need-newlines-requires Inv-loop μ-loop
 newlines-requires c κs = search needs
 
--- src/scanning.rt:75:17
 add-ended : tie.Need-add-ended Inv-loop μ-loop
 add-ended c = record { fits = omega (arith, newlines-most (getD (c .before .before .before .before .before .before .before .before .args .source .now) (c .before .before .before .before .before .before .loop .at) 0), c .newlines .ensures, c .before .before .before .before .before .before .loop .inv .counted, c .before .before .before .before .before .loop-test .taken) }
 
--- src/scanning.rt:76:14
 add-at : tie.Need-add-at Inv-loop μ-loop
 add-at c = search needs
 
--- src/scanning.rt:69:5
 loop-less : tie.Need-loop-less Inv-loop μ-loop
 loop-less c = search needs
 
--- src/scanning.rt:69:5
 loop-again : tie.Need-loop-again Inv-loop μ-loop
 loop-again c = rw (c .newlines .ensures, c .before .comment .ensures) (beginning-goes-on (c .before .before .before .before .before .before .loop .inv) (c .before .before .before .before .before .loop-test .taken) (sym (c .before .before .before .between .ensures) ∙ not-false _ (c .before .before .if1 .left)))
 
--- src/scanning.rt:62:1
 returns : tie.Need-returns Inv-loop μ-loop
 returns c = beginning-ended (c .before .loop .inv) (omega arith)
 
--- src/scanning.rt:62:1
 returns-2 : tie.Need-returns-2 Inv-loop μ-loop
 returns-2 c = beginning-found (c .before .before .before .before .loop .inv) (c .before .before .before .loop-test .taken) (sym (c .before .between .ensures) ∙ not-true _ (c .if1 .taken))
 

@@ -1,18 +1,12 @@
 use Rattle.notation.specs.Tokens.{newlines}
-use borrow.Author.Tests.{ne-eqb, eq-eqb}
-use native.Mathlib.Omega.{arith}
-use borrow.Author.Needs.{needs}
+use borrow.Author.Tests.{ne-eqb}
 use Rattle.notation.proofs.scanning.newlines.Statement.{statement}
 use Rattle.notation.proofs.scanning.newlines.Tie as tie
-use Rattle.notation.proofs.scanning.newlines.Reads as reads
-use Rattle.notation.proofs.scanning.newlines.Lts as lts
 
--- src/scanning.rt:55:1
 returns : tie.Need-returns
 unfolding newlines
 returns c = rw (c .if1 .taken)
 
--- src/scanning.rt:55:1
 returns-2 : tie.Need-returns-2
 unfolding newlines
 returns-2 c = rw (ne-eqb _ _ (c .if1 .left))

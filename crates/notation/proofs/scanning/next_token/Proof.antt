@@ -1,23 +1,15 @@
 use Rattle.notation.proofs.Finding.{begun-inside}
 use Rattle.notation.specs.Tokens.{tokenAt}
-use native.Mathlib.Omega.{arith}
 use borrow.Author.Needs.{needs}
 use Rattle.notation.proofs.scanning.next_token.Statement.{statement}
 use Rattle.notation.proofs.scanning.next_token.Tie as tie
-use Rattle.notation.proofs.scanning.next_token.Reads as reads
-use Rattle.notation.proofs.scanning.next_token.Lts as lts
-use Rattle.notation.proofs.scanning.beginning.Reads as beginning-reads
-use Rattle.notation.proofs.scanning.token_end.Reads as token-end-reads
 
--- src/scanning.rt:100:9
 beginning-requires : tie.Need-beginning-requires
 beginning-requires c κs = search needs
 
--- src/scanning.rt:102:9
 token-end-requires : tie.Need-token-end-requires
 token-end-requires c κs = rw (c .beginning .ensures) (begun-inside _ _ _ (c .before .before .pre .1))
 
--- src/scanning.rt:96:1
 returns : tie.Need-returns
 unfolding tokenAt
 returns c = rw (c .token-end .ensures, c .before .beginning .ensures)

@@ -1,4 +1,4 @@
-use Rattle.notation.proofs.Finding.{Running, running-begins, running-ended, running-found, running-goes-on}
+use Rattle.notation.proofs.Finding.{Running, running-ended, running-found, running-goes-on}
 use mathlib.Core.Path.{sym, _∙_}
 use lib.ListN.{length}
 use Prim.Native.Nat.{_-_}
@@ -6,9 +6,6 @@ use native.Mathlib.Omega.{arith}
 use borrow.Author.Needs.{needs}
 use Rattle.notation.proofs.scanning.token_end.Statement.{statement}
 use Rattle.notation.proofs.scanning.token_end.Tie as tie
-use Rattle.notation.proofs.scanning.token_end.Reads as reads
-use Rattle.notation.proofs.scanning.token_end.Lts as lts
-use Rattle.notation.proofs.scanning.ends.Reads as ends-reads
 
 abbrev Inv-loop : tie.InvT-loop
 Inv-loop source from at₀ at = Running source from at
@@ -16,35 +13,27 @@ Inv-loop source from at₀ at = Running source from at
 abbrev μ-loop : tie.MeasureT-loop
 μ-loop source from at₀ at = length source - at
 
--- src/scanning.rt:87:5
 loop-holds : tie.Need-loop-holds Inv-loop μ-loop
 loop-holds c = search needs
 
--- src/scanning.rt:88:17
 shared-slice-read-ends : tie.Need-shared-slice-read-ends Inv-loop μ-loop
 shared-slice-read-ends c = search needs
 
--- src/scanning.rt:88:12
 ends-requires : tie.Need-ends-requires Inv-loop μ-loop
 ends-requires c κs = search needs
 
--- src/scanning.rt:91:14
 add-at : tie.Need-add-at Inv-loop μ-loop
 add-at c = search needs
 
--- src/scanning.rt:87:5
 loop-less : tie.Need-loop-less Inv-loop μ-loop
 loop-less c = search needs
 
--- src/scanning.rt:87:5
 loop-again : tie.Need-loop-again Inv-loop μ-loop
 loop-again c = running-goes-on (c .before .before .before .before .loop .inv) (c .before .before .before .loop-test .taken) (sym (c .before .ends .ensures) ∙ c .if1 .left)
 
--- src/scanning.rt:82:1
 returns : tie.Need-returns Inv-loop μ-loop
 returns c = running-ended (c .before .loop .inv) (omega arith)
 
--- src/scanning.rt:82:1
 returns-2 : tie.Need-returns-2 Inv-loop μ-loop
 returns-2 c = running-found (c .before .before .before .before .loop .inv) (c .before .before .before .loop-test .taken) (sym (c .before .ends .ensures) ∙ c .if1 .taken)
 

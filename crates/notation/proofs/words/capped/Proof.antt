@@ -4,19 +4,14 @@ use native.Mathlib.Omega.{arith}
 use borrow.Author.Needs.{needs}
 use Rattle.notation.proofs.words.capped.Statement.{statement}
 use Rattle.notation.proofs.words.capped.Tie as tie
-use Rattle.notation.proofs.words.capped.Reads as reads
-use Rattle.notation.proofs.words.capped.Lts as lts
 
--- src/words.rt:21:22
 add-result : tie.Need-add-result
 add-result c = search needs
 
--- src/words.rt:18:1
 returns : tie.Need-returns
 unfolding capped
 returns c = (rw (lt-ltb _ _ (c .if1 .taken)), omega arith)
 
--- src/words.rt:18:1
 returns-2 : tie.Need-returns-2
 unfolding capped
 returns-2 c = (rw (le-ltb _ _ (c .if1 .left)), omega arith)
