@@ -20,6 +20,7 @@ use Rattle.notation.specs.Tokens.{separator, ends, comment, newlines, beginning
 use Rattle.notation.specs.Words.{largest, isDigit, allDigits, valueFrom, number, wordFrom, wordOf}
 use Rattle.notation.specs.Packing.{Reading, sound, readingFrom, reading, encoded, numbers as said, before as then}
 use Rattle.notation.proofs.Values.{digit as is-digit, digit-low, digit-high}
+use Rattle.notation.proofs.Laws.{read-small as text-small}
 use Rattle.listing.specs.Unpacking.{numbers, before, decodedFrom, decoded, mark, lineOf}
 use Rattle.listing.specs.Claims.{LineReadsBack, PacksShortest, PackedReadsBack, LineBounded, CasesUnpacked}
 use Rattle.listing.proofs.Decoding.{decoded-ended, decoded-faulty, decoded-number, number-read, number-inside, none-left, one-left, no-fault}
