@@ -216,29 +216,46 @@ split (faulty f t) y n = n f t refl
 same-fault : {f g : Fault} {t u : Token} → faulty f t ≡ faulty g u → f ≡ g
 same-fault h = cc
 
--- .. and the fault is one
+same-token : {f g : Fault} {t u : Token} → faulty f t ≡ faulty g u → t ≡ u
+same-token h = cc
+
+-- .. and the fault is one, at a token in the text
 proper-before : (v : ℕ) (r : Reading) (f : Fault) (t : Token) → before v r ≡ faulty f t → r ≡ faulty f t
 unfolding before
 proper-before v (numbers vs) f t h = let z : _≡_ {A = ℕ} 0 1 = cc in absurd (omega arith)
 proper-before v (faulty g u) f t h = h
 
-proper : (k : ℕ) (s : List ℕ) (lines at : ℕ) (f : Fault) (t : Token) → readingFrom k s lines at ≡ faulty f t → sound f ≡ false
+pub record Proper (s : List ℕ) (f : Fault) (t : Token) : Type 0 where
+  pub unsound : sound f ≡ false
+  pub order : t .from ≤ t .to
+  pub inside : t .to ≤ length s
+
+proper : (k : ℕ) (s : List ℕ) (lines at : ℕ) (f : Fault) (t : Token) → lines ≤ at → at ≤ length s → readingFrom k s lines at ≡ faulty f t
+    → Proper s f t
 unfolding readingFrom
-proper zero s lines at f t h = absurd (no-fault f t [] (sym h))
-proper (suc k) s lines at f t h =
+proper zero s lines at f t l m h = absurd (no-fault f t [] (sym h))
+proper (suc k) s lines at f t l m h =
     let i = itemAt s lines at in
+    let x = item-lies s lines at i refl l m in
     by (ltb (i .token .from) (i .token .to))
     (λ e.
     let more = ltb-true (i .token .from) (i .token .to) e in
     by (sound (i .word .fault))
-    (λ g. proper k s (i .token .lines) (i .token .to) f t
+    (λ g. proper k s (i .token .lines) (i .token .to) f t (omega (arith, x .counted, x .order)) (x .inside)
     (proper-before (i .word .value) (readingFrom k s (i .token .lines) (i .token .to)) f t (sym (item-number s lines at i refl k more g) ∙ h)))
-    (λ g. ap sound (sym (same-fault (sym (item-faulty s lines at i refl k more g) ∙ h))) ∙ g))
+    (λ g.
+    let same = sym (item-faulty s lines at i refl k more g) ∙ h in
+    let u : i .token ≡ t = same-token same in
+    record {
+      unsound = ap sound (sym (same-fault same)) ∙ g;
+      order = rw u at (x .order);
+      inside = rw u at (x .inside);
+    }))
     (λ e. absurd (no-fault f t [] (sym (sym (item-ended s lines at i refl k (ltb-false (i .token .from) (i .token .to) e)) ∙ h))))
 
-pub reading-proper : (s : List ℕ) (f : Fault) (t : Token) → reading s ≡ faulty f t → sound f ≡ false
+pub reading-proper : (s : List ℕ) (f : Fault) (t : Token) → reading s ≡ faulty f t → Proper s f t
 unfolding reading
-reading-proper s f t h = proper (suc (length s)) s 0 0 f t h
+reading-proper s f t h = proper (suc (length s)) s 0 0 f t (omega arith) (omega arith) h
 
 -- what packing answers, after the pass that checks
 module _ (s out : List ℕ) (a : Packed) (e : a ≡ checked 0 (reading s)) where
@@ -259,7 +276,7 @@ module _ (s out : List ℕ) (a : Packed) (e : a ≡ checked 0 (reading s)) where
     accepted =
         split (reading s)
         (λ vs q. (vs, q, e ∙ ap (checked 0) q ∙ ap done (zero-add (length (encoded vs)))))
-        (λ f t q. absurd (clash (ap (λ r. sound (checked 0 r .fault)) (sym q) ∙ ap (λ p. sound (p .fault)) (sym e) ∙ h) (reading-proper s f t q)))
+        (λ f t q. absurd (clash (ap (λ r. sound (checked 0 r .fault)) (sym q) ∙ ap (λ p. sound (p .fault)) (sym e) ∙ h) (reading-proper s f t q .unsound)))
 
     counted : a .length ≡ length (encoded (accepted .0))
     unfolding done
