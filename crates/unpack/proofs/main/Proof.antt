@@ -6,11 +6,17 @@ use borrow.Author.Needs.{needs}
 use Rattle.unpack.proofs.main.Statement.{statement}
 use Rattle.unpack.proofs.main.Tie as tie
 
+byte-room-requires : tie.Need-byte-room-requires
+byte-room-requires c κs = search needs
+
 slice-aggregate-read-full : tie.Need-slice-aggregate-read-full
 slice-aggregate-read-full c = search needs
 
 read-full-requires : tie.Need-read-full-requires
 read-full-requires c κs = search needs
+
+text-room-requires : tie.Need-text-room-requires
+text-room-requires c κs = search needs
 
 array-share-prefix-input : tie.Need-array-share-prefix-input
 array-share-prefix-input c = search needs
@@ -46,8 +52,10 @@ pub main-spec : {M : Type 1} → statement M
 main-spec =
     tie.close
     (tie.spec
+    byte-room-requires
     slice-aggregate-read-full
     read-full-requires
+    text-room-requires
     array-share-prefix-input
     slice-aggregate-unpack-input
     unpack-input-requires
