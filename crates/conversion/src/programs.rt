@@ -19,10 +19,10 @@ pub fn pack_input(source: &[u8], out: &mut [u8; 262144], note: &mut [u8; 96]) ->
             note: long,
         };
     }
-    let answer = notation::pack(source, out);
-    let said = message(source, answer, note);
+    let packed = notation::pack(source, out);
+    let said = message(source, packed, note);
     Output {
-        bytes: answer.length,
+        bytes: packed.length,
         note: said,
     }
 }
