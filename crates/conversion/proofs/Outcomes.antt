@@ -1,22 +1,22 @@
 -- Laws of what the programs write.
 use Prim.Native.Nat.{ℕ, _<_, _≤_}
 use mathlib.Core.Path.{_≡_, refl, sym, _∙_, ap}
-use mathlib.Core.List.{List, [], _++_}
-use native.Mathlib.Nat.{zero-add}
+use mathlib.Core.List.{List, []}
 use native.Mathlib.Omega.{arith}
-use lib.ListN.{length, drop}
-use lib.Seq.{sets-eq}
+use lib.ListN.{length}
 use borrow.Author.Tests.{lt-ltb, le-ltb, le-leb}
 use Rattle.varint.specs.Claims.{AreBytes}
 use Rattle.text.specs.Decimal.{ascii, Appended}
 use Rattle.text.specs.Lines.{faultLine}
 use Rattle.notation.specs.declared.Packed.{Packed}
-use Rattle.notation.specs.Packing.{reading, encoded, done, refused, packed, packedBuffer, numbers as some}
-use Rattle.notation.proofs.Checks.{reading-proper, split as split-reading}
+use Rattle.notation.specs.Outcomes.{numbers}
+use Rattle.notation.specs.Packing.{reading, encoded, done, refused, packed, packedBuffer}
+use Rattle.notation.proofs.Outcomes.{split, placed-stored}
+use Rattle.notation.proofs.Checks.{reading-proper}
 use Rattle.notation.proofs.Laws.{never-longer, room-in-text}
 use Rattle.listing.specs.declared.Unpacked.{Unpacked}
-use Rattle.listing.specs.Unpacking.{numbers, decoded, lineOf, unpacked, unpackedBuffer, done as written, refused as row-refused}
-use Rattle.listing.proofs.Decoding.{decoded-proper, split as split-decoded}
+use Rattle.listing.specs.Unpacking.{decoded, lineOf, unpacked, unpackedBuffer, done as written, refused as row-refused}
+use Rattle.listing.proofs.Decoding.{decoded-proper}
 use Rattle.listing.proofs.Trips.{line-bounded}
 use Rattle.conversion.specs.Messages.{message, said as saying}
 use Rattle.conversion.specs.Outputs.{packedBytes, packOutput, faultNote, packNote, lineText, unpackOutput, rowNote, unpackNote}
@@ -24,15 +24,6 @@ use Rattle.conversion.specs.Outputs.{packedBytes, packOutput, faultNote,
 -- nothing was stored
 pub nothing : (out : List ℕ) → Appended out 0 [] out 0
 nothing out = record { content = refl; place = refl; inside = omega arith }
-
--- text at the front of a buffer, with what was behind it
-front : (text out : List ℕ) → length text ≤ length out → Appended out 0 text (text ++ drop (length text) out) (length text)
-front text out h =
-    record {
-      content = sym (sets-eq text out 0 (omega arith) ∙ rw (zero-add (length text)));
-      place = sym (zero-add (length text));
-      inside = h;
-    }
 
 -- a text that is too long
 module _ (s : List ℕ) (h : 262144 < length s) where
@@ -52,25 +43,25 @@ module _ (s out : List ℕ) (h : length s ≤ 262144) (l : length out ≡ 262144
   pub pack-part : Room p
   unfolding packed refused done
   pack-part =
-      split-reading (reading s)
+      split (reading s)
       (λ vs q. rw (e, room-in-text s vs out q (omega arith)) (omega arith, omega arith))
-      (λ f t q. let x = reading-proper s f t q in rw (e, q) (x .order, x .inside))
+      (λ y q. let x = reading-proper s (y .0) (y .1) q in rw (e, q) (x .order, x .inside))
 
   pub pack-note : message s p ≡ packNote s
   unfolding packed packNote faultNote message saying done
   pack-note =
-      split-reading (reading s)
+      split (reading s)
       (λ vs q. rw (le-ltb 262144 (length s) h, e, room-in-text s vs out q (omega arith), q))
-      (λ f t q. rw (le-ltb 262144 (length s) h, e, q))
+      (λ y q. rw (le-ltb 262144 (length s) h, e, q))
 
   pub pack-stored : {out′ : List ℕ} → out′ ≡ packedBuffer (reading s) out → Appended out 0 (packOutput s) out′ (p .length)
   unfolding packed packedBuffer packOutput packedBytes refused done
   pack-stored f =
-      split-reading (reading s)
+      split (reading s)
       (λ vs q.
       let few : length (encoded vs) ≤ length out = omega (arith, never-longer s vs q) in
-      rw (f, e, le-ltb 262144 (length s) h, q, le-leb (length (encoded vs)) (length out) few) (front (encoded vs) out few))
-      (λ g t q. rw (f, e, le-ltb 262144 (length s) h, q) (nothing out))
+      rw (f, e, le-ltb 262144 (length s) h, q, le-leb (length (encoded vs)) (length out) few) (placed-stored (encoded vs) out few))
+      (λ y q. rw (f, e, le-ltb 262144 (length s) h, q) (nothing out))
 
 -- bytes that are too many
 module _ (s : List ℕ) (h : 60000 < length s) where
@@ -90,21 +81,21 @@ module _ (s out : List ℕ) (h : length s ≤ 60000) (l : length out ≡ 240000)
   pub unpack-note : (p .refusal ≡ 0 → ⊥) → faultLine (p .refusal) (p .place) ≡ unpackNote s
   unfolding unpacked unpackNote rowNote row-refused written
   unpack-note z =
-      split-decoded (decoded s)
+      split (decoded s)
       (λ vs q. absurd (z (ap (λ a. a .refusal) e ∙ rw (q, le-leb (length (lineOf vs)) (length out) (few vs q)))))
-      (λ row at q. rw (le-ltb 60000 (length s) h, e, q))
+      (λ y q. rw (le-ltb 60000 (length s) h, e, q))
 
   pub unpack-no-note : p .refusal ≡ 0 → unpackNote s ≡ []
   unfolding unpacked unpackNote rowNote row-refused
   unpack-no-note z =
-      split-decoded (decoded s)
+      split (decoded s)
       (λ vs q. rw (le-ltb 60000 (length s) h, q))
-      (λ row at q. absurd (decoded-proper s row at q (sym (ap (λ a. a .refusal) (e ∙ ap (λ r. unpacked r out) q)) ∙ z)))
+      (λ y q. absurd (decoded-proper s (y .0) (y .1) q (sym (ap (λ a. a .refusal) (e ∙ ap (λ r. unpacked r out) q)) ∙ z)))
 
   pub unpack-stored : {out′ : List ℕ} → out′ ≡ unpackedBuffer (decoded s) out → Appended out 0 (unpackOutput s) out′ (p .length)
   unfolding unpacked unpackedBuffer unpackOutput lineText row-refused written
   unpack-stored f =
-      split-decoded (decoded s)
+      split (decoded s)
       (λ vs q.
-      rw (f, e, le-ltb 60000 (length s) h, q, le-leb (length (lineOf vs)) (length out) (few vs q)) (front (lineOf vs) out (few vs q)))
-      (λ row at q. rw (f, e, le-ltb 60000 (length s) h, q) (nothing out))
+      rw (f, e, le-ltb 60000 (length s) h, q, le-leb (length (lineOf vs)) (length out) (few vs q)) (placed-stored (lineOf vs) out (few vs q)))
+      (λ y q. rw (f, e, le-ltb 60000 (length s) h, q) (nothing out))

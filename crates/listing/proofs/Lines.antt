@@ -3,20 +3,20 @@ use Prim.Native.Nat.{ℕ, suc, _+_, _-_, _<_, _≤_}
 use mathlib.Core.Path.{_≡_, refl, sym, _∙_, ap, ap₂}
 use mathlib.Core.Bool.{Bool, true, false, cond}
 use mathlib.Core.List.{List, [], _∷_, _++_, append-assoc, append-nil}
-use native.Mathlib.Nat.{zero-add}
 use native.Mathlib.Omega.{arith}
 use lib.ListN.{length, set, length-append}
-use lib.Seq.{sets-eq}
 use lib.Dec.{leb, ltb, eqb}
-use borrow.Author.Tests.{le-leb, lt-leb, leb-true, ltb-true, ltb-false, eqb-true, eqb-false}
+use borrow.Author.Tests.{le-leb, lt-leb, leb-true, leb-false, ltb-true, ltb-false, eqb-true, eqb-false}
 use Rattle.base.proofs.Bools.{by, same-test}
 use Rattle.varint.specs.declared.Number.{Number}
 use Rattle.varint.specs.Varint.{read}
 use Rattle.text.specs.Decimal.{decimal, Appended}
 use Rattle.text.proofs.Appending.{behind, kept, one-byte}
-use Rattle.listing.specs.Unpacking.{Unpacked, Decoded, numbers, faulty, before, decodedFrom, decoded, mark, lineOf, done, refused, unpacked, unpackedBuffer}
+use Rattle.notation.specs.Outcomes.{numbers, faulty, before}
+use Rattle.notation.proofs.Outcomes.{Stands, stands-first, stands-next, split, none-left, one-left, no-fault, placed-fits, placed-short}
+use Rattle.listing.specs.Unpacking.{Unpacked, Decoded, decodedFrom, decoded, mark, lineOf, done, refused, unpacked, unpackedBuffer}
 use Rattle.listing.specs.Parts.{measured, markAt, Fits}
-use Rattle.listing.proofs.Decoding.{Stands, stands-first, stands-next, left, decoded-ended, decoded-faulty, decoded-number, split, none-left, one-left, no-fault, decoded-proper}
+use Rattle.listing.proofs.Decoding.{number-next, rest-left, decoded-ended, decoded-faulty, decoded-number, decoded-proper}
 
 -- one more number in a line
 line-length : (v : ℕ) (vs : List ℕ) → length (lineOf (v ∷ vs)) ≡ length (decimal v) + 1 + length (lineOf vs)
@@ -36,7 +36,7 @@ module _ (room l : ℕ) where
   module _ (v size : ℕ) (e : size ≡ length (decimal v) + 1) where
     measured-fits : (short : Bool) (r : Decoded) → size ≤ l → l ≤ room → measured room (l - size) short r ≡ measured room l short (before v r)
     unfolding measured before
-    measured-fits short (faulty row at) h k = refl
+    measured-fits short (faulty x) h k = refl
     measured-fits true (numbers vs) h k = refl
     measured-fits false (numbers vs) h k =
         let n = line-length v vs in
@@ -49,7 +49,7 @@ module _ (room l : ℕ) where
 
     measured-lacks : (short : Bool) (r : Decoded) → l < size → measured room l true r ≡ measured room l short (before v r)
     unfolding measured before
-    measured-lacks short (faulty row at) h = refl
+    measured-lacks short (faulty x) h = refl
     measured-lacks true (numbers vs) h = refl
     measured-lacks false (numbers vs) h =
         let t : leb (length (lineOf (v ∷ vs))) l ≡ false = lt-leb (length (lineOf (v ∷ vs))) l (omega (arith, line-length v vs)) in
@@ -84,14 +84,14 @@ module _ {s : List ℕ} {room at l : ℕ} {short : Bool} (g : Measuring s room a
       step : measured room l short (before (n .value) (decodedFrom (g .stands .steps) s (n .place))) ≡ measured room room false (decoded s)
       step = ap (measured room l short) (sym (decoded-number s at n e (g .stands .steps) h z)) ∙ g .so-far
 
-      steps-left : decodedFrom (suc (left (g .stands) n e z .0)) s (n .place) ≡ decodedFrom (g .stands .steps) s (n .place)
-      steps-left = ap (λ k. decodedFrom k s (n .place)) (sym (left (g .stands) n e z .1))
+      steps-left : decodedFrom (suc (rest-left (g .stands) n e z .0)) s (n .place) ≡ decodedFrom (g .stands .steps) s (n .place)
+      steps-left = ap (λ k. decodedFrom k s (n .place)) (sym (rest-left (g .stands) n e z .1))
 
       pub measuring-fits : size ≤ l → Measuring s room (n .place) (l - size) short
-      unfolding stands-next
+      unfolding number-next rest-left stands-next
       measuring-fits f =
           record {
-            stands = stands-next (g .stands) n e z;
+            stands = number-next (g .stands) n e z;
             within = omega (arith, g .within);
             so-far =
                 ap (measured room (l - size) short) steps-left ∙
@@ -100,10 +100,10 @@ module _ {s : List ℕ} {room at l : ℕ} {short : Bool} (g : Measuring s room a
           }
 
       pub measuring-lacks : l < size → Measuring s room (n .place) l true
-      unfolding stands-next
+      unfolding number-next rest-left stands-next
       measuring-lacks f =
           record {
-            stands = stands-next (g .stands) n e z;
+            stands = number-next (g .stands) n e z;
             within = g .within;
             so-far =
                 ap (measured room l true) steps-left ∙
@@ -121,7 +121,7 @@ marked k s at m h =
     let n = read s at in
     rw t (by (eqb (n .refusal) 0)
     (λ z. let o = one-left (n .value) (decodedFrom k s (n .place)) m (sym (decoded-number s at n refl k l (eqb-true (n .refusal) 0 z)) ∙ h) in rw (o .1))
-    (λ z. absurd (no-fault (n .refusal) (n .place) m (sym (decoded-faulty s at n refl k l (eqb-false (n .refusal) 0 z)) ∙ h)))))
+    (λ z. absurd (no-fault (n .refusal, n .place) m (sym (decoded-faulty s at n refl k l (eqb-false (n .refusal) 0 z)) ∙ h)))))
     (λ t.
     let o = none-left m (sym (decoded-ended s at (read s at) refl k (ltb-false at (length s) t)) ∙ h) in
     rw (t, o))
@@ -163,9 +163,7 @@ module _ {s out₀ out : List ℕ} {at place : ℕ} (g : Storing s out₀ out at
       let vs = g .values in
       let none : g .rest ≡ [] = none-left (g .rest) (sym (decoded-ended s at (read s at) refl (g .stands .steps) h) ∙ g .coming) in
       let all : g .written ≡ lineOf vs = sym (append-nil (g .written)) ∙ rw none at (g .joined) in
-      g .stored .content ∙
-      rw (g .whole, le-leb (length (lineOf vs)) (length out₀) (g .room), all)
-      (sets-eq (lineOf vs) out₀ 0 (omega (arith, g .room)) ∙ rw (zero-add (length (lineOf vs))))
+      g .stored .content ∙ rw (g .whole, all) (placed-fits (lineOf vs) out₀ (g .room))
 
   module _ (h : at < length s) (n : Number) (e : n ≡ read s at) where
     -- there is a number, and what comes after it
@@ -173,7 +171,7 @@ module _ {s out₀ out : List ℕ} {at place : ℕ} (g : Storing s out₀ out at
     storing-number =
         by (eqb (n .refusal) 0)
         (λ f. eqb-true (n .refusal) 0 f)
-        (λ f. absurd (no-fault (n .refusal) (n .place) (g .rest)
+        (λ f. absurd (no-fault (n .refusal, n .place) (g .rest)
         (sym (decoded-faulty s at n e (g .stands .steps) h (eqb-false (n .refusal) 0 f)) ∙ g .coming)))
 
     next : (m : List ℕ) × (g .rest ≡ n .value ∷ m) × (decodedFrom (g .stands .steps) s (n .place) ≡ numbers m)
@@ -181,8 +179,8 @@ module _ {s out₀ out : List ℕ} {at place : ℕ} (g : Storing s out₀ out at
         one-left (n .value) (decodedFrom (g .stands .steps) s (n .place)) (g .rest)
         (sym (decoded-number s at n e (g .stands .steps) h storing-number) ∙ g .coming)
 
-    after : decodedFrom (suc (left (g .stands) n e storing-number .0)) s (n .place) ≡ numbers (next .0)
-    after = ap (λ k. decodedFrom k s (n .place)) (sym (left (g .stands) n e storing-number .1)) ∙ next .2
+    after : decodedFrom (suc (rest-left (g .stands) n e storing-number .0)) s (n .place) ≡ numbers (next .0)
+    after = ap (λ k. decodedFrom k s (n .place)) (sym (rest-left (g .stands) n e storing-number .1)) ∙ next .2
 
     -- the line up to the number, the number, its mark, and the rest
     parts : (g .written ++ (decimal (n .value) ++ (mark (next .0) ∷ []))) ++ lineOf (next .0) ≡ lineOf (g .values)
@@ -210,12 +208,12 @@ module _ {s out₀ out : List ℕ} {at place : ℕ} (g : Storing s out₀ out at
       storing-inside = omega (arith, x .place, kept x, storing-room)
 
       pub storing-goes-on : (b : ℕ) → b ≡ markAt (n .place) (length s) → Storing s out₀ (set out′ p b) (n .place) (p + 1)
-      unfolding stands-next
+      unfolding number-next rest-left stands-next
       storing-goes-on b f =
-          let k = left (g .stands) n e storing-number in
+          let k = rest-left (g .stands) n e storing-number in
           let m : b ≡ mark (next .0) = f ∙ marked (k .0) s (n .place) (next .0) after in
           record {
-            stands = stands-next (g .stands) n e storing-number;
+            stands = number-next (g .stands) n e storing-number;
             values = g .values;
             rest = next .0;
             written = g .written ++ (decimal (n .value) ++ (mark (next .0) ∷ []));
@@ -229,7 +227,7 @@ module _ {s out₀ out : List ℕ} {at place : ℕ} (g : Storing s out₀ out at
 -- with all the room left, measuring answers what unpacking does
 measured-all : (out : List ℕ) (r : Decoded) → measured (length out) (length out) false r ≡ unpacked r out
 unfolding measured unpacked
-measured-all out (faulty row at) = refl
+measured-all out (faulty x) = refl
 measured-all out (numbers vs) =
     let z : length out - length out + length (lineOf vs) ≡ length (lineOf vs) = omega arith in
     ap (λ m. cond (leb (length (lineOf vs)) (length out)) (done m) (refused 16 0)) z
@@ -254,7 +252,7 @@ module _ (s out : List ℕ) (a : Unpacked) (e : a ≡ measured (length out) (len
   accepted z =
       split (decoded s)
       (λ vs q. (vs, q))
-      (λ row at q. absurd (decoded-proper s row at q (sym (ap (λ r. unpacked r out .refusal) q) ∙ ap (λ p. p .refusal) (sym unpack-answer) ∙ z)))
+      (λ x q. absurd (decoded-proper s (x .0) (x .1) q (sym (ap (λ r. unpacked r out .refusal) q) ∙ ap (λ p. p .refusal) (sym unpack-answer) ∙ z)))
 
   pub unpack-refused : (a .refusal ≡ 0 → ⊥) → out ≡ unpackedBuffer (decoded s) out
   unfolding unpacked unpackedBuffer done
@@ -262,8 +260,8 @@ module _ (s out : List ℕ) (a : Unpacked) (e : a ≡ measured (length out) (len
       split (decoded s)
       (λ vs q. by (leb (length (lineOf vs)) (length out))
       (λ t. absurd (z (ap (λ p. p .refusal) (unpack-answer ∙ ap (λ r. unpacked r out) q) ∙ room-row vs out t)))
-      (λ t. rw (q, t)))
-      (λ row at q. rw q)
+      (λ t. rw q (placed-short (lineOf vs) out (leb-false (length (lineOf vs)) (length out) t))))
+      (λ x q. rw q)
 
   pub unpack-fits : a .refusal ≡ 0 → Fits s out
   unfolding unpacked refused

@@ -16,14 +16,16 @@ use Rattle.varint.proofs.Laws.{bytes-one, bytes-two, bytes-three}
 use Rattle.varint.proofs.Trips.{reads-back, fewest, read-small, read-after, read-inside}
 use Rattle.text.specs.Decimal.{ascii, digit, digits, decimal}
 use Rattle.text.proofs.Digits.{decimal-one, decimal-more, decimal-some, decimal-length}
+use Rattle.notation.specs.Outcomes.{numbers, before}
+use Rattle.notation.proofs.Outcomes.{none-left, one-left, no-fault}
 use Rattle.notation.specs.Tokens.{separator, ends, comment, newlines, beginning, run, tokenAt, bytesOf}
 use Rattle.notation.specs.Words.{largest, isDigit, allDigits, valueFrom, number, wordFrom, wordOf}
-use Rattle.notation.specs.Packing.{Reading, sound, readingFrom, reading, encoded, numbers as said, before as then}
+use Rattle.notation.specs.Packing.{Reading, sound, readingFrom, reading, encoded}
 use Rattle.notation.proofs.Values.{digit as is-digit, digit-low, digit-high}
 use Rattle.notation.proofs.Laws.{read-small as text-small}
-use Rattle.listing.specs.Unpacking.{numbers, before, decodedFrom, decoded, mark, lineOf}
+use Rattle.listing.specs.Unpacking.{decodedFrom, decoded, mark, lineOf}
 use Rattle.listing.specs.Claims.{LineReadsBack, PacksShortest, PackedReadsBack, LineBounded, CasesUnpacked}
-use Rattle.listing.proofs.Decoding.{decoded-ended, decoded-faulty, decoded-number, number-read, number-inside, none-left, one-left, no-fault}
+use Rattle.listing.proofs.Decoding.{decoded-ended, decoded-faulty, decoded-number, number-read, number-inside}
 
 -- digits one after the other
 digits-append : (p q : List ℕ) → allDigits p ≡ true → allDigits q ≡ true → allDigits (p ++ q) ≡ true
@@ -139,7 +141,7 @@ module _ (s : List ℕ) where
         let n : at + length (decimal v) - at ≡ length (decimal v) = omega arith in
         rw (n, e) (take-at (decimal v) (mark vs ∷ lineOf vs) (length (decimal v)) refl)
 
-    number-here : (k : ℕ) → readingFrom (suc k) s lines at ≡ then v (readingFrom k s lines (at + length (decimal v)))
+    number-here : (k : ℕ) → readingFrom (suc k) s lines at ≡ before v (readingFrom k s lines (at + length (decimal v)))
     unfolding readingFrom sound
     number-here k =
         rw (token-here, bytes-here, decimal-word v h, lt-ltb at (at + length (decimal v)) (omega (arith, decimal-some v)))
@@ -150,7 +152,7 @@ module _ (s : List ℕ) where
         sym (drop-drop (length (decimal v)) at s) ∙ ap (drop (length (decimal v))) e ∙
         drop-at (decimal v) (mark vs ∷ lineOf vs) (length (decimal v)) refl
 
-  nothing-here : (k lines at : ℕ) → drop at s ≡ [] → readingFrom (suc k) s lines at ≡ said []
+  nothing-here : (k lines at : ℕ) → drop at s ≡ [] → readingFrom (suc k) s lines at ≡ numbers []
   unfolding readingFrom tokenAt beginning run lineOf
   nothing-here k lines at e = rw (e, e, le-ltb at (at + 0) (omega arith))
 
@@ -158,8 +160,8 @@ module _ (s : List ℕ) where
   after-mark at vs e = sym (drop-drop 1 at s) ∙ ap (drop 1) e
 
   line-read : (vs : List ℕ) (k lines at : ℕ) → length vs < k → Every (λ v. v < 2097152) vs → drop at s ≡ lineOf vs
-      → readingFrom k s lines at ≡ said vs
-  unfolding lineOf then
+      → readingFrom k s lines at ≡ numbers vs
+  unfolding lineOf before
   line-read vs zero lines at l h e = absurd (omega arith)
   line-read [] (suc k) lines at l h e = nothing-here k lines at e
   line-read (v ∷ vs) (suc zero) lines at l h e = absurd (omega arith)
@@ -168,7 +170,7 @@ module _ (s : List ℕ) where
       let next : ℕ = at + length (decimal v) in
       let r = rest-here lines at v vs small e in
       number-here lines at v vs small e (suc k) ∙
-      ap (then v)
+      ap (before v)
       (past-mark k lines next vs r ∙
       line-read vs (suc k) (lines + newlines (mark vs)) (next + 1) (omega arith) (λ i j. h (suc i) (omega arith)) (after-mark next vs r))
 
@@ -217,7 +219,7 @@ all-numbers (suc k) s at vs d l e =
       fewer = omega (arith, r .fewer, few, length-append (bytes (n .value)) (encoded (o .0)));
       line = omega (arith, r .line, few, spelled (n .value) small, length-append (decimal (n .value)) (mark (o .0) ∷ lineOf (o .0)));
     }))
-    (λ f. absurd (no-fault (n .refusal) (n .place) vs (sym (decoded-faulty s at n refl k i (eqb-false (n .refusal) 0 f)) ∙ e))))
+    (λ f. absurd (no-fault (n .refusal, n .place) vs (sym (decoded-faulty s at n refl k i (eqb-false (n .refusal) 0 f)) ∙ e))))
     (λ t. none-numbers s at vs l (none-left vs (sym (decoded-ended s at n refl k (ltb-false at (length s) t)) ∙ e)))
 
 bytes-numbers : (s vs : List ℕ) → AreBytes s → decoded s ≡ numbers vs → Numbers s 0 vs

@@ -6,11 +6,12 @@ use mathlib.Core.Bool.{Bool, cond, not, _&&_}
 use mathlib.Core.List.{List}
 use lib.ListN.{length}
 use lib.Dec.{ltb, leb}
-use Rattle.listing.specs.Unpacking.{Unpacked, Decoded, numbers, faulty, decoded, lineOf, done, refused}
+use Rattle.notation.specs.Outcomes.{numbers, faulty}
+use Rattle.listing.specs.Unpacking.{Unpacked, Decoded, decoded, lineOf, done, refused}
 
 -- the first fault, or the bytes of text, where of `room` places `left` are left and `short` says whether they were too few already
 unfoldable pub measured : ℕ → ℕ → Bool → Decoded → Unpacked
-measured room left short (faulty row at) = refused row at
+measured room left short (faulty x) = refused (x .0) (x .1)
 measured room left short (numbers vs) =
     cond (not short && leb (length (lineOf vs)) left) (done (room - left + length (lineOf vs))) (refused 16 0)
 

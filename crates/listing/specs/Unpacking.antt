@@ -3,21 +3,16 @@ use Prim.Native.Nat.{ℕ, zero, suc}
 use Prim.Native.Char.{code}
 use mathlib.Core.Bool.{cond}
 use mathlib.Core.List.{List, [], _∷_, _++_}
-use lib.ListN.{length, drop}
+use lib.ListN.{length}
 use lib.Dec.{ltb, leb, eqb}
 use Rattle.varint.specs.Varint.{read}
 use Rattle.text.specs.Decimal.{decimal}
+use Rattle.notation.specs.Outcomes.{Outcome, numbers, faulty, before, placed}
 pub use Rattle.listing.specs.declared.Unpacked.{Unpacked}
 
 -- what bytes say: numbers, or the row of the first fault and the place where the faulty number begins
-pub data Decoded : Type 0 where
-  numbers : List ℕ → Decoded
-  faulty : ℕ → ℕ → Decoded
-
--- a number, and what is read after it
-unfoldable pub before : ℕ → Decoded → Decoded
-before v (numbers vs) = numbers (v ∷ vs)
-before v (faulty row at) = faulty row at
+abbrev pub Decoded : Type 0
+Decoded = Outcome (ℕ × ℕ)
 
 -- What bytes say from a place on. (A number has a byte at least, so as many steps as there are bytes and one are enough.)
 unfoldable pub decodedFrom : ℕ → List ℕ → ℕ → Decoded
@@ -25,7 +20,7 @@ decodedFrom zero s at = numbers []
 decodedFrom (suc k) s at =
     let n = read s at in
     cond (ltb at (length s))
-    (cond (eqb (n .refusal) 0) (before (n .value) (decodedFrom k s (n .place))) (faulty (n .refusal) (n .place)))
+    (cond (eqb (n .refusal) 0) (before (n .value) (decodedFrom k s (n .place))) (faulty (n .refusal, n .place)))
     (numbers [])
 
 unfoldable pub decoded : List ℕ → Decoded
@@ -50,10 +45,10 @@ refused row at = record { refusal = row; place = at; length = 0 }
 
 -- what unpacking into a lent buffer answers: the first fault (row 1 or 2), or 16 where there is too little room
 unfoldable pub unpacked : Decoded → List ℕ → Unpacked
-unpacked (faulty row at) out = refused row at
+unpacked (faulty x) out = refused (x .0) (x .1)
 unpacked (numbers vs) out = cond (leb (length (lineOf vs)) (length out)) (done (length (lineOf vs))) (refused 16 0)
 
 -- .. and what the buffer then holds
 unfoldable pub unpackedBuffer : Decoded → List ℕ → List ℕ
-unpackedBuffer (faulty row at) out = out
-unpackedBuffer (numbers vs) out = cond (leb (length (lineOf vs)) (length out)) (lineOf vs ++ drop (length (lineOf vs)) out) out
+unpackedBuffer (faulty x) out = out
+unpackedBuffer (numbers vs) out = placed (lineOf vs) out

@@ -6,7 +6,6 @@ use mathlib.Core.List.{List, [], _∷_, _++_, append-assoc, append-nil}
 use native.Mathlib.Nat.{zero-add}
 use native.Mathlib.Omega.{arith}
 use lib.ListN.{length, length-append}
-use lib.Seq.{sets-eq}
 use lib.Dec.{leb, ltb}
 use borrow.Author.Tests.{le-leb, lt-leb, ltb-true, ltb-false}
 use Rattle.base.proofs.Bools.{by, clash}
@@ -15,8 +14,10 @@ use Rattle.text.specs.Decimal.{Appended}
 use Rattle.text.proofs.Appending.{behind, said, kept}
 use Rattle.notation.specs.Tokens.{Token}
 use Rattle.notation.specs.Words.{Fault}
-use Rattle.notation.specs.Packing.{Packed, Reading, numbers, faulty, sound, before, readingFrom, reading, encoded, done, noRoom, refused, packed, packedBuffer}
+use Rattle.notation.specs.Outcomes.{numbers, faulty, before}
+use Rattle.notation.specs.Packing.{Packed, Reading, sound, readingFrom, reading, encoded, done, noRoom, refused, packed, packedBuffer}
 use Rattle.notation.specs.Parts.{Item, itemAt, checked, Fits}
+use Rattle.notation.proofs.Outcomes.{Stands, stands-first, stands-next, left, split, none-left, one-left, no-fault, fault-before, same-fault, placed-fits, placed-short}
 use Rattle.notation.proofs.Finding.{Lies}
 use Rattle.notation.proofs.Readings.{item-lies, item-fewer, item-ended, item-faulty, item-number}
 
@@ -27,74 +28,65 @@ checked-none n = let e : n ≡ n + 0 = omega arith in ap done e
 
 checked-before : (n v : ℕ) (r : Reading) → checked (n + length (bytes v)) r ≡ checked n (before v r)
 unfolding checked before encoded
-checked-before n v (faulty f t) = refl
+checked-before n v (faulty x) = refl
 checked-before n v (numbers vs) =
     let e : n + length (bytes v) + length (encoded vs) ≡ n + length (bytes v ++ encoded vs) = rw (length-append (bytes v) (encoded vs)) (omega arith) in
     ap done e
 
 -- where a pass over the tokens stands: as many steps are left as are enough
-pub record Stands (s : List ℕ) (lines at : ℕ) : Type 0 where
-  pub steps : ℕ
-  pub enough : length s < at + suc steps
-  pub inside : at ≤ length s
+pub record Walks (s : List ℕ) (lines at : ℕ) : Type 0 where
+  pub stands : Stands s at
   pub counted : lines ≤ at
 
-stands-first : (s : List ℕ) → Stands s 0 0
-stands-first s = record { steps = length s; enough = omega arith; inside = omega arith; counted = omega arith }
+unfoldable walks-first : (s : List ℕ) → Walks s 0 0
+walks-first s = record { stands = stands-first s; counted = omega arith }
 
 -- .. and after one more token
-module _ {s : List ℕ} {lines at : ℕ} (g : Stands s lines at) (i : Item) (e : i ≡ itemAt s lines at) where
+module _ {s : List ℕ} {lines at : ℕ} (g : Walks s lines at) (i : Item) (e : i ≡ itemAt s lines at) where
   pub lies : Lies s at (i .token)
-  lies = item-lies s lines at i e (g .counted) (g .inside)
+  lies = item-lies s lines at i e (g .counted) (g .stands .inside)
 
   module _ (more : i .token .from < i .token .to) where
-    left : (k : ℕ) × (g .steps ≡ suc k)
-    left = less (g .steps) (omega (arith, g .enough, lies .after, lies .inside))
-      where
-        less : (n : ℕ) → 0 < n → (k : ℕ) × (n ≡ suc k)
-        less zero h = absurd (omega arith)
-        less (suc n) h = (n, refl)
+    further : at < i .token .to
+    further = omega (arith, lies .after)
 
-    stands-next : Stands s (i .token .lines) (i .token .to)
-    stands-next =
-        record {
-          steps = left .0;
-          enough = omega (arith, g .enough, lies .after, left .1);
-          inside = lies .inside;
-          counted = omega (arith, lies .counted, lies .order);
-        }
+    rest-left : (k : ℕ) × (g .stands .steps ≡ suc k)
+    rest-left = left (g .stands) further (lies .inside)
+
+    unfoldable walks-next : Walks s (i .token .lines) (i .token .to)
+    walks-next = record { stands = stands-next (g .stands) further (lies .inside); counted = omega (arith, lies .counted, lies .order) }
 
 -- the pass that checks
 pub record Checking (s : List ℕ) (lines at n : ℕ) : Type 0 where
-  pub stands : Stands s lines at
+  pub walks : Walks s lines at
   pub fewer : n ≤ at
-  pub so-far : checked n (readingFrom (suc (stands .steps)) s lines at) ≡ checked 0 (reading s)
+  pub so-far : checked n (readingFrom (suc (walks .stands .steps)) s lines at) ≡ checked 0 (reading s)
 
 pub checking-begins : (s : List ℕ) → Checking s 0 0 0
-unfolding reading stands-first
-checking-begins s = record { stands = stands-first s; fewer = omega arith; so-far = refl }
+unfolding reading walks-first stands-first
+checking-begins s = record { walks = walks-first s; fewer = omega arith; so-far = refl }
 
 module _ {s : List ℕ} {lines at n : ℕ} (g : Checking s lines at n) (i : Item) (e : i ≡ itemAt s lines at) where
   pub checking-ended : i .token .to ≤ i .token .from → done n ≡ checked 0 (reading s)
-  checking-ended h = checked-none n ∙ ap (checked n) (sym (item-ended s lines at i e (g .stands .steps) h)) ∙ g .so-far
+  checking-ended h = checked-none n ∙ ap (checked n) (sym (item-ended s lines at i e (g .walks .stands .steps) h)) ∙ g .so-far
 
   module _ (more : i .token .from < i .token .to) where
     pub checking-refused : sound (i .word .fault) ≡ false → refused (i .word .fault) (i .token) ≡ checked 0 (reading s)
     unfolding checked
-    checking-refused f = ap (checked n) (sym (item-faulty s lines at i e (g .stands .steps) more f)) ∙ g .so-far
+    checking-refused f = ap (checked n) (sym (item-faulty s lines at i e (g .walks .stands .steps) more f)) ∙ g .so-far
 
     module _ (m : ℕ) (c : m ≡ length (bytes (i .word .value))) where
       pub checking-most : n + m ≤ i .token .to
       checking-most =
-          omega (arith, g .fewer, c, lies (g .stands) i e .after, item-fewer s lines at i e (g .stands .counted) (g .stands .inside) more)
+          omega (arith, g .fewer, c, lies (g .walks) i e .after, item-fewer s lines at i e (g .walks .counted) (g .walks .stands .inside) more)
 
       pub checking-goes-on : sound (i .word .fault) ≡ true → Checking s (i .token .lines) (i .token .to) (n + m)
-      unfolding stands-next
+      unfolding walks-next rest-left stands-next
       checking-goes-on f =
-          let k = left (g .stands) i e more in
+          let k = rest-left (g .walks) i e more in
           let rest = readingFrom (suc (k .0)) s (i .token .lines) (i .token .to) in
           record {
-            stands = stands-next (g .stands) i e more;
+            walks = walks-next (g .walks) i e more;
             fewer = checking-most;
             so-far =
                 rw c (checked-before n (i .word .value) rest) ∙
@@ -112,33 +104,21 @@ encoded-more : (p : List ℕ) (v : ℕ) → encoded (p ++ v ∷ []) ≡ encoded 
 unfolding encoded
 encoded-more p v = encoded-append p (v ∷ []) ∙ ap (λ l. encoded p ++ l) (append-nil (bytes v))
 
--- the numbers of a text with no fault
-pub none-left : (l : List ℕ) → numbers [] ≡ numbers l → l ≡ []
-none-left l h = cc
-
-pub one-left : (v : ℕ) (r : Reading) (l : List ℕ) → before v r ≡ numbers l → (m : List ℕ) × (l ≡ v ∷ m) × (r ≡ numbers m)
-unfolding before
-one-left v (numbers m) l h = (m, cc, refl)
-one-left v (faulty f t) l h = let z : _≡_ {A = ℕ} 0 1 = cc in absurd (omega arith)
-
-pub no-fault : (f : Fault) (t : Token) (l : List ℕ) → faulty f t ≡ numbers l → ⊥
-no-fault f t l h = let z : _≡_ {A = ℕ} 0 1 = cc in omega arith
-
 -- the pass that writes
 pub record Storing (s out₀ out : List ℕ) (lines at place : ℕ) : Type 0 where
-  pub stands : Stands s lines at
+  pub walks : Walks s lines at
   pub written : List ℕ
   pub rest : List ℕ
-  pub coming : readingFrom (suc (stands .steps)) s lines at ≡ numbers rest
+  pub coming : readingFrom (suc (walks .stands .steps)) s lines at ≡ numbers rest
   pub whole : reading s ≡ numbers (written ++ rest)
   pub room : length (encoded (written ++ rest)) ≤ length out₀
   pub stored : Appended out₀ 0 (encoded written) out place
 
 pub storing-begins : {s out : List ℕ} → Fits s out → Storing s out out 0 0 0
-unfolding reading encoded stands-first
+unfolding reading encoded walks-first stands-first
 storing-begins {s} {out} f =
     record {
-      stands = stands-first s;
+      walks = walks-first s;
       written = [];
       rest = f .values;
       coming = f .read;
@@ -156,23 +136,21 @@ module _ {s out₀ out : List ℕ} {lines at place : ℕ} (g : Storing s out₀ 
     unfolding packedBuffer
     storing-ended h =
         let vs = g .written in
-        let none : g .rest ≡ [] = none-left (g .rest) (sym (item-ended s lines at i e (g .stands .steps) h) ∙ g .coming) in
+        let none : g .rest ≡ [] = none-left (g .rest) (sym (item-ended s lines at i e (g .walks .stands .steps) h) ∙ g .coming) in
         let all : reading s ≡ numbers vs = g .whole ∙ rw (none, append-nil vs) in
         let fits : length (encoded vs) ≤ length out₀ = rw (none, append-nil vs) at (g .room) in
-        g .stored .content ∙
-        rw (all, le-leb (length (encoded vs)) (length out₀) fits)
-        (sets-eq (encoded vs) out₀ 0 (omega arith) ∙ rw (zero-add (length (encoded vs))))
+        g .stored .content ∙ rw all (placed-fits (encoded vs) out₀ fits)
 
     module _ (more : i .token .from < i .token .to) where
       -- there is a number, and what comes after it
       next : (m : List ℕ) × (g .rest ≡ i .word .value ∷ m) ×
-          (readingFrom (g .stands .steps) s (i .token .lines) (i .token .to) ≡ numbers m)
+          (readingFrom (g .walks .stands .steps) s (i .token .lines) (i .token .to) ≡ numbers m)
       next =
           by (sound (i .word .fault))
-          (λ f. one-left (i .word .value) (readingFrom (g .stands .steps) s (i .token .lines) (i .token .to)) (g .rest)
-          (sym (item-number s lines at i e (g .stands .steps) more f) ∙ g .coming))
-          (λ f. absurd (no-fault (i .word .fault) (i .token) (g .rest)
-          (sym (item-faulty s lines at i e (g .stands .steps) more f) ∙ g .coming)))
+          (λ f. one-left (i .word .value) (readingFrom (g .walks .stands .steps) s (i .token .lines) (i .token .to)) (g .rest)
+          (sym (item-number s lines at i e (g .walks .stands .steps) more f) ∙ g .coming))
+          (λ f. absurd (no-fault (i .word .fault, i .token) (g .rest)
+          (sym (item-faulty s lines at i e (g .walks .stands .steps) more f) ∙ g .coming)))
 
       abbrev v : ℕ
       v = i .word .value
@@ -193,13 +171,13 @@ module _ {s out₀ out : List ℕ} {lines at place : ℕ} (g : Storing s out₀ 
 
       pub storing-goes-on : {out′ : List ℕ} {n : ℕ} → Appended out place (bytes v) out′ n
           → Storing s out₀ out′ (i .token .lines) (i .token .to) n
-      unfolding stands-next
+      unfolding walks-next rest-left stands-next
       storing-goes-on x =
-          let k = left (g .stands) i e more in
+          let k = rest-left (g .walks) i e more in
           let joined : g .written ++ g .rest ≡ (g .written ++ v ∷ []) ++ next .0 =
           ap (λ l. g .written ++ l) (next .1) ∙ sym (append-assoc (g .written) (v ∷ []) (next .0)) in
           record {
-            stands = stands-next (g .stands) i e more;
+            walks = walks-next (g .walks) i e more;
             written = g .written ++ v ∷ [];
             rest = next .0;
             coming = ap (λ n. readingFrom n s (i .token .lines) (i .token .to)) (sym (k .1)) ∙ next .2;
@@ -208,32 +186,16 @@ module _ {s out₀ out : List ℕ} {lines at place : ℕ} (g : Storing s out₀ 
             stored = said (sym (encoded-more (g .written) v)) (behind (g .stored) x);
           }
 
--- what a text says is its numbers or a fault
-pub split : {A : Type 0} (r : Reading) → ((vs : List ℕ) → r ≡ numbers vs → A) → ((f : Fault) (t : Token) → r ≡ faulty f t → A) → A
-split (numbers vs) y n = y vs refl
-split (faulty f t) y n = n f t refl
-
-same-fault : {f g : Fault} {t u : Token} → faulty f t ≡ faulty g u → f ≡ g
-same-fault h = cc
-
-same-token : {f g : Fault} {t u : Token} → faulty f t ≡ faulty g u → t ≡ u
-same-token h = cc
-
--- .. and the fault is one, at a token in the text
-proper-before : (v : ℕ) (r : Reading) (f : Fault) (t : Token) → before v r ≡ faulty f t → r ≡ faulty f t
-unfolding before
-proper-before v (numbers vs) f t h = let z : _≡_ {A = ℕ} 0 1 = cc in absurd (omega arith)
-proper-before v (faulty g u) f t h = h
-
+-- a fault of a text is one, at a token in the text
 pub record Proper (s : List ℕ) (f : Fault) (t : Token) : Type 0 where
   pub unsound : sound f ≡ false
   pub order : t .from ≤ t .to
   pub inside : t .to ≤ length s
 
-proper : (k : ℕ) (s : List ℕ) (lines at : ℕ) (f : Fault) (t : Token) → lines ≤ at → at ≤ length s → readingFrom k s lines at ≡ faulty f t
+proper : (k : ℕ) (s : List ℕ) (lines at : ℕ) (f : Fault) (t : Token) → lines ≤ at → at ≤ length s → readingFrom k s lines at ≡ faulty (f, t)
     → Proper s f t
 unfolding readingFrom
-proper zero s lines at f t l m h = absurd (no-fault f t [] (sym h))
+proper zero s lines at f t l m h = absurd (no-fault (f, t) [] (sym h))
 proper (suc k) s lines at f t l m h =
     let i = itemAt s lines at in
     let x = item-lies s lines at i refl l m in
@@ -242,18 +204,18 @@ proper (suc k) s lines at f t l m h =
     let more = ltb-true (i .token .from) (i .token .to) e in
     by (sound (i .word .fault))
     (λ g. proper k s (i .token .lines) (i .token .to) f t (omega (arith, x .counted, x .order)) (x .inside)
-    (proper-before (i .word .value) (readingFrom k s (i .token .lines) (i .token .to)) f t (sym (item-number s lines at i refl k more g) ∙ h)))
+    (fault-before (i .word .value) (readingFrom k s (i .token .lines) (i .token .to)) (f, t) (sym (item-number s lines at i refl k more g) ∙ h)))
     (λ g.
-    let same = sym (item-faulty s lines at i refl k more g) ∙ h in
-    let u : i .token ≡ t = same-token same in
+    let same : (i .word .fault, i .token) ≡ (f, t) = same-fault (sym (item-faulty s lines at i refl k more g) ∙ h) in
+    let u : i .token ≡ t = ap (λ x. x .1) same in
     record {
-      unsound = ap sound (sym (same-fault same)) ∙ g;
+      unsound = ap (λ x. sound (x .0)) (sym same) ∙ g;
       order = rw u at (x .order);
       inside = rw u at (x .inside);
     }))
-    (λ e. absurd (no-fault f t [] (sym (sym (item-ended s lines at i refl k (ltb-false (i .token .from) (i .token .to) e)) ∙ h))))
+    (λ e. absurd (no-fault (f, t) [] (sym (sym (item-ended s lines at i refl k (ltb-false (i .token .from) (i .token .to) e)) ∙ h))))
 
-pub reading-proper : (s : List ℕ) (f : Fault) (t : Token) → reading s ≡ faulty f t → Proper s f t
+pub reading-proper : (s : List ℕ) (f : Fault) (t : Token) → reading s ≡ faulty (f, t) → Proper s f t
 unfolding reading
 reading-proper s f t h = proper (suc (length s)) s 0 0 f t (omega arith) (omega arith) h
 
@@ -267,7 +229,7 @@ module _ (s out : List ℕ) (a : Packed) (e : a ≡ checked 0 (reading s)) where
   pack-refused h =
       split (reading s)
       (λ vs q. absurd (clash refl (ap (λ r. sound (checked 0 r .fault)) (sym q) ∙ ap (λ p. sound (p .fault)) (sym e) ∙ h)))
-      (λ f t q. (e ∙ ap (checked 0) q ∙ ap (λ r. packed r out) (sym q), ap (λ r. packedBuffer r out) (sym q)))
+      (λ x q. (e ∙ ap (checked 0) q ∙ ap (λ r. packed r out) (sym q), ap (λ r. packedBuffer r out) (sym q)))
 
   module _ (h : sound (a .fault) ≡ true) where
     -- the numbers, and how many bytes they take
@@ -276,7 +238,7 @@ module _ (s out : List ℕ) (a : Packed) (e : a ≡ checked 0 (reading s)) where
     accepted =
         split (reading s)
         (λ vs q. (vs, q, e ∙ ap (checked 0) q ∙ ap done (zero-add (length (encoded vs)))))
-        (λ f t q. absurd (clash (ap (λ r. sound (checked 0 r .fault)) (sym q) ∙ ap (λ p. sound (p .fault)) (sym e) ∙ h) (reading-proper s f t q .unsound)))
+        (λ x q. absurd (clash (ap (λ r. sound (checked 0 r .fault)) (sym q) ∙ ap (λ p. sound (p .fault)) (sym e) ∙ h) (reading-proper s (x .0) (x .1) q .unsound)))
 
     counted : a .length ≡ length (encoded (accepted .0))
     unfolding done
@@ -286,8 +248,8 @@ module _ (s out : List ℕ) (a : Packed) (e : a ≡ checked 0 (reading s)) where
     unfolding packed packedBuffer
     pack-short l =
         let vs = accepted .0 in
-        let x : leb (length (encoded vs)) (length out) ≡ false = lt-leb (length (encoded vs)) (length out) (omega (arith, counted, l)) in
-        rw (accepted .1, x) (refl, refl)
+        let short : length out < length (encoded vs) = omega (arith, counted, l) in
+        rw (accepted .1) (rw (lt-leb (length (encoded vs)) (length out) short), placed-short (encoded vs) out short)
 
     module _ (l : a .length ≤ length out) where
       pub pack-fits : Fits s out

@@ -12,11 +12,12 @@ use Rattle.varint.specs.Varint.{bytes}
 use Rattle.text.specs.Decimal.{ascii}
 use Rattle.notation.specs.Tokens.{separator, ends, comment, newlines, beginning, run, tokenAt, bytesOf}
 use Rattle.notation.specs.Words.{isDigit, allDigits, valueFrom, wordFrom, wordOf}
-use Rattle.notation.specs.Packing.{numbers, sound, before, readingFrom, reading, encoded, refused, packed}
+use Rattle.notation.specs.Outcomes.{numbers, before}
+use Rattle.notation.specs.Packing.{sound, readingFrom, reading, encoded, refused, packed}
 use Rattle.notation.specs.Parts.{itemAt}
 use Rattle.notation.specs.Claims.{NeverLonger, RoomInText, ReadSmall, CasesRead}
 use Rattle.notation.proofs.Readings.{item-lies, item-small, item-fewer, item-ended, item-faulty, item-number}
-use Rattle.notation.proofs.Checks.{none-left, one-left, no-fault}
+use Rattle.notation.proofs.Outcomes.{none-left, one-left, no-fault}
 
 -- the numbers from a place on take no more bytes than stand there, and each is small
 pub record Numbers (s : List ℕ) (at : ℕ) (vs : List ℕ) : Type 0 where
@@ -50,7 +51,7 @@ all-numbers (suc k) s lines at vs h l e =
       fewer = omega (arith, r .fewer, g .after, item-fewer s lines at i refl h l more, length-append (bytes (i .word .value)) (encoded (o .0)));
       small = small-more (i .word .value) (o .0) (item-small s lines at i refl) (r .small);
     }))
-    (λ f. absurd (no-fault (i .word .fault) (i .token) vs (sym (item-faulty s lines at i refl k more f) ∙ e))))
+    (λ f. absurd (no-fault (i .word .fault, i .token) vs (sym (item-faulty s lines at i refl k more f) ∙ e))))
     (λ t. none-numbers s at vs l (none-left vs (sym (item-ended s lines at i refl k (ltb-false (i .token .from) (i .token .to) t)) ∙ e)))
 
 text-numbers : (s vs : List ℕ) → reading s ≡ numbers vs → Numbers s 0 vs

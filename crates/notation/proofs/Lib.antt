@@ -1,3 +1,4 @@
+pub mod Outcomes
 pub mod Finding
 pub mod Values
 pub mod Readings

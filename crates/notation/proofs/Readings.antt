@@ -13,7 +13,8 @@ use Rattle.varint.specs.Varint.{bytes}
 use Rattle.varint.proofs.Laws.{bytes-one, bytes-two, bytes-three}
 use Rattle.notation.specs.Tokens.{tokenAt, bytesOf}
 use Rattle.notation.specs.Words.{largest, isDigit, allDigits, valueFrom, wordFrom, wordOf}
-use Rattle.notation.specs.Packing.{numbers, faulty, sound, before, readingFrom, reading}
+use Rattle.notation.specs.Outcomes.{numbers, faulty, before}
+use Rattle.notation.specs.Packing.{sound, readingFrom}
 use Rattle.notation.specs.Parts.{Item, itemAt}
 use Rattle.notation.proofs.Finding.{Lies, token-lies}
 use Rattle.notation.proofs.Values.{digit-high}
@@ -129,7 +130,7 @@ module _ (s : List ℕ) (lines at : ℕ) (i : Item) (e : i ≡ itemAt s lines at
     item-ended = rw e (λ h. rw (le-ltb (tokenAt s lines at .from) (tokenAt s lines at .to) h))
 
     pub item-faulty : i .token .from < i .token .to → sound (i .word .fault) ≡ false
-        → readingFrom (suc k) s lines at ≡ faulty (i .word .fault) (i .token)
+        → readingFrom (suc k) s lines at ≡ faulty (i .word .fault, i .token)
     unfolding itemAt readingFrom
     item-faulty = rw e (λ h f. rw (lt-ltb (tokenAt s lines at .from) (tokenAt s lines at .to) h, f))
 

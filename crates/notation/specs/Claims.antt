@@ -6,7 +6,8 @@ use mathlib.Core.List.{List, [], _∷_}
 use lib.ListN.{length, getD}
 use Rattle.text.specs.Decimal.{ascii}
 use Rattle.notation.specs.Words.{Fault}
-use Rattle.notation.specs.Packing.{numbers, reading, encoded, done, packed}
+use Rattle.notation.specs.Outcomes.{numbers}
+use Rattle.notation.specs.Packing.{reading, encoded, done, packed}
 use Rattle.notation.specs.declared.Fault.the-variants.{NotNumber, TooLarge}
 
 -- what is packed is never longer than the text, ..

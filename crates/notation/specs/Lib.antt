@@ -1,3 +1,4 @@
+pub mod Outcomes
 pub mod Tokens
 pub mod Words
 pub mod Packing

@@ -2,29 +2,24 @@
 use Prim.Native.Nat.{ℕ, zero, suc, _+_}
 use mathlib.Core.Bool.{Bool, true, false, cond}
 use mathlib.Core.List.{List, [], _∷_, _++_}
-use lib.ListN.{length, drop}
+use lib.ListN.{length}
 use lib.Dec.{ltb, leb}
 use Rattle.varint.specs.Varint.{bytes}
+use Rattle.notation.specs.Outcomes.{Outcome, numbers, faulty, before, placed}
 use Rattle.notation.specs.Tokens.{Token, tokenAt, bytesOf}
 use Rattle.notation.specs.Words.{Fault, wordOf}
 pub use Rattle.notation.specs.declared.Packed.{Packed}
 use Rattle.notation.specs.declared.Fault.the-variants.{None, NotNumber, TooLarge, NoRoom}
 
 -- what a text says: its numbers, or its first fault and the token where it stands
-pub data Reading : Type 0 where
-  numbers : List ℕ → Reading
-  faulty : Fault → Token → Reading
+abbrev pub Reading : Type 0
+Reading = Outcome (Fault × Token)
 
 unfoldable pub sound : Fault → Bool
 sound None = true
 sound NotNumber = false
 sound TooLarge = false
 sound NoRoom = false
-
--- a number, and what is read after it
-unfoldable pub before : ℕ → Reading → Reading
-before v (numbers vs) = numbers (v ∷ vs)
-before v (faulty f t) = faulty f t
 
 -- What a text says from a place on, with so many lines ended before it. (A token has a byte at least, so as many steps as there
 -- are bytes and one are enough.)
@@ -34,7 +29,7 @@ readingFrom (suc k) s lines at =
     let t = tokenAt s lines at in
     let w = wordOf (bytesOf s t) in
     cond (ltb (t .from) (t .to))
-    (cond (sound (w .fault)) (before (w .value) (readingFrom k s (t .lines) (t .to))) (faulty (w .fault) t))
+    (cond (sound (w .fault)) (before (w .value) (readingFrom k s (t .lines) (t .to))) (faulty (w .fault, t)))
     (numbers [])
 
 unfoldable pub reading : List ℕ → Reading
@@ -57,10 +52,10 @@ refused f t = record { fault = f; line = t .lines + 1; from = t .from; to = t .t
 
 -- what packing into a lent buffer answers
 unfoldable pub packed : Reading → List ℕ → Packed
-packed (faulty f t) out = refused f t
+packed (faulty x) out = refused (x .0) (x .1)
 packed (numbers vs) out = cond (leb (length (encoded vs)) (length out)) (done (length (encoded vs))) noRoom
 
 -- .. and what the buffer then holds
 unfoldable pub packedBuffer : Reading → List ℕ → List ℕ
-packedBuffer (faulty f t) out = out
-packedBuffer (numbers vs) out = cond (leb (length (encoded vs)) (length out)) (encoded vs ++ drop (length (encoded vs)) out) out
+packedBuffer (faulty x) out = out
+packedBuffer (numbers vs) out = placed (encoded vs) out

@@ -7,7 +7,8 @@ use lib.ListN.{length}
 use lib.Dec.{ltb}
 use Rattle.notation.specs.Tokens.{tokenAt, bytesOf}
 use Rattle.notation.specs.Words.{largest, wordOf}
-use Rattle.notation.specs.Packing.{Packed, Reading, numbers, faulty, reading, encoded, done, refused}
+use Rattle.notation.specs.Outcomes.{numbers, faulty}
+use Rattle.notation.specs.Packing.{Packed, Reading, reading, encoded, done, refused}
 pub use Rattle.notation.specs.declared.Item.{Item}
 
 -- a number, and one more than the largest for all above it
@@ -20,7 +21,7 @@ itemAt s lines at = let t = tokenAt s lines at in record { token = t; word = wor
 
 -- the first fault, or how many bytes packing takes, after n of them
 unfoldable pub checked : ℕ → Reading → Packed
-checked n (faulty f t) = refused f t
+checked n (faulty x) = refused (x .0) (x .1)
 checked n (numbers vs) = done (n + length (encoded vs))
 
 -- a text has no fault, and there is room for its numbers

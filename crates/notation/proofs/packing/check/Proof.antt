@@ -18,13 +18,13 @@ loop-holds : tie.Need-loop-holds Inv-loop μ-loop
 loop-holds c = checking-begins _
 
 next-item-requires : tie.Need-next-item-requires Inv-loop μ-loop
-next-item-requires c κs = (c .loop .inv .stands .counted, c .loop .inv .stands .inside)
+next-item-requires c κs = (c .loop .inv .walks .counted, c .loop .inv .walks .stands .inside)
 
 sound-requires : tie.Need-sound-requires Inv-loop μ-loop
 sound-requires c κs = search needs
 
 refused-requires : tie.Need-refused-requires Inv-loop μ-loop
-refused-requires c κs = omega (arith, lies (c .before .before .before .before .before .before .before .loop .inv .stands) _ (c .before .before .before .before .before .before .next-item .ensures) .counted, c .before .before .if1 .left)
+refused-requires c κs = omega (arith, lies (c .before .before .before .before .before .before .before .loop .inv .walks) _ (c .before .before .before .before .before .before .next-item .ensures) .counted, c .before .before .if1 .left)
 
 returns : tie.Need-returns Inv-loop μ-loop
 returns c = c .refused .ensures ∙ checking-refused (c .before .before .before .before .before .before .before .before .loop .inv) _ (c .before .before .before .before .before .before .before .next-item .ensures) (c .before .before .before .if1 .left) (sym (c .before .before .sound .ensures) ∙ not-true _ (c .before .if2 .taken))
@@ -33,10 +33,10 @@ groups-requires : tie.Need-groups-requires Inv-loop μ-loop
 groups-requires c κs = item-small _ _ _ _ (c .before .before .before .before .before .before .next-item .ensures)
 
 add-length : tie.Need-add-length Inv-loop μ-loop
-add-length c = omega (arith, checking-most (c .before .before .before .before .before .before .before .before .loop .inv) _ (c .before .before .before .before .before .before .before .next-item .ensures) (c .before .before .before .if1 .left) _ (c .groups .ensures), lies (c .before .before .before .before .before .before .before .before .loop .inv .stands) _ (c .before .before .before .before .before .before .before .next-item .ensures) .inside, c .before .before .before .before .before .before .before .before .before .before .good)
+add-length c = omega (arith, checking-most (c .before .before .before .before .before .before .before .before .loop .inv) _ (c .before .before .before .before .before .before .before .next-item .ensures) (c .before .before .before .if1 .left) _ (c .groups .ensures), lies (c .before .before .before .before .before .before .before .before .loop .inv .walks) _ (c .before .before .before .before .before .before .before .next-item .ensures) .inside, c .before .before .before .before .before .before .before .before .before .before .good)
 
 loop-less : tie.Need-loop-less Inv-loop μ-loop
-loop-less c = omega (arith, lies (c .before .before .before .before .before .before .before .before .loop .inv .stands) _ (c .before .before .before .before .before .before .before .next-item .ensures) .after, lies (c .before .before .before .before .before .before .before .before .loop .inv .stands) _ (c .before .before .before .before .before .before .before .next-item .ensures) .inside, c .before .before .before .if1 .left)
+loop-less c = omega (arith, lies (c .before .before .before .before .before .before .before .before .loop .inv .walks) _ (c .before .before .before .before .before .before .before .next-item .ensures) .after, lies (c .before .before .before .before .before .before .before .before .loop .inv .walks) _ (c .before .before .before .before .before .before .before .next-item .ensures) .inside, c .before .before .before .if1 .left)
 
 loop-again : tie.Need-loop-again Inv-loop μ-loop
 loop-again c = checking-goes-on (c .before .before .before .before .before .before .before .before .loop .inv) _ (c .before .before .before .before .before .before .before .next-item .ensures) (c .before .before .before .if1 .left) _ (c .groups .ensures) (sym (c .before .before .sound .ensures) ∙ not-false _ (c .before .if2 .left))

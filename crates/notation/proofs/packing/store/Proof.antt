@@ -16,13 +16,13 @@ loop-holds : tie.Need-loop-holds Inv-loop μ-loop
 loop-holds c = storing-begins (c .before .before .pre)
 
 next-item-requires : tie.Need-next-item-requires Inv-loop μ-loop
-next-item-requires c κs = (c .loop .inv .stands .counted, c .loop .inv .stands .inside)
+next-item-requires c κs = (c .loop .inv .walks .counted, c .loop .inv .walks .stands .inside)
 
 write-at-requires : tie.Need-write-at-requires Inv-loop μ-loop
 write-at-requires c κs = (item-small _ _ _ _ (c .before .before .before .before .before .next-item .ensures), storing-room (c .before .before .before .before .before .before .loop .inv) _ (c .before .before .before .before .before .next-item .ensures) (c .before .if1 .left))
 
 loop-less : tie.Need-loop-less Inv-loop μ-loop
-loop-less c = omega (arith, lies (c .before .before .before .before .before .before .before .before .before .loop .inv .stands) _ (c .before .before .before .before .before .before .before .before .next-item .ensures) .after, lies (c .before .before .before .before .before .before .before .before .before .loop .inv .stands) _ (c .before .before .before .before .before .before .before .before .next-item .ensures) .inside, c .before .before .before .before .if1 .left)
+loop-less c = omega (arith, lies (c .before .before .before .before .before .before .before .before .before .loop .inv .walks) _ (c .before .before .before .before .before .before .before .before .next-item .ensures) .after, lies (c .before .before .before .before .before .before .before .before .before .loop .inv .walks) _ (c .before .before .before .before .before .before .before .before .next-item .ensures) .inside, c .before .before .before .before .if1 .left)
 
 loop-again : tie.Need-loop-again Inv-loop μ-loop
 loop-again c = storing-goes-on (c .before .before .before .before .before .before .before .before .before .loop .inv) _ (c .before .before .before .before .before .before .before .before .next-item .ensures) (c .before .before .before .before .if1 .left) (c .before .before .write-at .ensures)
