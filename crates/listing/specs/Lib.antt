@@ -1,0 +1,3 @@
+pub mod Unpacking
+pub mod Parts
+pub mod Claims

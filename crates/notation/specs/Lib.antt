@@ -1,0 +1,6 @@
+pub mod Outcomes
+pub mod Tokens
+pub mod Words
+pub mod Packing
+pub mod Parts
+pub mod Claims

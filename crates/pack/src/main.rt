@@ -1,0 +1,30 @@
+// The program `pack`: reads decimal numbers as text and writes them in seven-bit groups, or a line on standard error.
+ghost use mathlib.Core.Path.{_≡_};
+ghost use lib.ListN.{replicate};
+
+// Zeros, behind a name of their own: the prover writes out a long array where it stands.
+
+// Room for one byte more than a text may have.
+fn text_room() -> [u8; 262145]
+    ensures { λ r. ⌜ r ≡ replicate 262145 0 ⌝ }
+{
+    [0; 262145]
+}
+
+fn byte_room() -> [u8; 262144]
+    ensures { λ r. ⌜ r ≡ replicate 262144 0 ⌝ }
+{
+    [0; 262144]
+}
+
+fn main() {
+    let mut input = text_room();
+    let count = io::read_full(0, &mut input);
+    let mut out = byte_room();
+    let mut note = [0u8; 96];
+    let written = conversion::pack_input(&input[..count], &mut out, &mut note);
+    let bytes = written.bytes;
+    let said = written.note;
+    io::write_all(1, &out[..bytes]);
+    io::write_all(2, &note[..said]);
+}
