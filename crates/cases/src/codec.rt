@@ -47,7 +47,7 @@ fn show_automaton(a: Automaton) {
 }
 
 // What reading a sheet gives.
-fn read_sheet(label: &[u8], s: &[u8]) -> Automaton {
+fn read_automaton(label: &[u8], s: &[u8]) -> Automaton {
     text(label);
     let p = encoding::read(s);
     let a = p.automaton;
@@ -60,7 +60,7 @@ fn read_sheet(label: &[u8], s: &[u8]) -> Automaton {
 }
 
 // What writing a record into a buffer gives, and the buffer afterwards.
-fn write_sheet(label: &[u8], a: Automaton, room: &mut [u8]) {
+fn write_automaton(label: &[u8], a: Automaton, room: &mut [u8]) {
     text(label);
     let w = encoding::write(a, room);
     refusal(w.refusal);
@@ -72,7 +72,7 @@ fn write_sheet(label: &[u8], a: Automaton, room: &mut [u8]) {
 fn write_into(label: &[u8], a: Automaton, room: usize) {
     let mut out = [9u8; 64];
     if room <= 64 {
-        write_sheet(label, a, &mut out[..room]);
+        write_automaton(label, a, &mut out[..room]);
     }
 }
 
@@ -108,7 +108,7 @@ pub fn case(word: u8, label: &[u8], values: &[u32], s: &[u8], a: Automaton) -> A
             write_number(nth(values, 0, 0));
             a
         }
-        b's' => read_sheet(label, s),
+        b's' => read_automaton(label, s),
         b'u' => encoding::read(s).automaton,
         b'o' => overwritten(a, nth(values, 0, 0) as usize, nth_byte(s, 1)),
         b'w' => {

@@ -28,7 +28,7 @@ fn greatest(i: usize, next: usize, state: u8) -> u8 {
 }
 
 // The next sheet of the same shape: the flags (from place `flags` on) and the next states counted up. No after the last.
-fn next_sheet(s: &mut [u8], state: u8, flags: usize, next: usize) -> bool {
+fn next_encoding(s: &mut [u8], state: u8, flags: usize, next: usize) -> bool {
     let mut i = s.len();
     while flags < i {
         i = i - 1;
@@ -101,7 +101,7 @@ fn all_agree(a: Automaton, table: &[u32; 32], buffers: usize, first: u8, last: u
 }
 
 // Whether the game agrees with the solver on a sheet.
-fn sheet_agrees(s: &[u8], first: u8, last: u8) -> bool {
+fn solver_agrees(s: &[u8], first: u8, last: u8) -> bool {
     let a = encoding::read(s).automaton;
     let buffers = winning::buffers_count(a).count;
     let mut table = [0u32; 32];
@@ -131,10 +131,10 @@ fn compared(s: &mut [u8], shape: Shape, total: usize) -> Agreed {
     let mut more = true;
     let mut i: usize = 0;
     while i < total {
-        if !sheet_agrees(s, shape.first, shape.last) {
+        if !solver_agrees(s, shape.first, shape.last) {
             break;
         }
-        more = next_sheet(s, shape.state, shape.flags, shape.next);
+        more = next_encoding(s, shape.state, shape.flags, shape.next);
         i = i + 1;
     }
     Agreed { count: i, more }
@@ -181,11 +181,11 @@ fn many(label: &[u8], values: &[u32], s: &[u8]) {
     if values.len() < 2 {
         return;
     }
-    let mut first_sheet = [0u8; 32];
-    let length = as_bytes(&values[2..], &mut first_sheet);
+    let mut bytes = [0u8; 32];
+    let length = as_bytes(&values[2..], &mut bytes);
     every(
         label,
-        &mut first_sheet[..length],
+        &mut bytes[..length],
         nth(values, 0, 0) as usize,
         nth_byte(s, 1),
     );

@@ -1,13 +1,13 @@
 // The test program. Standard input has a case on each line (script.rt says how a line is read); the program runs the calls on it and
 // prints what came out.
 mod codec;
-mod days;
 mod events;
 mod games;
 mod line;
 mod script;
 mod show;
 mod solver;
+mod transcripts;
 
 fn main() {
     let mut text = [0u8; 32768];

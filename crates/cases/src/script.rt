@@ -1,17 +1,22 @@
-// The lines of the input. A line is a word, of which the first letter says what is run; a label, which is printed before what came
-// out; and after its last colon numbers in decimal, where `V*N` is V, N times. What a line leaves is there for the lines after it.
-//   number: BYTES        the number that the bytes begin with    put: V               a number written
-//   sheet LABEL: BYTES   a sheet read                            use LABEL: BYTES     the same, without a word
-//   overwrite: I V       number I of the record becomes V        write LABEL: ROOM    the record written
-//   count LABEL:         how many buffers                        table LABEL: PLACES  the solver, over a table of 9s
-//   lend: PLACES         the same, without a word                bits: NUMBERS        a table of these numbers
-//   initial LABEL:       the initial configuration               fresh:               the same, without a word
-//   at: Q H BUFFER       a configuration                         guarded LABEL:       whether it is winning
-//   event LABEL: EVENTS  one event after the other               run LABEL: ROOM EVENTS  a whole day
-//   judge LABEL:         the game                                many LABEL: COUNT FIRST BYTES  .. against the solver, on all sheets of a shape
-//   day LABEL: BYTES     what the day program prints             volume LABEL: BYTES  .. and how many bytes that is
+// The lines of the input. A line is a word, whose first letter says what is run; a label, which is printed before what came out; and
+// after the last colon numbers in decimal, where `V*N` is V, N times. A line leaves a record, a table and a configuration to the next.
+//   number: BYTES                   the number that the bytes begin with
+//   put: V                          a number, written
+//   sheet LABEL: BYTES              a sheet, read (`use`: without a word)
+//   overwrite: I V                  number I of the record becomes V
+//   write LABEL: ROOM               the record, written
+//   count LABEL:                    how many buffers there are
+//   table LABEL: PLACES             the solver, over a table of 9s (`lend`: without a word)
+//   bits: NUMBERS                   a table of these numbers
+//   initial LABEL:                  the initial configuration (`fresh`: without a word)
+//   at: Q H BUFFER                  a configuration
+//   guarded LABEL:                  whether it is winning
+//   event LABEL: EVENTS             one event after the other
+//   run LABEL: ROOM EVENTS          a whole day
+//   judge LABEL:                    the game
+//   many LABEL: COUNT FIRST BYTES   the game against the solver, on so many sheets of a shape, controllable from FIRST on
+//   day LABEL: BYTES                what the day program prints (`volume`: only how many bytes)
 use crate::codec;
-use crate::days;
 use crate::events;
 use crate::games;
 use crate::line::find;
@@ -20,6 +25,7 @@ use crate::line::label_start;
 use crate::line::line_after;
 use crate::line::parse;
 use crate::solver;
+use crate::transcripts;
 use automaton::Automaton;
 use configuration::Configuration;
 
@@ -52,7 +58,7 @@ fn step(
         &table[..places],
         left.configuration,
     );
-    days::case(word, label, bytes);
+    transcripts::case(word, label, bytes);
     games::case(word, label, values, bytes, a, c);
     Left {
         automaton: a,

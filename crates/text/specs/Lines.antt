@@ -5,17 +5,17 @@ use mathlib.Core.List.{List, [], _∷_, _++_}
 use Rattle.text.specs.Decimal.{ascii, decimal}
 
 -- whether guarded, up to the line's end
-unfoldable pub guardedEnd : Bool → List ℕ
-guardedEnd g = ascii " guarded " ++ (cond g (ascii "yes") (ascii "no") ++ ascii "\n")
+unfoldable pub winningEnd : Bool → List ℕ
+winningEnd g = ascii " guarded " ++ (cond g (ascii "yes") (ascii "no") ++ ascii "\n")
 
 -- n, m, B, the start, and whether fresh is guarded
-unfoldable pub sheetLine : ℕ → ℕ → ℕ → ℕ → Bool → List ℕ
-sheetLine n m b q g =
+unfoldable pub automatonLine : ℕ → ℕ → ℕ → ℕ → Bool → List ℕ
+automatonLine n m b q g =
     ascii "sheet " ++ (decimal n ++
     (ascii " " ++ (decimal m ++
     (ascii " " ++ (decimal b ++
     (ascii " start " ++ (decimal q ++
-    guardedEnd g)))))))
+    winningEnd g)))))))
 
 -- symbols (document 01's kinds), each with a space before it
 unfoldable pub spaced : List ℕ → List ℕ
@@ -34,7 +34,7 @@ eventLine e out q h g =
     (ascii " out" ++ (emission out ++
     (ascii " state " ++ (decimal q ++
     (ascii " held " ++ (decimal h ++
-    guardedEnd g)))))))
+    winningEnd g)))))))
 
 -- a refused event
 unfoldable pub refusedEventLine : ℕ → ℕ → List ℕ

@@ -2,12 +2,12 @@
 // function answers the place after what it stored, and asks for the room that its text takes.
 mod lines;
 
+pub use lines::automaton_line;
 pub use lines::end_line;
 pub use lines::event_line;
 pub use lines::fault_line;
 pub use lines::refusal_line;
 pub use lines::refused_event_line;
-pub use lines::sheet_line;
 ghost use mathlib.Core.List.{_++_};
 ghost use Prim.Native.Nat.{_+_, _≤_};
 ghost use lib.ListN.{length};

@@ -5,27 +5,27 @@ use crate::word;
 ghost use Prim.Native.Nat.{_+_, _*_, _≤_};
 ghost use lib.ListN.{length, take};
 ghost use Rattle.text.specs.Decimal.{Appended};
-ghost use Rattle.text.specs.Lines.{guardedEnd, sheetLine, spaced, emission, eventLine, refusedEventLine, endLine, faultLine, refusalLine, lineRoom};
+ghost use Rattle.text.specs.Lines.{winningEnd, automatonLine, spaced, emission, eventLine, refusedEventLine, endLine, faultLine, refusalLine, lineRoom};
 
-fn guarded_end(out: &mut [u8], at: usize, guarded: bool) -> usize
+fn winning_end(out: &mut [u8], at: usize, winning: bool) -> usize
     requires { ⌜ at + 13 ≤ length (now out) ⌝ }
-    ensures { λ r. ⌜ Appended (now (out .entry)) at (guardedEnd guarded) (now (out .exit)) r ⌝ }
+    ensures { λ r. ⌜ Appended (now (out .entry)) at (winningEnd winning) (now (out .exit)) r ⌝ }
 {
-    if guarded {
+    if winning {
         return word(out, at, b" guarded yes\n");
     }
     word(out, at, b" guarded no\n")
 }
 
-pub fn sheet_line(out: &mut [u8], at: usize, n: u8, m: u8, b: u8, q: u8, guarded: bool) -> usize
+pub fn automaton_line(out: &mut [u8], at: usize, n: u8, m: u8, b: u8, q: u8, winning: bool) -> usize
     requires { ⌜ at + lineRoom ≤ length (now out) ⌝ }
-    ensures { λ r. ⌜ Appended (now (out .entry)) at (sheetLine n m b q guarded) (now (out .exit)) r ⌝ }
+    ensures { λ r. ⌜ Appended (now (out .entry)) at (automatonLine n m b q winning) (now (out .exit)) r ⌝ }
 {
     let states = labelled(out, at, b"sheet ", n as usize);
     let symbols = labelled(out, states, b" ", m as usize);
     let capacity = labelled(out, symbols, b" ", b as usize);
     let initial = labelled(out, capacity, b" start ", q as usize);
-    guarded_end(out, initial, guarded)
+    winning_end(out, initial, winning)
 }
 
 // The first `count` symbols of a list, each with a space before it.
@@ -61,17 +61,17 @@ pub fn event_line(
     count: usize,
     q: u8,
     held: u8,
-    guarded: bool,
+    winning: bool,
 ) -> usize
     requires { ⌜ (count ≤ 7) × (at + lineRoom ≤ length (now out)) ⌝ }
-    ensures { λ r. ⌜ Appended (now (out .entry)) at (eventLine event (take count list) q held guarded) (now (out .exit)) r ⌝ }
+    ensures { λ r. ⌜ Appended (now (out .entry)) at (eventLine event (take count list) q held winning) (now (out .exit)) r ⌝ }
 {
     let received = labelled(out, at, b"in ", event as usize);
     let label = word(out, received, b" out");
     let emitted = emission(out, label, list, count);
     let state = labelled(out, emitted, b" state ", q as usize);
     let buffer = labelled(out, state, b" held ", held as usize);
-    guarded_end(out, buffer, guarded)
+    winning_end(out, buffer, winning)
 }
 
 pub fn refused_event_line(out: &mut [u8], at: usize, event: u32, row: u8) -> usize

@@ -23,12 +23,12 @@ use Rattle.winning.specs.Solving.{solveRefusal, solution, solvedTable}
 use Rattle.configuration.specs.declared.Start.{Start}
 use Rattle.configuration.specs.Configuration.{initialAnswer}
 use Rattle.text.specs.Lines.{faultLine, refusalLine}
-use Rattle.transcript.specs.Transcript.{Run, sheetAt, opening, runFrom, runLines, tooLong, tooLarge, transcript}
+use Rattle.transcript.specs.Transcript.{Run, automatonAt, opening, runFrom, runLines, tooLong, tooLarge, transcript}
 use Rattle.transcript.specs.Pieces.{Progress, belongs, at, inPhase, toCome, tableAfter, without, opened}
 use Rattle.transcript.specs.declared.Phase.the-variants.{Ended, Refused, Faulted, Opening, Running}
 use Rattle.transcript.proofs.Runs.{belongs-of}
 use Rattle.transcript.proofs.Events.{next-inside, run-same}
-use Rattle.transcript.proofs.Sheets.{Sound, parse-sound}
+use Rattle.transcript.proofs.Parsing.{Sound, parse-sound}
 
 -- solving into a table of 16,384 places
 module _ (a : Automaton) (v : valid a ≡ true) (t : List ℕ) (long : length t ≡ 16384) where
@@ -111,31 +111,31 @@ module _ (s t : List ℕ) where
             rw el (rw (eq-eqb (read s 0 .refusal) 0 read-refusal, lt-ltb (length s) _ h′)))
 
         module _ (whole : l .place + l .value ≤ length s) (p : Parsed) (ep : p ≡ parse (take (l .value) (drop (l .place) s))) where
-          opens : opening s ≡ sheetAt (l .place) (l .value) p
+          opens : opening s ≡ automatonAt (l .place) (l .value) p
           unfolding opening
           opens =
               let h : read s 0 .place + read s 0 .value ≤ length s = rw el at whole in
               rw (ep, el) (rw (eq-eqb (read s 0 .refusal) 0 read-refusal, le-ltb (length s) _ h))
 
           pub begin-faulty : (p .refusal ≡ 0 → ⊥) → Begun t (without (Faulted (p .refusal) (l .place + p .place)))
-          unfolding sheetAt
+          unfolding automatonAt
           begin-faulty y = faulted (p .refusal) (l .place + p .place) y (opens ∙ rw (ne-eqb (p .refusal) 0 y))
 
-          pub sheet-within : p .place ≤ length (take (l .value) (drop (l .place) s))
-          sheet-within = rw ep (parse-sound (take (l .value) (drop (l .place) s)) .within)
+          pub automaton-within : p .place ≤ length (take (l .value) (drop (l .place) s))
+          automaton-within = rw ep (parse-sound (take (l .value) (drop (l .place) s)) .within)
 
-          pub sheet-valid : p .refusal ≡ 0 → valid (p .automaton) ≡ true
-          sheet-valid y =
+          pub automaton-valid : p .refusal ≡ 0 → valid (p .automaton) ≡ true
+          automaton-valid y =
               let b = take (l .value) (drop (l .place) s) in
               read-is-valid b (p .automaton) (sym ep ∙ rw ep (parse-sound b .whole (rw ep at y)))
 
           pub begin-opened : p .refusal ≡ 0 → length t ≡ 16384 → (t′ : List ℕ) (r : Progress) → t′ ≡ solvedTable (p .automaton) t
               → r ≡ opened (p .automaton) (l .place + l .value) → Begun t′ r
-          unfolding transcript tableAfter tooLong sheetAt
+          unfolding transcript tableAfter tooLong automatonAt
           begin-opened y long t′ r et er =
               let a = p .automaton in
               let o : opening s ≡ record { refusal = 0; place = l .place + l .value; automaton = a } = opens ∙ rw (eq-eqb (p .refusal) 0 y) in (
-                rw (et, er) (opened-comes a (sheet-valid y) t long s (l .place + l .value) whole ∙ rw (le-ltb 60000 (length s) few, o)),
+                rw (et, er) (opened-comes a (automaton-valid y) t long s (l .place + l .value) whole ∙ rw (le-ltb 60000 (length s) few, o)),
                 et ∙ rw (le-ltb 60000 (length s) few, o),
               )
 

@@ -12,7 +12,7 @@ use Rattle.varint.specs.Varint.{read}
 use Rattle.monitor.specs.declared.Received.{Received}
 use Rattle.monitor.specs.Answers.{received}
 use Rattle.text.specs.Decimal.{ascii}
-use Rattle.text.specs.Lines.{sheetLine, eventLine, refusedEventLine, endLine, faultLine, refusalLine}
+use Rattle.text.specs.Lines.{automatonLine, eventLine, refusedEventLine, endLine, faultLine, refusalLine}
 use Rattle.transcript.specs.Transcript.{Run, firstLine, answerLine, after, eventLines, runLines}
 use Rattle.transcript.specs.Pieces.{belongs, at, toCome, inPhase}
 use Rattle.transcript.specs.declared.Phase.the-variants.{Ended, Refused, Faulted, Opening, Running}
@@ -62,7 +62,7 @@ module _ (t s : List ℕ) (u : Run) where
 
 -- no line is empty
 pub first-some : (t : List ℕ) (u : Run) → 0 < length (firstLine t u)
-unfolding firstLine sheetLine ascii
+unfolding firstLine automatonLine ascii
 first-some t u = omega arith
 
 pub end-some : (accepted refused : ℕ) → 0 < length (endLine accepted refused)

@@ -13,12 +13,12 @@ use Rattle.sets.specs.Table.{buffersCount, table}
 use Rattle.configuration.specs.Configuration.{initialOf}
 use Rattle.monitor.specs.declared.Received.{Received}
 use Rattle.monitor.specs.Answers.{status, received}
-use Rattle.text.specs.Lines.{sheetLine, eventLine, refusedEventLine, endLine, faultLine, refusalLine}
+use Rattle.text.specs.Lines.{automatonLine, eventLine, refusedEventLine, endLine, faultLine, refusalLine}
 pub use Rattle.transcript.specs.declared.Run.{Run}
 
 -- the sheet after L, at a place: the place after it, or its first fault, both from the input's first byte
-unfoldable pub sheetAt : ℕ → ℕ → Parsed → Parsed
-sheetAt from count p =
+unfoldable pub automatonAt : ℕ → ℕ → Parsed → Parsed
+automatonAt from count p =
     cond (eqb (p .refusal) 0)
     (record { refusal = 0; place = from + count; automaton = p .automaton })
     (refused (p .refusal) (from + p .place))
@@ -30,7 +30,7 @@ opening s =
     cond (eqb (l .refusal) 0)
     (cond (ltb (length s) (l .place + l .value))
     (refused 1 (l .place))
-    (sheetAt (l .place) (l .value) (parse (take (l .value) (drop (l .place) s)))))
+    (automatonAt (l .place) (l .value) (parse (take (l .value) (drop (l .place) s)))))
     (refused (l .refusal) (l .place))
 
 -- a run before its first event, which begins at a place
@@ -41,7 +41,7 @@ runFrom a at = record { automaton = a; configuration = initialOf a; place = at; 
 unfoldable pub firstLine : List ℕ → Run → List ℕ
 firstLine t u =
     let a = u .automaton in
-    sheetLine (a .states) (a .symbols) (a .capacity) (a .initial) (status a t (u .configuration) .winning)
+    automatonLine (a .states) (a .symbols) (a .capacity) (a .initial) (status a t (u .configuration) .winning)
 
 -- the line of an event that was answered
 unfoldable pub answerLine : ℕ → Received → List ℕ

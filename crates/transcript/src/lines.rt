@@ -4,12 +4,12 @@ use crate::Piece;
 use crate::Progress;
 use crate::Run;
 use monitor::Received;
+use text::automaton_line;
 use text::end_line;
 use text::event_line;
 use text::fault_line;
 use text::refusal_line;
 use text::refused_event_line;
-use text::sheet_line;
 ghost use mathlib.Core.Path.{_≡_};
 ghost use mathlib.Core.Bool.{true};
 ghost use mathlib.Core.List.{[]};
@@ -74,7 +74,7 @@ fn first_line(run: Run, table: &[u32], out: &mut [u8], from: usize) -> usize
     let a = run.automaton;
     let c = run.configuration;
     let status = monitor::winning(a, table, c);
-    sheet_line(
+    automaton_line(
         out,
         from,
         a.states,

@@ -81,10 +81,10 @@ pub fn begin(input: &[u8], table: &mut [u32; 16384]) -> Progress
         return without(Phase::Faulted(1, from));
     }
     let end = from + count;
-    let sheet = encoding::read(&input[from..end]);
-    if sheet.refusal != 0 {
-        return without(Phase::Faulted(sheet.refusal, from + sheet.place));
+    let parsed = encoding::read(&input[from..end]);
+    if parsed.refusal != 0 {
+        return without(Phase::Faulted(parsed.refusal, from + parsed.place));
     }
-    let a = sheet.automaton;
+    let a = parsed.automaton;
     opened(a, end, table)
 }

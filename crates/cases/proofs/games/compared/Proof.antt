@@ -7,8 +7,8 @@ use Rattle.cases.proofs.games.compared.Statement.{statement}
 use Rattle.cases.proofs.games.compared.Tie as tie
 use Rattle.cases.proofs.games.compared.Reads as reads
 use Rattle.cases.proofs.games.compared.Lts as lts
-use Rattle.cases.proofs.games.next_sheet.Reads as next-sheet-reads
-use Rattle.cases.proofs.games.sheet_agrees.Reads as sheet-agrees-reads
+use Rattle.cases.proofs.games.next_encoding.Reads as next-encoding-reads
+use Rattle.cases.proofs.games.solver_agrees.Reads as solver-agrees-reads
 
 abbrev Inv-loop : tie.InvT-loop
 Inv-loop s₀ shape total more₀ i₀ s more i = (i ≤ total) × (length s ≡ length s₀)
@@ -21,12 +21,12 @@ loop-holds : tie.Need-loop-holds Inv-loop μ-loop
 loop-holds c = search needs
 
 -- src/games.rt:131:13
-sheet-agrees-requires : tie.Need-sheet-agrees-requires Inv-loop μ-loop
-sheet-agrees-requires c κs = search needs
+solver-agrees-requires : tie.Need-solver-agrees-requires Inv-loop μ-loop
+solver-agrees-requires c κs = search needs
 
 -- src/games.rt:134:9
-next-sheet-requires : tie.Need-next-sheet-requires Inv-loop μ-loop
-next-sheet-requires c κs = search needs
+next-encoding-requires : tie.Need-next-encoding-requires Inv-loop μ-loop
+next-encoding-requires c κs = search needs
 
 -- src/games.rt:135:13
 add-i : tie.Need-add-i Inv-loop μ-loop
@@ -63,8 +63,8 @@ compared-spec =
     Inv-loop
     μ-loop
     loop-holds
-    sheet-agrees-requires
-    next-sheet-requires
+    solver-agrees-requires
+    next-encoding-requires
     add-i
     loop-less
     loop-again

@@ -36,8 +36,8 @@ as-bytes-requires : tie.Need-as-bytes-requires
 as-bytes-requires c κs = search needs
 
 -- src/games.rt:184:9
-array-borrow-prefix-first-sheet : tie.Need-array-borrow-prefix-first-sheet
-array-borrow-prefix-first-sheet c = search needs
+array-borrow-prefix-bytes : tie.Need-array-borrow-prefix-bytes
+array-borrow-prefix-bytes c = search needs
 
 -- src/games.rt:184:9
 slice-aggregate-every : tie.Need-slice-aggregate-every
@@ -73,7 +73,7 @@ many-spec =
     part-as-bytes-end
     slice-aggregate-as-bytes
     as-bytes-requires
-    array-borrow-prefix-first-sheet
+    array-borrow-prefix-bytes
     slice-aggregate-every
     nth-requires
     cast-every

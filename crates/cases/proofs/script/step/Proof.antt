@@ -7,7 +7,7 @@ use Rattle.cases.proofs.script.step.Tie as tie
 use Rattle.cases.proofs.script.step.Reads as reads
 use Rattle.cases.proofs.script.step.Lts as lts
 use Rattle.cases.proofs.codec.case.Reads as codec-case-reads
-use Rattle.cases.proofs.days.case.Reads as days-case-reads
+use Rattle.cases.proofs.transcripts.case.Reads as transcripts-case-reads
 use Rattle.cases.proofs.events.case.Reads as events-case-reads
 use Rattle.cases.proofs.games.case.Reads as games-case-reads
 use Rattle.cases.proofs.solver.case.Reads as solver-case-reads

@@ -39,16 +39,16 @@ labelled-requires-3 : tie.Need-labelled-requires-3
 unfolding ascii
 labelled-requires-3 c κs = omega (arith, c .before .before .before .before .before .before .before .before .before .before .before .before .before .before .before .before .before .before .before .before .before .before .pre .1, c .before .before .before .before .labelled2 .ensures .place, c .before .before .before .before .labelled2 .kept .0, c .before .before .before .before .before .before .before .before .before .emission .ensures .0 .place, c .before .before .before .before .before .before .before .before .before .emission .kept .0, c .before .before .before .before .before .before .before .before .before .emission .ensures .1, c .before .before .before .before .before .before .before .before .before .before .before .before .before .word .ensures .place, c .before .before .before .before .before .before .before .before .before .before .before .before .before .word .kept .0, c .before .before .before .before .before .before .before .before .before .before .before .before .before .before .before .before .before .before .labelled .ensures .place, c .before .before .before .before .before .before .before .before .before .before .before .before .before .before .before .before .before .before .labelled .kept .0, word-length (c .before .before .before .before .before .before .before .before .before .before .before .before .before .before .before .before .before .before .before .before .before .before .args .event) (omega (arith, c .before .before .before .before .before .before .before .before .before .before .before .before .before .before .before .before .before .before .before .before .before .before .fits .event)), byte-length (c .before .before .before .before .before .before .before .before .before .before .before .before .before .before .before .before .before .before .before .before .before .before .args .q) (omega (arith, c .before .before .before .before .before .before .before .before .before .before .before .before .before .before .before .before .before .before .before .before .before .before .fits .q)), byte-length (c .before .before .before .before .before .before .before .before .before .before .before .before .before .before .before .before .before .before .before .before .before .before .args .held) (omega (arith, c .before .before .before .before .before .before .before .before .before .before .before .before .before .before .before .before .before .before .before .before .before .before .fits .held)))
 
-guarded-end-requires : tie.Need-guarded-end-requires
+winning-end-requires : tie.Need-winning-end-requires
 unfolding ascii
-guarded-end-requires c κs = omega (arith, c .before .before .before .before .before .before .before .before .before .before .before .before .before .before .before .before .before .before .before .before .before .before .before .before .before .before .pre .1, c .before .before .before .labelled3 .ensures .place, c .before .before .before .labelled3 .kept .0, c .before .before .before .before .before .before .before .before .labelled2 .ensures .place, c .before .before .before .before .before .before .before .before .labelled2 .kept .0, c .before .before .before .before .before .before .before .before .before .before .before .before .before .emission .ensures .0 .place, c .before .before .before .before .before .before .before .before .before .before .before .before .before .emission .kept .0, c .before .before .before .before .before .before .before .before .before .before .before .before .before .emission .ensures .1, c .before .before .before .before .before .before .before .before .before .before .before .before .before .before .before .before .before .word .ensures .place, c .before .before .before .before .before .before .before .before .before .before .before .before .before .before .before .before .before .word .kept .0, c .before .before .before .before .before .before .before .before .before .before .before .before .before .before .before .before .before .before .before .before .before .before .labelled .ensures .place, c .before .before .before .before .before .before .before .before .before .before .before .before .before .before .before .before .before .before .before .before .before .before .labelled .kept .0, word-length (c .before .before .before .before .before .before .before .before .before .before .before .before .before .before .before .before .before .before .before .before .before .before .before .before .before .before .args .event) (omega (arith, c .before .before .before .before .before .before .before .before .before .before .before .before .before .before .before .before .before .before .before .before .before .before .before .before .before .before .fits .event)), byte-length (c .before .before .before .before .before .before .before .before .before .before .before .before .before .before .before .before .before .before .before .before .before .before .before .before .before .before .args .q) (omega (arith, c .before .before .before .before .before .before .before .before .before .before .before .before .before .before .before .before .before .before .before .before .before .before .before .before .before .before .fits .q)), byte-length (c .before .before .before .before .before .before .before .before .before .before .before .before .before .before .before .before .before .before .before .before .before .before .before .before .before .before .args .held) (omega (arith, c .before .before .before .before .before .before .before .before .before .before .before .before .before .before .before .before .before .before .before .before .before .before .before .before .before .before .fits .held)))
+winning-end-requires c κs = omega (arith, c .before .before .before .before .before .before .before .before .before .before .before .before .before .before .before .before .before .before .before .before .before .before .before .before .before .before .pre .1, c .before .before .before .labelled3 .ensures .place, c .before .before .before .labelled3 .kept .0, c .before .before .before .before .before .before .before .before .labelled2 .ensures .place, c .before .before .before .before .before .before .before .before .labelled2 .kept .0, c .before .before .before .before .before .before .before .before .before .before .before .before .before .emission .ensures .0 .place, c .before .before .before .before .before .before .before .before .before .before .before .before .before .emission .kept .0, c .before .before .before .before .before .before .before .before .before .before .before .before .before .emission .ensures .1, c .before .before .before .before .before .before .before .before .before .before .before .before .before .before .before .before .before .word .ensures .place, c .before .before .before .before .before .before .before .before .before .before .before .before .before .before .before .before .before .word .kept .0, c .before .before .before .before .before .before .before .before .before .before .before .before .before .before .before .before .before .before .before .before .before .before .labelled .ensures .place, c .before .before .before .before .before .before .before .before .before .before .before .before .before .before .before .before .before .before .before .before .before .before .labelled .kept .0, word-length (c .before .before .before .before .before .before .before .before .before .before .before .before .before .before .before .before .before .before .before .before .before .before .before .before .before .before .args .event) (omega (arith, c .before .before .before .before .before .before .before .before .before .before .before .before .before .before .before .before .before .before .before .before .before .before .before .before .before .before .fits .event)), byte-length (c .before .before .before .before .before .before .before .before .before .before .before .before .before .before .before .before .before .before .before .before .before .before .before .before .before .before .args .q) (omega (arith, c .before .before .before .before .before .before .before .before .before .before .before .before .before .before .before .before .before .before .before .before .before .before .before .before .before .before .fits .q)), byte-length (c .before .before .before .before .before .before .before .before .before .before .before .before .before .before .before .before .before .before .before .before .before .before .before .before .before .before .args .held) (omega (arith, c .before .before .before .before .before .before .before .before .before .before .before .before .before .before .before .before .before .before .before .before .before .before .before .before .before .before .fits .held)))
 
 same-length : tie.Need-same-length
 same-length c = search needs
 
 returns : tie.Need-returns
 unfolding ascii eventLine
-returns c = behind (c .before .before .before .before .before .before .before .before .before .before .before .before .before .before .before .before .before .before .before .before .before .before .before .before .before .labelled .ensures) (behind (c .before .before .before .before .before .before .before .before .before .before .before .before .before .before .before .before .before .before .before .before .word .ensures) (behind (c .before .before .before .before .before .before .before .before .before .before .before .before .before .before .before .before .emission .ensures .0) (behind (c .before .before .before .before .before .before .before .before .before .before .before .labelled2 .ensures) (behind (c .before .before .before .before .before .before .labelled3 .ensures) (c .before .before .guarded-end .ensures)))))
+returns c = behind (c .before .before .before .before .before .before .before .before .before .before .before .before .before .before .before .before .before .before .before .before .before .before .before .before .before .labelled .ensures) (behind (c .before .before .before .before .before .before .before .before .before .before .before .before .before .before .before .before .before .before .before .before .word .ensures) (behind (c .before .before .before .before .before .before .before .before .before .before .before .before .before .before .before .before .emission .ensures .0) (behind (c .before .before .before .before .before .before .before .before .before .before .before .labelled2 .ensures) (behind (c .before .before .before .before .before .before .labelled3 .ensures) (c .before .before .winning-end .ensures)))))
 
 pub event-line-spec : {M : Type 1} → statement M
 event-line-spec =
@@ -63,6 +63,6 @@ event-line-spec =
     labelled-requires-2
     slice-aggregate-labelled-3
     labelled-requires-3
-    guarded-end-requires
+    winning-end-requires
     same-length
     returns)

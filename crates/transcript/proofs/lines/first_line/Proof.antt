@@ -6,15 +6,15 @@ use Rattle.transcript.proofs.lines.first_line.Tie as tie
 winning-requires : tie.Need-winning-requires
 winning-requires c κs = search needs
 
-sheet-line-requires : tie.Need-sheet-line-requires
-sheet-line-requires c κs = search needs
+automaton-line-requires : tie.Need-automaton-line-requires
+automaton-line-requires c κs = search needs
 
 same-length : tie.Need-same-length
 same-length c = search needs
 
 returns : tie.Need-returns
 unfolding firstLine
-returns c = rw (c .before .before .before .before .winning .ensures) at (c .before .before .sheet-line .ensures)
+returns c = rw (c .before .before .before .before .winning .ensures) at (c .before .before .automaton-line .ensures)
 
 pub first-line-spec : {M : Type 1} → statement M
-first-line-spec = tie.close (tie.spec winning-requires sheet-line-requires same-length returns)
+first-line-spec = tie.close (tie.spec winning-requires automaton-line-requires same-length returns)

@@ -1,7 +1,7 @@
 use lib.ListN.{length-drop}
 use Rattle.base.proofs.Fronts.{part-length}
 use Rattle.encoding.specs.Reading.{parse}
-use Rattle.transcript.proofs.Beginning.{begin-long, begin-unread, begin-fewer, begin-faulty, begin-opened, sheet-within, sheet-valid, length-inside}
+use Rattle.transcript.proofs.Beginning.{begin-long, begin-unread, begin-fewer, begin-faulty, begin-opened, automaton-within, automaton-valid, length-inside}
 use lib.ListN.{length, take, drop}
 use mathlib.Core.Path.{_≡_, _∙_, ap}
 use Prim.Native.Nat.{ℕ, _+_, _-_, _≤_, _<_}
@@ -53,7 +53,7 @@ read-requires : tie.Need-read-requires
 read-requires c κs = search needs
 
 add-t18 : tie.Need-add-t18
-add-t18 c = let s = c .before .before .before .before .before .before .before .before .before .before .before .before .args .input .now in let l = c .before .before .before .before .before .before .before .before .before .read-at .result in let i = length-inside s l (c .before .before .before .before .before .before .before .before .before .read-at .ensures) (c .before .before .before .before .before .before .before .if2 .left) in let w : l .place + l .value ≤ length s = omega (arith, i, c .before .before .before .before .before .if3 .left) in let k : l .place + l .value - l .place ≡ l .value = omega arith in let e : c .before .before .before .read .result ≡ parse (take (l .value) (drop (l .place) s)) = c .before .before .before .read .ensures ∙ ap (λ x. parse (take x (drop (l .place) s))) k in omega (arith, i, w, c .before .before .before .before .before .before .before .before .before .before .if1 .left, sheet-within s (c .before .before .before .before .before .before .before .before .before .before .before .before .args .table .now) (c .before .before .before .before .before .before .before .before .before .before .if1 .left) l (c .before .before .before .before .before .before .before .before .before .read-at .ensures) (c .before .before .before .before .before .before .before .if2 .left) w _ e, part-length (l .value) (drop (l .place) s), length-drop (l .place) s)
+add-t18 c = let s = c .before .before .before .before .before .before .before .before .before .before .before .before .args .input .now in let l = c .before .before .before .before .before .before .before .before .before .read-at .result in let i = length-inside s l (c .before .before .before .before .before .before .before .before .before .read-at .ensures) (c .before .before .before .before .before .before .before .if2 .left) in let w : l .place + l .value ≤ length s = omega (arith, i, c .before .before .before .before .before .if3 .left) in let k : l .place + l .value - l .place ≡ l .value = omega arith in let e : c .before .before .before .read .result ≡ parse (take (l .value) (drop (l .place) s)) = c .before .before .before .read .ensures ∙ ap (λ x. parse (take x (drop (l .place) s))) k in omega (arith, i, w, c .before .before .before .before .before .before .before .before .before .before .if1 .left, automaton-within s (c .before .before .before .before .before .before .before .before .before .before .before .before .args .table .now) (c .before .before .before .before .before .before .before .before .before .before .if1 .left) l (c .before .before .before .before .before .before .before .before .before .read-at .ensures) (c .before .before .before .before .before .before .before .if2 .left) w _ e, part-length (l .value) (drop (l .place) s), length-drop (l .place) s)
 
 without-requires-4 : tie.Need-without-requires-4
 without-requires-4 c κs = search needs
@@ -62,7 +62,7 @@ returns-4 : tie.Need-returns-4
 returns-4 c = let s = c .before .before .before .before .before .before .before .before .before .before .before .before .before .args .input .now in let l = c .before .before .before .before .before .before .before .before .before .before .read-at .result in let i = length-inside s l (c .before .before .before .before .before .before .before .before .before .before .read-at .ensures) (c .before .before .before .before .before .before .before .before .if2 .left) in let w : l .place + l .value ≤ length s = omega (arith, i, c .before .before .before .before .before .before .if3 .left) in let k : l .place + l .value - l .place ≡ l .value = omega arith in let e : c .before .before .before .before .read .result ≡ parse (take (l .value) (drop (l .place) s)) = c .before .before .before .before .read .ensures ∙ ap (λ x. parse (take x (drop (l .place) s))) k in rw (c .without4 .ensures) (begin-faulty s _ (c .before .before .before .before .before .before .before .before .before .before .before .if1 .left) l (c .before .before .before .before .before .before .before .before .before .before .read-at .ensures) (c .before .before .before .before .before .before .before .before .if2 .left) w _ e (c .before .before .if4 .taken))
 
 opened-requires : tie.Need-opened-requires
-opened-requires c κs = let s = c .before .before .before .before .before .before .before .before .before .before .before .before .before .args .input .now in let l = c .before .before .before .before .before .before .before .before .before .before .read-at .result in let i = length-inside s l (c .before .before .before .before .before .before .before .before .before .before .read-at .ensures) (c .before .before .before .before .before .before .before .before .if2 .left) in let w : l .place + l .value ≤ length s = omega (arith, i, c .before .before .before .before .before .before .if3 .left) in let k : l .place + l .value - l .place ≡ l .value = omega arith in let e : c .before .before .before .before .read .result ≡ parse (take (l .value) (drop (l .place) s)) = c .before .before .before .before .read .ensures ∙ ap (λ x. parse (take x (drop (l .place) s))) k in sheet-valid s (c .before .before .before .before .before .before .before .before .before .before .before .before .before .args .table .now) (c .before .before .before .before .before .before .before .before .before .before .before .if1 .left) l (c .before .before .before .before .before .before .before .before .before .before .read-at .ensures) (c .before .before .before .before .before .before .before .before .if2 .left) w _ e (c .before .before .if4 .left)
+opened-requires c κs = let s = c .before .before .before .before .before .before .before .before .before .before .before .before .before .args .input .now in let l = c .before .before .before .before .before .before .before .before .before .before .read-at .result in let i = length-inside s l (c .before .before .before .before .before .before .before .before .before .before .read-at .ensures) (c .before .before .before .before .before .before .before .before .if2 .left) in let w : l .place + l .value ≤ length s = omega (arith, i, c .before .before .before .before .before .before .if3 .left) in let k : l .place + l .value - l .place ≡ l .value = omega arith in let e : c .before .before .before .before .read .result ≡ parse (take (l .value) (drop (l .place) s)) = c .before .before .before .before .read .ensures ∙ ap (λ x. parse (take x (drop (l .place) s))) k in automaton-valid s (c .before .before .before .before .before .before .before .before .before .before .before .before .before .args .table .now) (c .before .before .before .before .before .before .before .before .before .before .before .if1 .left) l (c .before .before .before .before .before .before .before .before .before .before .read-at .ensures) (c .before .before .before .before .before .before .before .before .if2 .left) w _ e (c .before .before .if4 .left)
 
 returns-5 : tie.Need-returns-5
 returns-5 c = let s = c .before .before .before .before .before .before .before .before .before .before .before .before .before .before .args .input .now in let l = c .before .before .before .before .before .before .before .before .before .before .before .read-at .result in let i = length-inside s l (c .before .before .before .before .before .before .before .before .before .before .before .read-at .ensures) (c .before .before .before .before .before .before .before .before .before .if2 .left) in let w : l .place + l .value ≤ length s = omega (arith, i, c .before .before .before .before .before .before .before .if3 .left) in let k : l .place + l .value - l .place ≡ l .value = omega arith in let e : c .before .before .before .before .before .read .result ≡ parse (take (l .value) (drop (l .place) s)) = c .before .before .before .before .before .read .ensures ∙ ap (λ x. parse (take x (drop (l .place) s))) k in begin-opened s _ (c .before .before .before .before .before .before .before .before .before .before .before .before .if1 .left) l (c .before .before .before .before .before .before .before .before .before .before .before .read-at .ensures) (c .before .before .before .before .before .before .before .before .before .if2 .left) w _ e (c .before .before .before .if4 .left) (c .opened .ensures .1) _ _ (c .opened .ensures .0 .1) (c .opened .ensures .0 .0)

@@ -1,40 +1,40 @@
-use Rattle.text.specs.Lines.{guardedEnd}
+use Rattle.text.specs.Lines.{winningEnd}
 use Rattle.text.specs.Decimal.{ascii}
 use native.Mathlib.Omega.{arith}
 use borrow.Author.Needs.{needs}
-use Rattle.text.proofs.lines.guarded_end.Statement.{statement}
-use Rattle.text.proofs.lines.guarded_end.Tie as tie
+use Rattle.text.proofs.lines.winning_end.Statement.{statement}
+use Rattle.text.proofs.lines.winning_end.Tie as tie
 
 slice-aggregate-word : tie.Need-slice-aggregate-word
 slice-aggregate-word c = search needs
 
 word-requires : tie.Need-word-requires
-unfolding ascii guardedEnd
+unfolding ascii winningEnd
 word-requires c κs = omega arith
 
 same-length : tie.Need-same-length
 same-length c = search needs
 
 returns : tie.Need-returns
-unfolding ascii guardedEnd
+unfolding ascii winningEnd
 returns c = rw (c .before .before .before .before .before .if1 .taken) (c .before .before .word .ensures)
 
 slice-aggregate-word-2 : tie.Need-slice-aggregate-word-2
 slice-aggregate-word-2 c = search needs
 
 word-requires-2 : tie.Need-word-requires-2
-unfolding ascii guardedEnd
+unfolding ascii winningEnd
 word-requires-2 c κs = omega arith
 
 same-length-2 : tie.Need-same-length-2
 same-length-2 c = search needs
 
 returns-2 : tie.Need-returns-2
-unfolding ascii guardedEnd
+unfolding ascii winningEnd
 returns-2 c = rw (c .before .before .before .before .before .if1 .left) (c .before .before .word2 .ensures)
 
-pub guarded-end-spec : {M : Type 1} → statement M
-guarded-end-spec =
+pub winning-end-spec : {M : Type 1} → statement M
+winning-end-spec =
     tie.close
     (tie.spec
     slice-aggregate-word

@@ -3,10 +3,10 @@ use Prim.Native.Nat.{_≤_}
 use lib.ListN.{length}
 use native.Mathlib.Omega.{arith}
 use borrow.Author.Needs.{needs}
-use Rattle.cases.proofs.games.next_sheet.Statement.{statement}
-use Rattle.cases.proofs.games.next_sheet.Tie as tie
-use Rattle.cases.proofs.games.next_sheet.Reads as reads
-use Rattle.cases.proofs.games.next_sheet.Lts as lts
+use Rattle.cases.proofs.games.next_encoding.Statement.{statement}
+use Rattle.cases.proofs.games.next_encoding.Tie as tie
+use Rattle.cases.proofs.games.next_encoding.Reads as reads
+use Rattle.cases.proofs.games.next_encoding.Lts as lts
 use Rattle.cases.proofs.games.greatest.Reads as greatest-reads
 
 abbrev Inv-loop : tie.InvT-loop
@@ -71,8 +71,8 @@ same-length-2 c = search needs
 returns-2 : tie.Need-returns-2 Inv-loop μ-loop
 returns-2 c = search needs
 
-pub next-sheet-spec : {M : Type 1} → statement M
-next-sheet-spec =
+pub next-encoding-spec : {M : Type 1} → statement M
+next-encoding-spec =
     tie.close
     (tie.spec
     Inv-loop

@@ -5,11 +5,11 @@ use Rattle.transcript.specs.Pieces.{toCome}
 use Rattle.transcript.proofs.Continuing.{kept-length, less-left}
 use native.Mathlib.Omega.{arith}
 use borrow.Author.Needs.{needs}
-use Rattle.cases.proofs.days.transcript.Statement.{statement}
-use Rattle.cases.proofs.days.transcript.Tie as tie
-use Rattle.cases.proofs.days.transcript.Reads as reads
-use Rattle.cases.proofs.days.transcript.Lts as lts
-use Rattle.cases.proofs.days.put.Reads as put-reads
+use Rattle.cases.proofs.transcripts.transcript.Statement.{statement}
+use Rattle.cases.proofs.transcripts.transcript.Tie as tie
+use Rattle.cases.proofs.transcripts.transcript.Reads as reads
+use Rattle.cases.proofs.transcripts.transcript.Lts as lts
+use Rattle.cases.proofs.transcripts.put.Reads as put-reads
 use Rattle.std.proofs.num.wrapping_add_usize.Reads as wrapping-add-usize-reads
 use Rattle.transcript.proofs.next_piece.Reads as next-piece-reads
 use Rattle.transcript.proofs.begin.Reads as begin-reads
