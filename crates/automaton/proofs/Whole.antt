@@ -1,5 +1,5 @@
 -- Lists and next states in the parts in which loops go through them, and row 11.
-use Prim.Native.Nat.{ℕ, _+_, _-_, _<_, _≤_}
+use Prim.Native.Nat.{ℕ, _+_, _-_, _*_, _<_, _≤_}
 use mathlib.Core.Path.{_≡_, sym, _∙_, ap, ap₂}
 use mathlib.Core.Bool.{Bool, true, false, cond, _&&_}
 use mathlib.Core.List.{List, _++_}
@@ -11,7 +11,7 @@ use lib.Dec.{leb, ltb}
 use borrow.Author.Tests.{lt-ltb, le-ltb, le-leb, lt-leb, eq-eqb, leb-true, ltb-true, ltb-false}
 use Rattle.base.specs.Each.{each}
 use Rattle.base.proofs.Bools.{by, and-left, and-right, and-both}
-use Rattle.base.proofs.Ranges.{each-split, each-same}
+use Rattle.base.proofs.Ranges.{each-split, each-same, each-rows}
 use Rattle.automaton.specs.Parts.{controllableIn, goes, stands, placesStand, belowFrom, limitsOf, rowBelow, rowsBelow}
 use Rattle.automaton.specs.Automaton.{Automaton, shaped, ranged, classesStand, flagsStand, nextStand, tablesStand, valid}
 
@@ -51,7 +51,7 @@ limits-unused n m e h k =
     getD-append-add (replicate m n) (replicate (16 - m) 1) (e - m) 0 ∙
     getD-replicate (16 - m) (e - m) 1 0 (omega arith)
 
--- a row of a used state, and one of an unused state
+-- a row of a used state
 row-used : (next : List ℕ) (n m q : ℕ) → m ≤ 16 → q < n
     → each 16 (λ e. stands (ltb q n && ltb e m) n (goes next q e)) ≡ rowBelow next q (limitsOf n m)
 unfolding rowBelow stands
@@ -62,31 +62,37 @@ row-used next n m q h k =
     (λ t. rw t (sym (limits-used n m e (ltb-true e m t) h)))
     (λ t. rw t (sym (limits-unused n m e (ltb-false e m t) l))))))
 
-row-unused : (next : List ℕ) (n m q : ℕ) → n ≤ q
-    → each 16 (λ e. stands (ltb q n && ltb e m) n (goes next q e)) ≡ rowBelow next q (replicate 16 1)
-unfolding rowBelow stands
-row-unused next n m q k =
-    each-same 16 (λ e. ltb (goes next q e) (cond (ltb q n && ltb e m) n 1)) (λ e. ltb (goes next q e) (getD (replicate 16 1) e 0))
-    (λ e l. ap (λ x. ltb (goes next q e) x) (rw (le-ltb q n k) (sym (getD-replicate 16 e 1 0 l))))
+-- places of an unused state, as they follow one another
+place-unused : (next : List ℕ) (n m q e : ℕ) → stands (ltb (n + q) n && ltb e m) n (goes next (n + q) e) ≡ ltb (getD next (n * 16 + (q * 16 + e)) 0) 1
+unfolding stands
+place-unused next n m q e =
+    let h : n ≤ n + q = omega arith in
+    let i : (n + q) * 16 + e ≡ n * 16 + (q * 16 + e) = omega arith in
+    rw (le-ltb (n + q) n h, i)
 
--- the states, then the others
+-- the rows of the states, then the other places
 rows-are : (next : List ℕ) (n m : ℕ) → n ≤ 32 → m ≤ 16
-    → nextStand n m next ≡ (rowsBelow next 0 n (limitsOf n m) && rowsBelow next n (32 - n) (replicate 16 1))
-unfolding nextStand rowsBelow
+    → nextStand n m next ≡ (rowsBelow next n (limitsOf n m) && belowFrom next (n * 16) (512 - n * 16) 1)
+unfolding nextStand rowsBelow belowFrom
 rows-are next n m h k =
     let e : 32 ≡ n + (32 - n) = omega arith in
+    let places : (32 - n) * 16 ≡ 512 - n * 16 = omega arith in
     let p : ℕ → Bool = λ q. each 16 (λ e. stands (ltb q n && ltb e m) n (goes next q e)) in
+    let zeros : ℕ → Bool = λ i. ltb (getD next (n * 16 + i) 0) 1 in
     ap (λ x. each x p) e ∙
     each-split n (32 - n) p ∙
     ap₂ _&&_
-    (each-same n p (λ q. rowBelow next (0 + q) (limitsOf n m)) (λ q l. rw (zero-add q) (row-used next n m q k l)))
-    (each-same (32 - n) (λ q. p (n + q)) (λ q. rowBelow next (n + q) (replicate 16 1)) (λ q l. row-unused next n m (n + q) (omega arith)))
+    (each-same n p (λ q. rowBelow next q (limitsOf n m)) (λ q l. row-used next n m q k l))
+    (each-same (32 - n) (λ q. p (n + q)) (λ q. each 16 (λ e. zeros (q * 16 + e)))
+    (λ q l. each-same 16 (λ e. stands (ltb (n + q) n && ltb e m) n (goes next (n + q) e)) (λ e. zeros (q * 16 + e)) (λ e _. place-unused next n m q e)) ∙
+    each-rows 16 (32 - n) zeros ∙
+    ap (λ c. each c zeros) places)
 
 module _ (n m : ℕ) (next : List ℕ) (h : n ≤ 32) (k : m ≤ 16) where
-  pub next-falls : rowsBelow next 0 n (limitsOf n m) ≡ false → false ≡ nextStand n m next
+  pub next-falls : rowsBelow next n (limitsOf n m) ≡ false → false ≡ nextStand n m next
   next-falls b = sym (rows-are next n m h k ∙ rw b)
 
-  pub next-rest : rowsBelow next 0 n (limitsOf n m) ≡ true → rowsBelow next n (32 - n) (replicate 16 1) ≡ nextStand n m next
+  pub next-rest : rowsBelow next n (limitsOf n m) ≡ true → belowFrom next (n * 16) (512 - n * 16) 1 ≡ nextStand n m next
   next-rest b = sym (rows-are next n m h k ∙ rw b)
 
 -- rows 7 to 9, in their order

@@ -43,6 +43,6 @@ limitsOf n m = replicate m n ++ replicate (16 - m) 1
 unfoldable pub rowBelow : List ℕ → ℕ → List ℕ → Bool
 rowBelow next q limits = each 16 (λ e. ltb (goes next q e) (getD limits e 0))
 
--- .. and those of `k` states from `from` on
-unfoldable pub rowsBelow : List ℕ → ℕ → ℕ → List ℕ → Bool
-rowsBelow next from k limits = each k (λ q. rowBelow next (from + q) limits)
+-- .. and those of each of the first `k` states
+unfoldable pub rowsBelow : List ℕ → ℕ → List ℕ → Bool
+rowsBelow next k limits = each k (λ q. rowBelow next q limits)

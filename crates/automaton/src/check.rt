@@ -74,14 +74,14 @@ fn row_below<'a>(next: &'a [u8; 512], q: usize, limits: &'a [u8; 16]) -> bool
     fine
 }
 
-fn rows_below<'a>(next: &'a [u8; 512], from: usize, count: usize, limits: &'a [u8; 16]) -> bool
-    requires { ⌜ from + count ≤ 32 ⌝ }
-    ensures { λ r. ⌜ r ≡ rowsBelow (now (next .entry)) from count (now (limits .entry)) ⌝ }
+fn rows_below<'a>(next: &'a [u8; 512], count: usize, limits: &'a [u8; 16]) -> bool
+    requires { ⌜ count ≤ 32 ⌝ }
+    ensures { λ r. ⌜ r ≡ rowsBelow (now (next .entry)) count (now (limits .entry)) ⌝ }
 {
     let mut fine = true;
     let mut q: usize = 0;
     while q < count {
-        if !row_below(next, from + q, limits) {
+        if !row_below(next, q, limits) {
             fine = false;
         }
         q = q + 1;
@@ -123,11 +123,11 @@ fn next_stand(n: u8, m: usize, next: &[u8; 512]) -> bool
 {
     let states = base::size(n);
     let limits = limits_of(n, m);
-    if !rows_below(next, 0, states, &limits) {
+    if !rows_below(next, states, &limits) {
         return false;
     }
-    let unused_limits = [1u8; 16];
-    rows_below(next, states, 32 - states, &unused_limits)
+    let used = states * 16;
+    below_from(next, used, 512 - used, 1)
 }
 
 // Rows 7 to 9.

@@ -117,6 +117,19 @@ unfolding mask
 mask-same zero p r h = refl
 mask-same (suc n) p r h = rw (mask-same n p r (λ q l. h q (omega arith)), h n (omega arith))
 
+-- one state less
+pub mask-without : (n : ℕ) (p r : ℕ → Bool) (q : ℕ) → q < n → p q ≡ true → r q ≡ false → ((k : ℕ) → (k ≡ q → ⊥) → p k ≡ r k) → mask n p ≡ mask n r + 2 ^ q
+unfolding mask
+mask-without zero p r q l h g same = absurd (omega arith)
+mask-without (suc n) p r q l h g same =
+    by (eqb q n)
+    (λ e. let f = eqb-true q n e in
+    let h′ : p n ≡ true = rw f at h in
+    let g′ : r n ≡ false = rw f at g in
+    rw (f, h′, g′, mask-same n p r (λ k b. same k (λ x. omega arith))) (omega arith))
+    (λ e. let f = eqb-false q n e in
+    rw (same n (λ x. f (sym x))) (omega (arith, mask-without n p r q (omega arith) h g same)))
+
 -- a number is the mask of what it has
 digit : (y m : ℕ) → y < 2 → cond (eqb y 1) m 0 ≡ y * m
 digit zero m h = omega arith

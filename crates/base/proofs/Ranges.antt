@@ -1,8 +1,8 @@
 -- Laws of `each` and `count`.
-use Prim.Native.Nat.{ℕ, zero, suc, _+_, _<_, _≤_}
+use Prim.Native.Nat.{ℕ, zero, suc, _+_, _*_, _<_, _≤_}
 use mathlib.Core.Path.{_≡_, refl, sym, _∙_, ap, ap₂}
 use mathlib.Core.Bool.{Bool, true, false, not, _&&_, cond, and-assoc, and-true}
-use native.Mathlib.Nat.{add-zero, add-suc}
+use native.Mathlib.Nat.{add-zero, add-suc, zero-mul, suc-mul}
 use native.Mathlib.Numerals.{add-one}
 use native.Mathlib.Omega.{arith}
 use lib.Dec.{eqb}
@@ -61,6 +61,13 @@ unfolding each
 each-split n zero p = rw (add-zero n) (sym (and-true (each n p)))
 each-split n (suc m) p =
     rw (add-suc n m) (ap (λ b. b && p (n + m)) (each-split n m p) ∙ and-assoc (each n p) (each m (λ k. p (n + k))) (p (n + m)))
+
+-- rows of equal width, as one
+pub each-rows : (w k : ℕ) (p : ℕ → Bool) → each k (λ q. each w (λ e. p (q * w + e))) ≡ each (k * w) p
+unfolding each
+each-rows w zero p = rw (zero-mul w)
+each-rows w (suc k) p =
+    ap (λ b. b && each w (λ e. p (k * w + e))) (each-rows w k p) ∙ sym (each-split (k * w) w p) ∙ ap (λ n. each n p) (sym (suc-mul k w))
 
 pub count-more : (n : ℕ) (p : ℕ → Bool) → count (n + 1) p ≡ count n p + cond (p n) 1 0
 unfolding count

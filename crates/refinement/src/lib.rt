@@ -5,7 +5,7 @@ use base::has;
 use base::size;
 use sets::Settled;
 ghost use mathlib.Core.Path.{_≡_};
-ghost use Prim.Native.Nat.{_<_, _≤_};
+ghost use Prim.Native.Nat.{_^_, _<_, _≤_};
 ghost use Rattle.base.specs.Masks.{mask};
 ghost use Rattle.automaton.specs.Parts.{acceptingAt};
 ghost use Rattle.refinement.specs.Parts.{Below, Fits, freeOf, leftOf, settledOn, predecessors};
@@ -60,10 +60,10 @@ fn refine<'a>(
     intermediate: u32,
     set: u32,
 ) -> u32
-    requires { ⌜ Fits (now next) (now free) n u ⌝ }
+    requires { ⌜ Fits (now next) (now free) n u × (set < 2 ^ n) ⌝ }
     ensures { λ r. ⌜ r ≡ leftOf (now (next .entry)) (now (free .entry)) n u intermediate set ⌝ }
 {
-    let mut kept: u32 = 0;
+    let mut left = set;
     let mut q: usize = 0;
     while q < n {
         if has(set, q) {
@@ -75,13 +75,13 @@ fn refine<'a>(
                 }
                 k = k + 1;
             }
-            if k == u {
-                kept = kept + bit(q);
+            if k < u {
+                left = left - bit(q);
             }
         }
         q = q + 1;
     }
-    kept
+    left
 }
 
 // Rounds until one takes nothing out, and how many took a state out.
@@ -93,17 +93,17 @@ pub fn settle<'a>(
     intermediate: u32,
     from: u32,
 ) -> Settled
-    requires { ⌜ Fits (now next) (now free) n u ⌝ }
+    requires { ⌜ Fits (now next) (now free) n u × (from < 2 ^ n) ⌝ }
     ensures { λ r. ⌜ r ≡ settledOn (now (next .entry)) (now (free .entry)) n u intermediate from ⌝ }
 {
     let mut set = from;
     let mut rounds: u32 = 0;
     loop {
-        let kept = refine(next, free, n, u, intermediate, set);
-        if kept == set {
+        let left = refine(next, free, n, u, intermediate, set);
+        if left == set {
             break Settled { set, rounds };
         }
-        set = kept;
+        set = left;
         rounds = rounds + 1;
     }
 }

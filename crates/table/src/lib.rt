@@ -20,7 +20,7 @@ fn sets_from<'a>(
     symbol: usize,
     goal: u32,
 ) -> Sets
-    requires { ⌜ Fits (now next) (now free) n u × (symbol < 16) ⌝ }
+    requires { ⌜ Fits (now next) (now free) n u × (accepting < 2 ^ n) × (symbol < 16) ⌝ }
     ensures { λ r. ⌜ r ≡ setsFrom (now (next .entry)) (now (free .entry)) n u accepting symbol goal ⌝ }
 {
     let intermediate = predecessors(next, n, symbol, goal);

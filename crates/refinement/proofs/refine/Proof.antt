@@ -1,14 +1,12 @@
-use Rattle.refinement.proofs.Scanning.{scan-none, scan-more, scan-fails}
-use Rattle.refinement.specs.Parts.{leads, leftOf}
-use Rattle.automaton.specs.Parts.{goes}
-use Rattle.base.proofs.Masks.{mask-adds, mask-passes, mask-room}
-use Rattle.base.proofs.Bools.{and-both, and-left-false, and-right-false}
-use Rattle.base.specs.Masks.{has, mask}
-use lib.Bits.{bitOr}
-use borrow.Author.Tests.{not-true, not-false}
+use mathlib.Core.Bool.{true, false}
+use mathlib.Core.Path.{_≡_, sym, _∙_, ap}
 use Prim.Native.Nat.{_≤_, _-_, _+_, _*_}
-use mathlib.Core.Path.{_≡_, refl, sym, _∙_, ap}
-use mathlib.Core.Bool.{true, false, _&&_}
+use borrow.Author.Tests.{not-true, not-false}
+use lib.Bits.{bitOr}
+use Rattle.base.specs.Masks.{has}
+use Rattle.automaton.specs.Parts.{goes}
+use Rattle.refinement.specs.Parts.{leads}
+use Rattle.refinement.proofs.Scanning.{scan-none, scan-more, scan-fails, Leaving, leave-none, leave-stays, leave-absent, leave-room, leave-taken, leave-all}
 use mathlib.Core.Logic.{⊎-elim}
 use native.Mathlib.Omega.{arith}
 use borrow.Author.Needs.{needs}
@@ -16,20 +14,19 @@ use Rattle.refinement.proofs.refine.Statement.{statement}
 use Rattle.refinement.proofs.refine.Tie as tie
 
 abbrev Inv-scan : tie.InvT-scan
-Inv-scan next free n u intermediate set kept q safe k₀ k = (k ≤ u) × (leads next free k (bitOr set intermediate) q ≡ true)
+Inv-scan next free n u intermediate set left q safe k₀ k = (k ≤ u) × (leads next free k (bitOr set intermediate) q ≡ true)
 
 abbrev μ-scan : tie.MeasureT-scan
-μ-scan next free n u intermediate set kept q safe k₀ k = u - k
+μ-scan next free n u intermediate set left q safe k₀ k = u - k
 
 abbrev Inv-loop : tie.InvT-loop
-Inv-loop next free n u intermediate set kept₀ q₀ kept q = (q ≤ n) × (kept ≡ mask q (λ q. has set q && leads next free u (bitOr set intermediate) q))
+Inv-loop next free n u intermediate set left₀ q₀ left q = (q ≤ n) × Leaving next free n u intermediate set q left
 
 abbrev μ-loop : tie.MeasureT-loop
-μ-loop next free n u intermediate set kept₀ q₀ kept q = n - q
+μ-loop next free n u intermediate set left₀ q₀ left q = n - q
 
 loop-holds : tie.Need-loop-holds Inv-scan μ-scan Inv-loop μ-loop
-unfolding mask
-loop-holds c = (omega arith, refl)
+loop-holds c = (omega arith, leave-none _ _ _ _ _ _ (c .pre .1))
 
 has-requires : tie.Need-has-requires Inv-scan μ-scan Inv-loop μ-loop
 has-requires c κs = search needs
@@ -47,16 +44,16 @@ size-requires : tie.Need-size-requires Inv-scan μ-scan Inv-loop μ-loop
 size-requires c κs = search needs
 
 add-size : tie.Need-add-size Inv-scan μ-scan Inv-loop μ-loop
-add-size c = omega (arith, c .size .ensures .0, c .before .before .before .before .before .before .before .before .pre .free-below (c .before .before .before .scan .k))
+add-size c = omega (arith, c .size .ensures .0, c .before .before .before .before .before .before .before .before .pre .0 .free-below (c .before .before .before .scan .k))
 
 element-copy-out-size-2 : tie.Need-element-copy-out-size-2 Inv-scan μ-scan Inv-loop μ-loop
-element-copy-out-size-2 c = omega (arith, c .size .ensures .0, c .before .before .before .before .before .before .before .before .pre .free-below (c .before .before .before .scan .k))
+element-copy-out-size-2 c = omega (arith, c .size .ensures .0, c .before .before .before .before .before .before .before .before .pre .0 .free-below (c .before .before .before .scan .k))
 
 size-requires-2 : tie.Need-size-requires-2 Inv-scan μ-scan Inv-loop μ-loop
 size-requires-2 c κs = search needs
 
 has-requires-2 : tie.Need-has-requires-2 Inv-scan μ-scan Inv-loop μ-loop
-has-requires-2 c κs = omega (arith, c .size2 .ensures .0, c .before .before .before .before .before .before .before .before .before .before .pre .next-below (c .before .before .before .before .before .before .before .before .before .loop .q * 16 + c .before .before .size .result))
+has-requires-2 c κs = omega (arith, c .size2 .ensures .0, c .before .before .before .before .before .before .before .before .before .before .pre .0 .next-below (c .before .before .before .before .before .before .before .before .before .loop .q * 16 + c .before .before .size .result))
 
 add-k : tie.Need-add-k Inv-scan μ-scan Inv-loop μ-loop
 add-k c = search needs
@@ -70,8 +67,8 @@ scan-again c = let state = c .before .before .size2 .ensures .0 ∙ ap (λ e. go
 bit-requires : tie.Need-bit-requires Inv-scan μ-scan Inv-loop μ-loop
 bit-requires c κs = search needs
 
-add-kept : tie.Need-add-kept Inv-scan μ-scan Inv-loop μ-loop
-add-kept c = omega (arith, mask-room _ _ _ (c .before .before .before .before .before .before .before .loop .inv .1) 32 (omega arith) (c .bit .ensures))
+sub-left : tie.Need-sub-left Inv-scan μ-scan Inv-loop μ-loop
+sub-left c = let a = c .before .before .before .before .before .before .before .before .args in let q = c .before .before .before .before .before .before .before .loop .q in leave-room _ _ _ _ _ _ _ _ (c .before .before .before .before .before .before .before .loop .inv .1) (omega arith) (sym (c .before .before .before .before .before .has .ensures) ∙ c .before .before .before .before .if1 .taken) (⊎-elim (λ x. absurd {A = leads (a .next .now) (a .free .now) (a .u) (bitOr (a .set) (a .intermediate)) q ≡ false} (omega arith)) (λ x. let state = x .4 .ensures .0 ∙ ap (λ e. goes (a .next .now) q e) (x .2 .ensures .0) in scan-fails _ _ _ _ (c .before .before .before .scan .k) _ (x .0 .taken) (sym (x .5 .ensures ∙ ap (has _) state) ∙ not-true _ (x .6 .taken))) (c .before .before .scan-test .came)) (c .bit .ensures)
 
 add-q : tie.Need-add-q Inv-scan μ-scan Inv-loop μ-loop
 add-q c = search needs
@@ -80,11 +77,10 @@ loop-less : tie.Need-loop-less Inv-scan μ-scan Inv-loop μ-loop
 loop-less c = search needs
 
 loop-again : tie.Need-loop-again Inv-scan μ-scan Inv-loop μ-loop
-loop-again c = let a = c .before .before .before .before .args in let q = c .before .before .before .loop .q in let so-far = c .before .before .before .loop .inv .1 in (omega arith, ⊎-elim (λ w. w .5 ∙ mask-adds _ _ _ so-far (w .4 .ensures) (and-both (sym (c .before .has .ensures) ∙ w .0 .taken) (ap (λ k. leads _ _ k _ _) (sym (w .3 .taken)) ∙ w .1 .inv .1))) (⊎-elim (λ w. w .4 ∙ mask-passes _ _ _ so-far (and-right-false (has (a .set) q) (⊎-elim (λ x. absurd {A = leads (a .next .now) (a .free .now) (a .u) (bitOr (a .set) (a .intermediate)) q ≡ false} (w .3 .left (omega arith))) (λ x. let state = x .4 .ensures .0 ∙ ap (λ e. goes (a .next .now) q e) (x .2 .ensures .0) in scan-fails _ _ _ _ (w .1 .k) _ (x .0 .taken) (sym (x .5 .ensures ∙ ap (has _) state) ∙ not-true _ (x .6 .taken))) (w .2 .came)))) (λ w. w .1 ∙ mask-passes _ _ _ so-far (and-left-false _ (sym (c .before .has .ensures) ∙ w .0 .left)))) (c .if1 .came))
+loop-again c = let a = c .before .before .before .before .args in let q = c .before .before .before .loop .q in let s = c .before .before .before .loop .inv .1 in (omega arith, ⊎-elim (λ w. rw (w .5) (leave-taken _ _ _ _ _ _ _ _ s (omega arith) (sym (c .before .has .ensures) ∙ w .0 .taken) (⊎-elim (λ x. absurd {A = leads (a .next .now) (a .free .now) (a .u) (bitOr (a .set) (a .intermediate)) q ≡ false} (omega arith)) (λ x. let state = x .4 .ensures .0 ∙ ap (λ e. goes (a .next .now) q e) (x .2 .ensures .0) in scan-fails _ _ _ _ (w .1 .k) _ (x .0 .taken) (sym (x .5 .ensures ∙ ap (has _) state) ∙ not-true _ (x .6 .taken))) (w .2 .came)) (w .4 .ensures))) (⊎-elim (λ w. let e : w .1 .k ≡ a .u = omega arith in rw (w .4) (leave-stays _ _ _ _ _ _ _ _ s (rw e at (w .1 .inv .1)))) (λ w. rw (w .1) (leave-absent _ _ _ _ _ _ _ _ s (sym (c .before .has .ensures) ∙ w .0 .left)))) (c .if1 .came))
 
 returns : tie.Need-returns Inv-scan μ-scan Inv-loop μ-loop
-unfolding leftOf
-returns c = let e : c .before .loop .q ≡ c .before .before .args .n = omega arith in rw e at (c .before .loop .inv .1)
+returns c = leave-all _ _ _ _ _ _ _ _ (c .before .loop .inv .1) (omega arith)
 
 pub refine-spec : {M : Type 1} → statement M
 refine-spec =
@@ -108,7 +104,7 @@ refine-spec =
     scan-less
     scan-again
     bit-requires
-    add-kept
+    sub-left
     add-q
     loop-less
     loop-again

@@ -3,7 +3,6 @@ use Rattle.refinement.proofs.Free.{listed-all}
 use Rattle.refinement.proofs.Free.{Listed, listed-room, listed-more, listed-same}
 use Rattle.base.specs.Each.{those}
 use Rattle.base.specs.Pad.{pad}
-use Rattle.refinement.specs.Parts.{freeTo}
 use Prim.Native.Nat.{_≤_, _-_}
 use mathlib.Core.Path.{refl, sym, _∙_, ap}
 use mathlib.Core.Logic.{⊎-elim}

@@ -36,7 +36,7 @@ uncontrollable-requires : tie.Need-uncontrollable-requires Inv-loop μ-loop
 uncontrollable-requires c κs = omega (arith, c .before .before .before .before .before .before .before .before .before .size2 .ensures .0, valid-facts _ (c .before .before .before .before .before .before .before .before .before .before .before .before .pre .0) .symbols-high)
 
 settle-requires : tie.Need-settle-requires Inv-loop μ-loop
-settle-requires c κs = lent-of _ _ _ _ _ _ _ (c .before .before .before .before .before .before .before .before .before .before .before .before .before .before .before .before .before .pre .0) (c .before .before .before .before .before .before .before .before .before .before .before .before .before .before .before .size .ensures .0) (c .before .before .before .before .before .before .before .before .before .before .before .before .before .before .size2 .ensures .0) (c .before .before .before .before .before .before .before .before .before .before .before .before .before .size3 .ensures .0) (c .before .before .before .before .before .before .before .before .before .before .controllable-in .ensures) (c .before .before .before .before .before .before .before .accepting-states .ensures) (c .before .before .before .before .uncontrollable .ensures) .fits
+settle-requires c κs = let lent = lent-of _ _ _ _ _ _ _ (c .before .before .before .before .before .before .before .before .before .before .before .before .before .before .before .before .before .pre .0) (c .before .before .before .before .before .before .before .before .before .before .before .before .before .before .before .size .ensures .0) (c .before .before .before .before .before .before .before .before .before .before .before .before .before .before .size2 .ensures .0) (c .before .before .before .before .before .before .before .before .before .before .before .before .before .size3 .ensures .0) (c .before .before .before .before .before .before .before .before .before .before .controllable-in .ensures) (c .before .before .before .before .before .before .before .accepting-states .ensures) (c .before .before .before .before .uncontrollable .ensures) in (lent .fits, lent-small _ _ _ _ _ _ _ lent)
 
 slice-write-table : tie.Need-slice-write-table Inv-loop μ-loop
 slice-write-table c = omega (arith, c .before .before .before .before .before .before .before .before .before .before .before .before .before .before .before .before .before .before .pre .1, some-buffer (c .before .before .before .before .before .before .before .before .before .before .before .before .before .before .before .before .before .before .args .t1))

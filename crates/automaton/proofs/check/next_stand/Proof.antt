@@ -18,14 +18,17 @@ rows-below-requires c κs = search needs
 returns : tie.Need-returns
 returns c = next-falls _ _ _ (omega arith) (omega arith) (rw (c .before .before .before .before .size .ensures .0, c .before .before .before .limits-of .ensures) at (sym (c .before .rows-below .ensures) ∙ not-true _ (c .if1 .taken)))
 
-sub-rows-below : tie.Need-sub-rows-below
-sub-rows-below c = search needs
+mul-used : tie.Need-mul-used
+mul-used c = search needs
 
-rows-below-requires-2 : tie.Need-rows-below-requires-2
-rows-below-requires-2 c κs = search needs
+sub-below-from : tie.Need-sub-below-from
+sub-below-from c = search needs
+
+below-from-requires : tie.Need-below-from-requires
+below-from-requires c κs = search needs
 
 returns-2 : tie.Need-returns-2
-returns-2 c = (rw (c .before .before .before .before .before .before .size .ensures .0) at (c .rows-below2 .ensures)) ∙ next-rest _ _ _ (omega arith) (omega arith) (rw (c .before .before .before .before .before .before .size .ensures .0, c .before .before .before .before .before .limits-of .ensures) at (sym (c .before .before .before .rows-below .ensures) ∙ not-false _ (c .before .before .if1 .left)))
+returns-2 c = (rw (c .before .before .before .before .before .before .size .ensures .0) at (c .below-from .ensures)) ∙ next-rest _ _ _ (omega arith) (omega arith) (rw (c .before .before .before .before .before .before .size .ensures .0, c .before .before .before .before .before .limits-of .ensures) at (sym (c .before .before .before .rows-below .ensures) ∙ not-false _ (c .before .before .if1 .left)))
 
 pub next-stand-spec : {M : Type 1} → statement M
 next-stand-spec =
@@ -35,6 +38,7 @@ next-stand-spec =
     limits-of-requires
     rows-below-requires
     returns
-    sub-rows-below
-    rows-below-requires-2
+    mul-used
+    sub-below-from
+    below-from-requires
     returns-2)
