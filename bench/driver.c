@@ -88,46 +88,75 @@ static void make_any_record(uint8_t *r, uint32_t most)
     }
 }
 
-/* One byte of a record is changed, sometimes to a value that still stands. */
+/* One place of a record is changed: any byte, sometimes to a value that still stands, or one that lies just past what may stand. */
 static void damage_record(uint8_t *r)
 {
     static const uint16_t start[] = { 0, 1, 2, 3, 4, 20, 52 }, size[] = { 1, 1, 1, 1, 16, 32, 512 };
-    unsigned part = below(7);
-    r[start[part] + below(size[part])] = (uint8_t)(below(2) ? below(4) : below(4) ? below(40) : any());
+    unsigned n = r[0], m = r[1], q = below(n), e = below(m), part = below(7);
+    switch (below(14)) {
+    case 0: r[0] = 33; break;
+    case 1: r[1] = 17; break;
+    case 2: r[2] = 7; break;
+    case 3: r[3] = r[0]; break;
+    case 4: r[4 + e] = 2; break;
+    case 5: r[20 + q] = 2; break;
+    case 6: r[52 + q * 16 + e] = r[0]; break;
+    case 7: memset(r + 4, 1, m); break; /* perhaps nine controllable kinds */
+    case 8: r[m < 16 ? 4 + m : 563] = 1; break;
+    case 9: r[n < 32 ? 20 + n : 563] = 1; break;
+    case 10: r[n < 32 ? 52 + n * 16 : 563] = 1; break;
+    case 11: r[m < 16 ? 52 + q * 16 + m : 563] = 1; break;
+    case 12: r[563] ^= 1; break;
+    default: r[start[part] + below(size[part])] = (uint8_t)(below(2) ? below(4) : below(4) ? below(40) : any());
+    }
 }
 
-/* A record as bytes, some numbers padded; then perhaps damaged. */
-static size_t make_bytes(const uint8_t *r, uint8_t *bytes, int padded, int damaged)
+/* A number in seven-bit groups, perhaps padded. */
+static size_t put_number(uint8_t *bytes, uint8_t value, int padded)
 {
     size_t used = 0;
-    uint8_t plain[JAXHOPHASI_SHEET_MOST], length[8];
-    if (ref_write(r, plain, sizeof plain, length))
-        return 0;
-    for (size_t i = 0; i < number_at(length); i++) {
-        unsigned more = padded ? below(8) : 0;
-        bytes[used++] = more == 1 || more == 2 ? plain[i] | 128 : plain[i];
-        if (more == 2)
-            bytes[used++] = 128;
-        if (more == 1 || more == 2)
-            bytes[used++] = 0;
-    }
-    for (; damaged; damaged--)
-        switch (below(5)) {
-        case 0:
-            used = below((uint32_t)used + 1);
-            break;
-        case 1:
-            bytes[used++] = (uint8_t)any();
-            break;
-        case 2:
-            if (used)
-                bytes[below(least((unsigned)used, 6))] = (uint8_t)any();
-            break;
-        default:
-            if (used)
-                bytes[below((uint32_t)used)] = (uint8_t)(below(2) ? below(4) : any());
-        }
+    unsigned more = padded ? below(8) : 0;
+    bytes[used++] = value > 127 || more == 1 || more == 2 ? value | 128 : value;
+    if (value > 127 || more == 1 || more == 2)
+        bytes[used++] = more == 2 ? value >> 7 | 128 : value >> 7;
+    if (more == 2)
+        bytes[used++] = 0;
     return used;
+}
+
+/* The numbers of a record, which need not be a valid one, as bytes. */
+static size_t make_bytes(const uint8_t *r, uint8_t *bytes, int padded)
+{
+    size_t used = 0;
+    unsigned n = least(r[0], 32), m = least(r[1], 16);
+    for (unsigned i = 0; i < 4; i++)
+        used += put_number(bytes + used, r[i], padded);
+    for (unsigned e = 0; e < m; e++)
+        used += put_number(bytes + used, r[4 + e], padded);
+    for (unsigned q = 0; q < n; q++)
+        used += put_number(bytes + used, r[20 + q], padded);
+    for (unsigned q = 0; q < n; q++)
+        for (unsigned e = 0; e < m; e++)
+            used += put_number(bytes + used, r[52 + q * 16 + e], padded);
+    return used;
+}
+
+/* Bytes are cut off, added or changed. */
+static size_t damage_bytes(uint8_t *bytes, size_t used)
+{
+    switch (below(5)) {
+    case 0:
+        return below((uint32_t)used + 1);
+    case 1:
+        bytes[used] = (uint8_t)any();
+        return used + 1;
+    case 2:
+        bytes[below(least((unsigned)used, 6) + 1)] = (uint8_t)any();
+        return used;
+    default:
+        bytes[below((uint32_t)used + 1)] = (uint8_t)(below(2) ? below(4) : any());
+        return used;
+    }
 }
 
 /* A carried state of the sheet, or a damaged one. */
@@ -326,14 +355,19 @@ static void compare_calls(twin record, twin table, size_t places, twin state)
 
 static void compare_round(uint32_t most)
 {
-    uint8_t r[JAXHOPHASI_AUTOMATON_SIZE], bytes[3 * JAXHOPHASI_SHEET_MOST + 8], count[8];
+    uint8_t r[JAXHOPHASI_AUTOMATON_SIZE], bytes[3 * JAXHOPHASI_SHEET_MOST + 8] = { 0 }, count[8];
     make_any_record(r, most);
-    compare_read(bytes, make_bytes(r, bytes, (int)below(2), 0));
-    compare_read(bytes, make_bytes(r, bytes, below(4) == 0, 1 + (int)below(3)));
+    size_t used = make_bytes(r, bytes, (int)below(2));
+    compare_read(bytes, used);
+    for (unsigned i = below(4); i > 0; i--)
+        used = damage_bytes(bytes, used);
+    compare_read(bytes, used);
     ref_flat_check = (int)below(2);
     twin record = twins(JAXHOPHASI_AUTOMATON_SIZE, 0), state = twins(JAXHOPHASI_CONFIGURATION_SIZE, 0);
-    if (below(8) == 0)
+    if (below(4) == 0) {
         damage_record(r);
+        compare_read(bytes, make_bytes(r, bytes, (int)below(2)));
+    }
     set_twins(record, r, JAXHOPHASI_AUTOMATON_SIZE);
     size_t sheet = 4u + r[0] + r[1] + r[0] * r[1];
     compare_write(record, below(2) ? sheet : below(2) ? sheet + below(9) : below((uint32_t)sheet + 1));

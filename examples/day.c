@@ -54,14 +54,18 @@ static void print_day(const uint8_t *sheet, const uint32_t *table, size_t places
         return;
     jaxhophasi_initial(sheet, state);
     uint8_t row = jaxhophasi_run(sheet, table, places, state, events, count, out, count, answer);
-    printf("day refused %u out", row);
-    print_kinds(out, number_at(answer + JAXHOPHASI_RAN_LENGTH));
-    print_state(state);
-    printf(" events refused %u\n", (unsigned)number_at(answer + JAXHOPHASI_RAN_REFUSED));
+    if (row)
+        printf("day refused %u\n", row);
+    else {
+        printf("day out");
+        print_kinds(out, number_at(answer + JAXHOPHASI_RAN_LENGTH));
+        print_state(state);
+        printf(" refused %u\n", (unsigned)number_at(answer + JAXHOPHASI_RAN_REFUSED));
+    }
     free(out);
 }
 
-/* Solves the sheet and runs the events. */
+/* Solves the sheet and runs the events. A record that was read is refused by none of these calls. */
 static int run(const uint8_t *sheet, const uint32_t *events, size_t count)
 {
     uint8_t number[JAXHOPHASI_NUMBER_SIZE], state[JAXHOPHASI_CONFIGURATION_SIZE], guarded[JAXHOPHASI_STATUS_SIZE];

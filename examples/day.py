@@ -82,7 +82,10 @@ def main(path, sheet_path, events):
     answer, out = lent(RAN_SIZE), lent(len(events) + 1)
     gate.jaxhophasi_initial(sheet, state)
     row = gate.jaxhophasi_run(sheet, table, places, state, numbers(events), len(events), out, len(events), answer)
-    print("day refused", row, "out", kinds(out[:number_at(answer)]), "state", state[0], "held", state[1], "events refused", number_at(answer, 8))
+    if row:
+        print("day refused", row)
+    else:
+        print("day out", kinds(out[:number_at(answer)]), "state", state[0], "held", state[1], "refused", number_at(answer, 8))
     return 0
 
 
