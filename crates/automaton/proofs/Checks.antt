@@ -38,14 +38,14 @@ module _ (next : List ℕ) (q e : ℕ) (limits : List ℕ) (fine : Bool) (so-far
   row-keeps h =
       each-keeps (λ i. ltb (getD next (q * 16 + i) 0) (getD limits i 0)) e fine so-far (lt-ltb (getD next (q * 16 + e) 0) (getD limits e 0) h)
 
-module _ (next : List ℕ) (from q : ℕ) (limits : List ℕ) (fine : Bool) (so-far : fine ≡ rowsBelow next from q limits) where
-  pub rows-fall : rowBelow next (from + q) limits ≡ false → false ≡ rowsBelow next from (q + 1) limits
+module _ (next : List ℕ) (q : ℕ) (limits : List ℕ) (fine : Bool) (so-far : fine ≡ rowsBelow next q limits) where
+  pub rows-fall : rowBelow next q limits ≡ false → false ≡ rowsBelow next (q + 1) limits
   unfolding rowsBelow
-  rows-fall h = each-falls (λ q. rowBelow next (from + q) limits) q fine so-far h
+  rows-fall h = each-falls (λ q. rowBelow next q limits) q fine so-far h
 
-  pub rows-keep : rowBelow next (from + q) limits ≡ true → fine ≡ rowsBelow next from (q + 1) limits
+  pub rows-keep : rowBelow next q limits ≡ true → fine ≡ rowsBelow next (q + 1) limits
   unfolding rowsBelow
-  rows-keep h = each-keeps (λ q. rowBelow next (from + q) limits) q fine so-far h
+  rows-keep h = each-keeps (λ q. rowBelow next q limits) q fine so-far h
 
 -- one more class
 module _ (classes : List ℕ) (e n : ℕ) (so-far : n ≡ controllableIn classes e) where

@@ -72,7 +72,7 @@ each-rows w (suc k) p =
 
 rows-are : (next : List ℕ) (n m : ℕ) → n ≤ 32 → m ≤ 16
     → each 32 (λ q. each 16 (λ e. stands (ltb q n && ltb e m) n (getD next (q * 16 + e) 0)))
-    ≡ (rowsBelow next 0 n (limitsOf n m) && belowFrom next (n * 16) (512 - n * 16) 1)
+    ≡ (rowsBelow next n (limitsOf n m) && belowFrom next (n * 16) (512 - n * 16) 1)
 unfolding rowsBelow belowFrom
 rows-are next n m h k =
     let e : 32 ≡ n + (32 - n) = omega arith in
@@ -82,7 +82,7 @@ rows-are next n m h k =
     ap (λ x. each x p) e ∙
     each-split n (32 - n) p ∙
     ap₂ _&&_
-    (each-same n p (λ q. rowBelow next (0 + q) (limitsOf n m)) (λ q l. rw (zero-add q) (row-used next n m q k l)))
+    (each-same n p (λ q. rowBelow next q (limitsOf n m)) (λ q l. row-used next n m q k l))
     (each-same (32 - n) (λ q. p (n + q)) (λ q. each 16 (λ e. zeros (q * 16 + e)))
     (λ q l. each-same 16 (λ e. stands (ltb (n + q) n && ltb e m) n (getD next ((n + q) * 16 + e) 0)) (λ e. zeros (q * 16 + e)) (λ e _. place-unused next n m q e)) ∙
     each-rows 16 (32 - n) zeros ∙

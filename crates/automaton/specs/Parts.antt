@@ -22,9 +22,9 @@ limitsOf n m = replicate m n ++ replicate (16 - m) 1
 unfoldable pub rowBelow : List ℕ → ℕ → List ℕ → Bool
 rowBelow next q limits = each 16 (λ e. ltb (getD next (q * 16 + e) 0) (getD limits e 0))
 
--- .. and those of `k` states from `from` on
-unfoldable pub rowsBelow : List ℕ → ℕ → ℕ → List ℕ → Bool
-rowsBelow next from k limits = each k (λ q. rowBelow next (from + q) limits)
+-- .. and those of the first `k` states
+unfoldable pub rowsBelow : List ℕ → ℕ → List ℕ → Bool
+rowsBelow next k limits = each k (λ q. rowBelow next q limits)
 
 -- how many of the first m classes are controllable
 unfoldable pub controllableIn : List ℕ → ℕ → ℕ
@@ -38,5 +38,5 @@ tablesHold n m classes accepting next =
     (leb (controllableIn classes m) 8 &&
     (belowFrom accepting 0 n 2 &&
     (belowFrom accepting n (32 - n) 1 &&
-    (rowsBelow next 0 n (limitsOf n m) &&
+    (rowsBelow next n (limitsOf n m) &&
     belowFrom next (n * 16) (512 - n * 16) 1)))))

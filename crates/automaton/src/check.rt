@@ -73,14 +73,14 @@ fn row_below<'a>(next: &'a [u8; 512], q: usize, limits: &'a [u8; 16]) -> bool
     fine
 }
 
-fn rows_below<'a>(next: &'a [u8; 512], from: usize, count: usize, limits: &'a [u8; 16]) -> bool
-    requires { ⌜ from + count ≤ 32 ⌝ }
-    ensures { λ r. ⌜ r ≡ rowsBelow (now (next .entry)) from count (now (limits .entry)) ⌝ }
+fn rows_below<'a>(next: &'a [u8; 512], count: usize, limits: &'a [u8; 16]) -> bool
+    requires { ⌜ count ≤ 32 ⌝ }
+    ensures { λ r. ⌜ r ≡ rowsBelow (now (next .entry)) count (now (limits .entry)) ⌝ }
 {
     let mut fine = true;
     let mut q: usize = 0;
     while q < count {
-        if !row_below(next, from + q, limits) {
+        if !row_below(next, q, limits) {
             fine = false;
         }
         q = q + 1;
@@ -130,7 +130,7 @@ fn tables_hold<'a>(
         return false;
     }
     let limits = limits_of(n, m);
-    if !rows_below(next, 0, states, &limits) {
+    if !rows_below(next, states, &limits) {
         return false;
     }
     let unused = states * 16;

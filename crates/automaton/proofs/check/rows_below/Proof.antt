@@ -11,17 +11,14 @@ use Rattle.automaton.proofs.check.rows_below.Statement.{statement}
 use Rattle.automaton.proofs.check.rows_below.Tie as tie
 
 abbrev Inv-loop : tie.InvT-loop
-Inv-loop next from count limits fine₀ q₀ fine q = (q ≤ count) × (fine ≡ rowsBelow next from q limits)
+Inv-loop next count limits fine₀ q₀ fine q = (q ≤ count) × (fine ≡ rowsBelow next q limits)
 
 abbrev μ-loop : tie.MeasureT-loop
-μ-loop next from count limits fine₀ q₀ fine q = count - q
+μ-loop next count limits fine₀ q₀ fine q = count - q
 
 loop-holds : tie.Need-loop-holds Inv-loop μ-loop
 unfolding rowsBelow each
 loop-holds c = (omega arith, refl)
-
-add-row-below : tie.Need-add-row-below Inv-loop μ-loop
-add-row-below c = search needs
 
 row-below-requires : tie.Need-row-below-requires Inv-loop μ-loop
 row-below-requires c κs = search needs
@@ -33,7 +30,7 @@ loop-less : tie.Need-loop-less Inv-loop μ-loop
 loop-less c = search needs
 
 loop-again : tie.Need-loop-again Inv-loop μ-loop
-loop-again c = (omega arith, ⊎-elim (λ w. w .1 ∙ rows-fall _ _ _ _ _ (c .before .before .before .loop .inv .1) (sym (c .before .row-below .ensures) ∙ not-true _ (w .0 .taken))) (λ w. w .1 ∙ rows-keep _ _ _ _ _ (c .before .before .before .loop .inv .1) (sym (c .before .row-below .ensures) ∙ not-false _ (w .0 .left))) (c .if1 .came))
+loop-again c = (omega arith, ⊎-elim (λ w. w .1 ∙ rows-fall _ _ _ _ (c .before .before .before .loop .inv .1) (sym (c .before .row-below .ensures) ∙ not-true _ (w .0 .taken))) (λ w. w .1 ∙ rows-keep _ _ _ _ (c .before .before .before .loop .inv .1) (sym (c .before .row-below .ensures) ∙ not-false _ (w .0 .left))) (c .if1 .came))
 
 returns : tie.Need-returns Inv-loop μ-loop
 returns c = let e : c .before .loop .q ≡ c .before .before .args .count = omega arith in rw e at (c .before .loop .inv .1)
@@ -45,7 +42,6 @@ rows-below-spec =
     Inv-loop
     μ-loop
     loop-holds
-    add-row-below
     row-below-requires
     add-q
     loop-less
