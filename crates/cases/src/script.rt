@@ -36,6 +36,7 @@ struct Left {
     places: usize,
 }
 
+// Runs a line: each part looks at its word.
 fn step(
     word: u8,
     label: &[u8],
@@ -85,6 +86,7 @@ fn line(text: &[u8], values: &mut [u32], bytes: &mut [u8], table: &mut [u32], le
     )
 }
 
+// What there is before the first line: an all-zero record.
 fn nothing() -> Left {
     let automaton = encoding::read(&[]).automaton;
     Left {
