@@ -9,6 +9,7 @@ ghost use lib.ListN.{length};
 ghost use Rattle.text.specs.Decimal.{Appended};
 ghost use Rattle.conversion.specs.Messages.{visible, shown, tokenLine, said, message};
 
+// A byte as it is shown: `?` where it is no printable ASCII.
 fn visible(b: u8) -> u8
     ensures { λ r. ⌜ r ≡ visible b ⌝ }
 {

@@ -10,7 +10,7 @@ use Rattle.text.specs.Decimal.{decimal}
 use Rattle.notation.specs.Outcomes.{Outcome, numbers, faulty, before, placed}
 pub use Rattle.listing.specs.declared.Unpacked.{Unpacked}
 
--- what bytes say: numbers, or the row of the first fault and the place where the faulty number begins
+-- numbers, or the row of the first fault and the place where the faulty number begins
 abbrev pub Decoded : Type 0
 Decoded = Outcome (ℕ × ℕ)
 
@@ -23,6 +23,7 @@ decodedFrom (suc k) s at =
     (cond (eqb (n .refusal) 0) (before (n .value) (decodedFrom k s (n .place))) (faulty (n .refusal, n .place)))
     (numbers [])
 
+-- what bytes say
 unfoldable pub decoded : List ℕ → Decoded
 decoded s = decodedFrom (suc (length s)) s 0
 

@@ -11,10 +11,11 @@ use Rattle.notation.specs.Words.{Fault, wordOf}
 pub use Rattle.notation.specs.declared.Packed.{Packed}
 use Rattle.notation.specs.declared.Fault.the-variants.{None, NotNumber, TooLarge, NoRoom}
 
--- what a text says: its numbers, or its first fault and the token where it stands
+-- a text's numbers, or its first fault and the token where it stands
 abbrev pub Reading : Type 0
 Reading = Outcome (Fault × Token)
 
+-- whether nothing is wrong
 unfoldable pub sound : Fault → Bool
 sound None = true
 sound NotNumber = false
@@ -32,6 +33,7 @@ readingFrom (suc k) s lines at =
     (cond (sound (w .fault)) (before (w .value) (readingFrom k s (t .lines) (t .to))) (faulty (w .fault, t)))
     (numbers [])
 
+-- what a text says
 unfoldable pub reading : List ℕ → Reading
 reading s = readingFrom (suc (length s)) s 0 0
 

@@ -15,6 +15,7 @@ largest = 2097151
 unfoldable pub isDigit : ℕ → Bool
 isDigit b = leb (code "0") b && leb b (code "9")
 
+-- each byte is a digit
 unfoldable pub allDigits : List ℕ → Bool
 allDigits [] = true
 allDigits (b ∷ w) = isDigit b && allDigits w
@@ -24,6 +25,7 @@ unfoldable pub valueFrom : ℕ → List ℕ → ℕ
 valueFrom v [] = v
 valueFrom v (b ∷ w) = valueFrom (v * 10 + (b - code "0")) w
 
+-- answers: a number; a fault
 abbrev pub number : ℕ → Word
 number v = record { fault = None; value = v }
 
@@ -37,5 +39,6 @@ wordFrom v w =
     (cond (ltb largest (valueFrom v w)) (wrong TooLarge) (number (valueFrom v w)))
     (wrong NotNumber)
 
+-- what a token's bytes are
 unfoldable pub wordOf : List ℕ → Word
 wordOf w = wordFrom 0 w

@@ -6,13 +6,14 @@ use crate::Token;
 use crate::scanning::next_token;
 use crate::words::read_word;
 ghost use mathlib.Core.Path.{_≡_};
-ghost use Prim.Native.Nat.{_+_, _<_, _≤_, _^_};
+ghost use Prim.Native.Nat.{_+_, _<_, _≤_};
 ghost use lib.ListN.{length};
 ghost use Rattle.varint.specs.Varint.{bytes};
 ghost use Rattle.text.specs.Decimal.{Appended};
 ghost use Rattle.notation.specs.Packing.{sound, reading, done, noRoom, refused, packed, packedBuffer};
 ghost use Rattle.notation.specs.Parts.{itemAt, checked, Fits};
 
+// Whether nothing is wrong.
 fn sound(f: Fault) -> bool
     ensures { λ r. ⌜ r ≡ sound f ⌝ }
 {
@@ -48,6 +49,7 @@ fn no_room() -> Packed
     }
 }
 
+// A fault at a token.
 fn refused(fault: Fault, t: Token) -> Packed
     requires { ⌜ t .lines < t .to ⌝ }
     ensures { λ r. ⌜ r ≡ refused fault t ⌝ }

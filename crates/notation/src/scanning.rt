@@ -52,6 +52,7 @@ fn comment(c: bool, b: u8) -> bool
     c
 }
 
+// How many lines end with a byte.
 fn newlines(b: u8) -> usize
     ensures { λ r. ⌜ r ≡ newlines b ⌝ }
 {
@@ -93,6 +94,7 @@ fn token_end(source: &[u8], from: usize) -> usize
     at
 }
 
+// The first token from a place on; an empty one at the text's end.
 pub fn next_token(source: &[u8], lines: usize, at: usize) -> Token
     requires { ⌜ (lines ≤ at) × (at ≤ length (now source)) ⌝ }
     ensures { λ r. ⌜ r ≡ tokenAt (now (source .entry)) lines at ⌝ }

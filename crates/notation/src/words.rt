@@ -15,12 +15,14 @@ fn wrong(fault: Fault) -> Word
     Word { fault, value: 0 }
 }
 
+// A number, or one more than the largest for all above it.
 fn capped(v: u32) -> u32
     ensures { λ r. ⌜ (r ≡ capped v) × (r ≤ 2097152) ⌝ }
 {
     if LARGEST < v { LARGEST + 1 } else { v }
 }
 
+// What a token's bytes are.
 pub fn read_word(bytes: &[u8]) -> Word
     ensures { λ r. ⌜ r ≡ wordOf (now (bytes .entry)) ⌝ }
 {
