@@ -13,7 +13,7 @@
 #include "jaxhophasi.h"
 #include "reference.h"
 
-enum { GUARD = 16, DAY = 1000000 };
+enum { GUARD = 16, EVENTS = 1000000 };
 
 /* Random numbers: the same on every machine. */
 static uint64_t seed;
@@ -162,16 +162,16 @@ static size_t damage_bytes(uint8_t *bytes, size_t used)
 /* A carried state of the sheet, or a damaged one. */
 static void make_configuration(const uint8_t *r, uint8_t *c, int damaged)
 {
-    uint8_t kinds[16];
+    uint8_t symbols[16];
     unsigned k = 0;
     for (unsigned e = 0; e < 16; e++)
         if (r[4 + e] == 1)
-            kinds[k++] = (uint8_t)e;
+            symbols[k++] = (uint8_t)e;
     memset(c, 0, 8);
     c[0] = (uint8_t)below(r[0] ? r[0] : 1);
     c[1] = (uint8_t)(k ? below(r[2] + 1u) : 0);
     for (unsigned i = 0; i < c[1] && i < 6; i++)
-        c[2 + i] = kinds[below(k)];
+        c[2 + i] = symbols[below(k)];
     if (damaged)
         c[below(8)] = (uint8_t)(below(2) ? below(20) : any());
 }
@@ -239,14 +239,14 @@ static void same_row(uint8_t ours, uint8_t theirs)
 
 static void compare_read(const uint8_t *bytes, size_t length)
 {
-    twin sheet = twins(length, 0), record = twins(JAXHOPHASI_AUTOMATON_SIZE, 0), place = twins(JAXHOPHASI_NUMBER_SIZE, 0);
+    twin source = twins(length, 0), record = twins(JAXHOPHASI_AUTOMATON_SIZE, 0), place = twins(JAXHOPHASI_NUMBER_SIZE, 0);
     call_now = "read";
-    set_twins(sheet, bytes, length);
-    same_row(jaxhophasi_read(sheet.ours, length, record.ours, place.ours), ref_read(sheet.theirs, length, record.theirs, place.theirs));
-    same_twins("the sheet", sheet);
+    set_twins(source, bytes, length);
+    same_row(jaxhophasi_read(source.ours, length, record.ours, place.ours), ref_read(source.theirs, length, record.theirs, place.theirs));
+    same_twins("the sheet", source);
     same_twins("the record", record);
     same_twins("the place", place);
-    drop_twins(sheet);
+    drop_twins(source);
     drop_twins(record);
     drop_twins(place);
 }
@@ -265,16 +265,16 @@ static void compare_write(twin record, size_t lent)
 
 static void compare_count_and_initial(twin record)
 {
-    twin count = twins(JAXHOPHASI_NUMBER_SIZE, 0), fresh = twins(JAXHOPHASI_CONFIGURATION_SIZE, 0);
+    twin count = twins(JAXHOPHASI_NUMBER_SIZE, 0), first = twins(JAXHOPHASI_CONFIGURATION_SIZE, 0);
     call_now = "buffers_count";
     same_row(jaxhophasi_buffers_count(record.ours, count.ours), ref_buffers_count(record.theirs, count.theirs));
     same_twins("the count", count);
     call_now = "initial";
-    same_row(jaxhophasi_initial(record.ours, fresh.ours), ref_initial(record.theirs, fresh.theirs));
-    same_twins("the state", fresh);
+    same_row(jaxhophasi_initial(record.ours, first.ours), ref_initial(record.theirs, first.theirs));
+    same_twins("the state", first);
     same_twins("the record", record);
     drop_twins(count);
-    drop_twins(fresh);
+    drop_twins(first);
 }
 
 static void compare_solve(twin record, twin table, size_t places)
@@ -369,11 +369,11 @@ static void compare_round(uint32_t most)
         compare_read(bytes, make_bytes(r, bytes, (int)below(2)));
     }
     set_twins(record, r, JAXHOPHASI_AUTOMATON_SIZE);
-    size_t sheet = 4u + r[0] + r[1] + r[0] * r[1];
-    compare_write(record, below(2) ? sheet : below(2) ? sheet + below(9) : below((uint32_t)sheet + 1));
+    size_t shortest = 4u + r[0] + r[1] + r[0] * r[1];
+    compare_write(record, below(2) ? shortest : below(2) ? shortest + below(9) : below((uint32_t)shortest + 1));
     compare_count_and_initial(record);
-    size_t lists = ref_buffers_count(r, count) ? below(20) : 2 * number_at(count);
-    size_t places = below(4) ? lists : below(2) ? lists + below(9) : below((uint32_t)lists + 1);
+    size_t needed = ref_buffers_count(r, count) ? below(20) : 2 * number_at(count);
+    size_t places = below(4) ? needed : below(2) ? needed + below(9) : below((uint32_t)needed + 1);
     twin table = twins(4 * places, (int)below(2));
     if (below(4))
         compare_solve(record, table, places);
@@ -455,7 +455,7 @@ static void events_ours(void)
 {
     uint64_t sum = 0;
     jaxhophasi_initial(record, state);
-    for (size_t i = 0; i < DAY; i++) {
+    for (size_t i = 0; i < EVENTS; i++) {
         sum += jaxhophasi_receive(record, table, places, state, events[i], answer);
         sum += (uint64_t)answer[JAXHOPHASI_RECEIVED_COUNT] << 32;
     }
@@ -466,7 +466,7 @@ static void events_by_c(void)
 {
     uint64_t sum = 0;
     ref_initial(record, state_by_c);
-    for (size_t i = 0; i < DAY; i++) {
+    for (size_t i = 0; i < EVENTS; i++) {
         sum += ref_receive(record, table, places, state_by_c, events[i], answer_by_c);
         sum += (uint64_t)answer_by_c[JAXHOPHASI_RECEIVED_COUNT] << 32;
     }
@@ -485,16 +485,16 @@ static void events_by_c_flat(void)
     events_by_c();
 }
 
-static void day_ours(void)
+static void run_ours(void)
 {
     jaxhophasi_initial(record, state);
-    jaxhophasi_run(record, table, places, state, events, DAY, output, DAY, answer);
+    jaxhophasi_run(record, table, places, state, events, EVENTS, output, EVENTS, answer);
 }
 
-static void day_by_c(void)
+static void run_by_c(void)
 {
     ref_initial(record, state_by_c);
-    ref_run(record, table, places, state_by_c, events, DAY, output_by_c, DAY, answer_by_c);
+    ref_run(record, table, places, state_by_c, events, EVENTS, output_by_c, EVENTS, answer_by_c);
 }
 
 static void equal(const char *what, const void *a, const void *b, size_t size)
@@ -509,7 +509,7 @@ static void measure(const char *name)
 {
     static const work solving[] = { solve_ours, solve_by_c, solve_by_c_remembering };
     static const work one_by_one[] = { events_ours, events_by_c_early, events_by_c_flat };
-    static const work days[] = { day_ours, day_by_c };
+    static const work runs[] = { run_ours, run_by_c };
     double s[3], e[3], d[2];
     uint8_t count[8];
     ref_flat_check = 0;
@@ -524,12 +524,12 @@ static void measure(const char *name)
     best_of(7, 3, one_by_one, e);
     equal("state", state, state_by_c, 8);
     equal("what the events put out", &emitted, &emitted_by_c, 8);
-    best_of(9, 2, days, d);
+    best_of(9, 2, runs, d);
     equal("state", state, state_by_c, 8);
     equal("answer", answer, answer_by_c, 16);
-    equal("output", output, output_by_c, DAY);
+    equal("output", output, output_by_c, EVENTS);
     printf("%-12s | %9.4f  %4.2f  %4.2f | %5.1f  %4.2f  %4.2f | %5.2f  %4.2f | %7lu %7lu\n", name, s[0] / 1e6, s[0] / s[1], s[0] / s[2],
-        e[0] / DAY, e[0] / e[1], e[0] / e[2], d[0] / DAY, d[0] / d[1], (unsigned long)number_at(answer),
+        e[0] / EVENTS, e[0] / e[1], e[0] / e[2], d[0] / EVENTS, d[0] / d[1], (unsigned long)number_at(answer),
         (unsigned long)number_at(answer + 8));
     fflush(stdout);
 }
@@ -537,16 +537,16 @@ static void measure(const char *name)
 /* Any event, one in m + 1 of them refused by row 14. */
 static void any_events(void)
 {
-    for (size_t i = 0; i < DAY; i++)
+    for (size_t i = 0; i < EVENTS; i++)
         events[i] = below(record[1] + 1u);
 }
 
 /* W's events with a Receipt behind each Page, so that requests flow: Sign, Withdraw, or Page and Receipt. */
 static void paired_events(void)
 {
-    for (size_t i = 0; i < DAY; i++) {
+    for (size_t i = 0; i < EVENTS; i++) {
         events[i] = below(3);
-        if (events[i] == 2 && i + 1 < DAY)
+        if (events[i] == 2 && i + 1 < EVENTS)
             events[++i] = 3;
     }
 }
@@ -559,11 +559,11 @@ static int time_all(void)
     char name[16];
     table = room(4 * JAXHOPHASI_TABLE_MOST);
     table_by_c = room(4 * JAXHOPHASI_TABLE_MOST);
-    events = room(4 * DAY);
-    output = room(DAY);
-    output_by_c = room(DAY);
-    memset(output, 0, DAY);
-    memset(output_by_c, 0, DAY);
+    events = room(4 * EVENTS);
+    output = room(EVENTS);
+    output_by_c = room(EVENTS);
+    memset(output, 0, EVENTS);
+    memset(output_by_c, 0, EVENTS);
     puts("             |       solving         |     one event      |  a day's event | of the day's events\n"
          "             |        ms  /C   /C-r  |    ns   /C   /C-v  |   ns   /C      | put out refused");
     seed = 1;

@@ -6,23 +6,24 @@
 int ref_flat_check = 0;
 int ref_remember = 0;
 
-enum { STATES = 32, KINDS = 16, HOLD = 6, CONTROLLABLE = 8 };
+enum { STATES = 32, SYMBOLS = 16, CAPACITY = 6, CONTROLLABLE = 8 };
 
-/* A record that row 11 lets pass, and what follows from it. */
-typedef struct {
-    unsigned n, m, b, start;
-    const uint8_t *class, *flag, *next;
+/* A record that row 11 lets pass (a sheet), and what follows from it. */
+struct automaton {
+    unsigned n, m, b, initial;
+    const uint8_t *classes, *accepting, *next;
     unsigned k;                  /* controllable kinds */
-    uint8_t kind[CONTROLLABLE];  /* .. in rising order */
-    uint8_t rank[KINDS];         /* .. and the place of each among them */
-    uint32_t first[HOLD + 1];    /* number of the first list of each length */
-    uint32_t lists;              /* T */
-} sheet;
+    uint8_t symbol[CONTROLLABLE];  /* .. in rising order */
+    uint8_t rank[SYMBOLS];         /* .. and the place of each among them */
+    uint32_t first[CAPACITY + 1];    /* number of the first list of each length */
+    uint32_t buffers;              /* T */
+};
 
-typedef struct {
+/* The carried state. */
+struct configuration {
     unsigned state, held;
-    uint8_t hold[HOLD + 1];
-} carried;
+    uint8_t buffer[CAPACITY + 1];
+};
 
 static void put(uint8_t *bytes, uint64_t value)
 {
@@ -34,9 +35,9 @@ static void put(uint8_t *bytes, uint64_t value)
 static int stands(const uint8_t *record)
 {
     unsigned n = record[0], m = record[1], ones = 0;
-    if (n < 1 || n > STATES || m < 1 || m > KINDS || record[2] < 1 || record[2] > HOLD || record[3] >= n)
+    if (n < 1 || n > STATES || m < 1 || m > SYMBOLS || record[2] < 1 || record[2] > CAPACITY || record[3] >= n)
         return 0;
-    for (unsigned e = 0; e < KINDS; e++) {
+    for (unsigned e = 0; e < SYMBOLS; e++) {
         if (record[4 + e] > (e < m))
             return 0;
         ones += record[4 + e];
@@ -47,8 +48,8 @@ static int stands(const uint8_t *record)
         if (record[20 + q] > (q < n))
             return 0;
     for (unsigned q = 0; q < STATES; q++)
-        for (unsigned e = 0; e < KINDS; e++)
-            if (record[52 + q * KINDS + e] >= (q < n && e < m ? n : 1))
+        for (unsigned e = 0; e < SYMBOLS; e++)
+            if (record[52 + q * SYMBOLS + e] >= (q < n && e < m ? n : 1))
                 return 0;
     return 1;
 }
@@ -57,10 +58,10 @@ static int stands(const uint8_t *record)
 static int stands_flat(const uint8_t *record)
 {
     unsigned n = record[0], m = record[1], ones = 0, bad = 0;
-    uint8_t limit[KINDS];
-    if (n < 1 || n > STATES || m < 1 || m > KINDS || record[2] < 1 || record[2] > HOLD || record[3] >= n)
+    uint8_t limit[SYMBOLS];
+    if (n < 1 || n > STATES || m < 1 || m > SYMBOLS || record[2] < 1 || record[2] > CAPACITY || record[3] >= n)
         return 0;
-    for (unsigned e = 0; e < KINDS; e++) {
+    for (unsigned e = 0; e < SYMBOLS; e++) {
         bad |= record[4 + e] > (e < m);
         ones += record[4 + e];
         limit[e] = e < m ? (uint8_t)n : 1;
@@ -68,30 +69,30 @@ static int stands_flat(const uint8_t *record)
     for (unsigned q = 0; q < STATES; q++)
         bad |= record[20 + q] > (q < n);
     for (unsigned q = 0; q < n; q++)
-        for (unsigned e = 0; e < KINDS; e++)
-            bad |= record[52 + q * KINDS + e] >= limit[e];
-    for (unsigned i = n * KINDS; i < STATES * KINDS; i++)
+        for (unsigned e = 0; e < SYMBOLS; e++)
+            bad |= record[52 + q * SYMBOLS + e] >= limit[e];
+    for (unsigned i = n * SYMBOLS; i < STATES * SYMBOLS; i++)
         bad |= record[52 + i] != 0;
     return !bad && ones <= CONTROLLABLE;
 }
 
 /* Row 11: the sheet of a record, or 0. */
-static int sheet_of(const uint8_t *record, sheet *s)
+static int automaton_of(const uint8_t *record, struct automaton *s)
 {
     if (ref_flat_check ? !stands_flat(record) : !stands(record))
         return 0;
     s->n = record[0];
     s->m = record[1];
     s->b = record[2];
-    s->start = record[3];
-    s->class = record + 4;
-    s->flag = record + 20;
+    s->initial = record[3];
+    s->classes = record + 4;
+    s->accepting = record + 20;
     s->next = record + 52;
     s->k = 0;
     for (unsigned e = 0; e < s->m; e++)
-        if (s->class[e]) {
+        if (s->classes[e]) {
             s->rank[e] = (uint8_t)s->k;
-            s->kind[s->k++] = (uint8_t)e;
+            s->symbol[s->k++] = (uint8_t)e;
         }
     uint32_t count = 1, sum = 0;
     for (unsigned length = 0; length <= s->b; length++) {
@@ -99,7 +100,7 @@ static int sheet_of(const uint8_t *record, sheet *s)
         sum += count;
         count *= s->k;
     }
-    s->lists = sum;
+    s->buffers = sum;
     return 1;
 }
 
@@ -138,8 +139,8 @@ static uint8_t within(const uint8_t *bytes, size_t length, size_t *at, uint32_t 
 static uint8_t read_numbers(const uint8_t *bytes, size_t length, uint8_t *r, size_t *at)
 {
     uint8_t fault;
-    if ((fault = within(bytes, length, at, 1, STATES, 3, r)) || (fault = within(bytes, length, at, 1, KINDS, 4, r + 1)) ||
-        (fault = within(bytes, length, at, 1, HOLD, 5, r + 2)) || (fault = within(bytes, length, at, 0, r[0] - 1u, 6, r + 3)))
+    if ((fault = within(bytes, length, at, 1, STATES, 3, r)) || (fault = within(bytes, length, at, 1, SYMBOLS, 4, r + 1)) ||
+        (fault = within(bytes, length, at, 1, CAPACITY, 5, r + 2)) || (fault = within(bytes, length, at, 0, r[0] - 1u, 6, r + 3)))
         return fault;
     unsigned ones = 0;
     for (unsigned e = 0; e < r[1]; e++) {
@@ -157,7 +158,7 @@ static uint8_t read_numbers(const uint8_t *bytes, size_t length, uint8_t *r, siz
             return fault;
     for (unsigned q = 0; q < r[0]; q++)
         for (unsigned e = 0; e < r[1]; e++)
-            if ((fault = within(bytes, length, at, 0, r[0] - 1u, 9, r + 52 + q * KINDS + e)))
+            if ((fault = within(bytes, length, at, 0, r[0] - 1u, 9, r + 52 + q * SYMBOLS + e)))
                 return fault;
     return *at < length ? 10 : 0;
 }
@@ -185,21 +186,21 @@ static size_t written(uint8_t *out, uint32_t value)
 
 uint8_t ref_write(const uint8_t *automaton, uint8_t *out, size_t out_length, uint8_t *length)
 {
-    sheet s;
+    struct automaton s;
     uint8_t bytes[564 * 3];
     size_t used = 0;
     put(length, 0);
-    if (!sheet_of(automaton, &s))
+    if (!automaton_of(automaton, &s))
         return 11;
     for (unsigned i = 0; i < 4; i++)
         used += written(bytes + used, automaton[i]);
     for (unsigned e = 0; e < s.m; e++)
-        used += written(bytes + used, s.class[e]);
+        used += written(bytes + used, s.classes[e]);
     for (unsigned q = 0; q < s.n; q++)
-        used += written(bytes + used, s.flag[q]);
+        used += written(bytes + used, s.accepting[q]);
     for (unsigned q = 0; q < s.n; q++)
         for (unsigned e = 0; e < s.m; e++)
-            used += written(bytes + used, s.next[q * KINDS + e]);
+            used += written(bytes + used, s.next[q * SYMBOLS + e]);
     if (out_length < used)
         return 16;
     memcpy(out, bytes, used);
@@ -209,35 +210,35 @@ uint8_t ref_write(const uint8_t *automaton, uint8_t *out, size_t out_length, uin
 
 uint8_t ref_buffers_count(const uint8_t *automaton, uint8_t *count)
 {
-    sheet s;
+    struct automaton s;
     put(count, 0);
-    if (!sheet_of(automaton, &s))
+    if (!automaton_of(automaton, &s))
         return 11;
-    put(count, s.lists);
+    put(count, s.buffers);
     return 0;
 }
 
 /* What the scan of a round goes over. */
-typedef struct {
+struct scan {
     const uint8_t *next;
     unsigned n, count;
     uint32_t accepting;
-    uint8_t kind[KINDS]; /* the uncontrollable kinds */
-} scan;
+    uint8_t symbol[SYMBOLS]; /* the uncontrollable kinds */
+};
 
-static scan scan_of(const sheet *s)
+static struct scan scan_of(const struct automaton *s)
 {
-    scan c = { .next = s->next, .n = s->n };
+    struct scan c = { .next = s->next, .n = s->n };
     for (unsigned e = 0; e < s->m; e++)
-        if (!s->class[e])
-            c.kind[c.count++] = (uint8_t)e;
+        if (!s->classes[e])
+            c.symbol[c.count++] = (uint8_t)e;
     for (unsigned q = 0; q < s->n; q++)
-        c.accepting |= (uint32_t)s->flag[q] << q;
+        c.accepting |= (uint32_t)s->accepting[q] << q;
     return c;
 }
 
 /* S of a list: rounds of striking until one strikes nothing. */
-static uint32_t settled(const scan *c, uint32_t must, uint32_t *rounds)
+static uint32_t settled(const struct scan *c, uint32_t must, uint32_t *rounds)
 {
     uint32_t set = c->accepting;
     for (;;) {
@@ -246,7 +247,7 @@ static uint32_t settled(const scan *c, uint32_t must, uint32_t *rounds)
             if (!(set >> q & 1))
                 continue;
             unsigned i = 0;
-            while (i < c->count && into >> c->next[q * KINDS + c->kind[i]] & 1)
+            while (i < c->count && into >> c->next[q * SYMBOLS + c->symbol[i]] & 1)
                 i++;
             if (i == c->count)
                 kept |= 1u << q;
@@ -259,28 +260,28 @@ static uint32_t settled(const scan *c, uint32_t must, uint32_t *rounds)
 }
 
 /* The states that a kind takes into a set. */
-static uint32_t leading(const scan *c, unsigned kind, uint32_t set)
+static uint32_t leading(const struct scan *c, unsigned symbol, uint32_t set)
 {
     uint32_t from = 0;
     for (unsigned q = 0; q < c->n; q++)
-        from |= (set >> c->next[q * KINDS + kind] & 1) << q;
+        from |= (set >> c->next[q * SYMBOLS + symbol] & 1) << q;
     return from;
 }
 
 uint8_t ref_solve(const uint8_t *automaton, uint32_t *table, size_t table_length, uint8_t *rounds)
 {
-    sheet s;
+    struct automaton s;
     put(rounds, 0);
-    if (!sheet_of(automaton, &s))
+    if (!automaton_of(automaton, &s))
         return 11;
-    if (table_length < 2 * (size_t)s.lists)
+    if (table_length < 2 * (size_t)s.buffers)
         return 12;
-    scan c = scan_of(&s);
+    struct scan c = scan_of(&s);
     uint64_t sum = 0;
-    uint32_t struck = 0;
-    table[0] = settled(&c, 0, &struck);
+    uint32_t count = 0;
+    table[0] = settled(&c, 0, &count);
     table[1] = 0;
-    sum += struck;
+    sum += count;
     uint32_t at = 1;
     for (unsigned length = 1; length <= s.b; length++)
         for (unsigned a = 0; a < s.k; a++) {
@@ -289,11 +290,11 @@ uint8_t ref_solve(const uint8_t *automaton, uint32_t *table, size_t table_length
                 uint32_t goal = table[2 * w] | table[2 * w + 1];
                 if (!ref_remember || w == s.first[length - 1] || goal != known) {
                     known = goal;
-                    must = leading(&c, s.kind[a], goal);
-                    struck = 0;
-                    set = settled(&c, must, &struck);
+                    must = leading(&c, s.symbol[a], goal);
+                    count = 0;
+                    set = settled(&c, must, &count);
                 }
-                sum += struck;
+                sum += count;
                 table[2 * at] = set;
                 table[2 * at + 1] = must;
                 at++;
@@ -305,73 +306,73 @@ uint8_t ref_solve(const uint8_t *automaton, uint32_t *table, size_t table_length
 
 uint8_t ref_initial(const uint8_t *automaton, uint8_t *configuration)
 {
-    sheet s;
+    struct automaton s;
     memset(configuration, 0, 8);
-    if (!sheet_of(automaton, &s))
+    if (!automaton_of(automaton, &s))
         return 11;
-    configuration[0] = (uint8_t)s.start;
+    configuration[0] = (uint8_t)s.initial;
     return 0;
 }
 
 /* Rows 11 to 13: the sheet and the carried state. */
-static uint8_t entered(const uint8_t *automaton, size_t table_length, const uint8_t *configuration, sheet *s, carried *c)
+static uint8_t entered(const uint8_t *automaton, size_t table_length, const uint8_t *configuration, struct automaton *s, struct configuration *c)
 {
-    if (!sheet_of(automaton, s))
+    if (!automaton_of(automaton, s))
         return 11;
-    if (table_length < 2 * (size_t)s->lists)
+    if (table_length < 2 * (size_t)s->buffers)
         return 12;
     c->state = configuration[0];
     c->held = configuration[1];
     if (c->state >= s->n || c->held > s->b)
         return 13;
-    for (unsigned i = 0; i < HOLD; i++) {
+    for (unsigned i = 0; i < CAPACITY; i++) {
         uint8_t e = configuration[2 + i];
-        if (i < c->held ? e >= s->m || s->class[e] != 1 : e != 0)
+        if (i < c->held ? e >= s->m || s->classes[e] != 1 : e != 0)
             return 13;
-        c->hold[i] = e;
+        c->buffer[i] = e;
     }
     return 0;
 }
 
 /* The number of the rest of the hold from a place on. */
-static uint32_t list_number(const sheet *s, const carried *c, unsigned from)
+static uint32_t buffer_number(const struct automaton *s, const struct configuration *c, unsigned from)
 {
     uint32_t value = 0;
     for (unsigned i = from; i < c->held; i++)
-        value = value * s->k + s->rank[c->hold[i]];
+        value = value * s->k + s->rank[c->buffer[i]];
     return s->first[c->held - from] + value;
 }
 
 uint8_t ref_winning(const uint8_t *automaton, const uint32_t *table, size_t table_length, const uint8_t *configuration, uint8_t *answer)
 {
-    sheet s;
-    carried c = { 0 };
+    struct automaton s;
+    struct configuration c = { 0 };
     answer[0] = 0;
     uint8_t row = entered(automaton, table_length, configuration, &s, &c);
     if (!row)
-        answer[0] = table[2 * (size_t)list_number(&s, &c, 0)] >> c.state & 1;
+        answer[0] = table[2 * (size_t)buffer_number(&s, &c, 0)] >> c.state & 1;
     return row;
 }
 
 /* Puts out the longest front part of the hold that brings the state into S of the rest: its length, or -1 where there is none. */
-static int release(const sheet *s, const uint32_t *table, carried *c, uint8_t *out)
+static int release(const struct automaton *s, const uint32_t *table, struct configuration *c, uint8_t *out)
 {
-    uint32_t rest[HOLD + 1], value = 0, weight = 1;
-    unsigned state[HOLD + 1];
+    uint32_t rest[CAPACITY + 1], value = 0, weight = 1;
+    unsigned state[CAPACITY + 1];
     rest[c->held] = 0;
     for (unsigned i = c->held; i-- > 0;) {
-        value += s->rank[c->hold[i]] * weight;
+        value += s->rank[c->buffer[i]] * weight;
         weight *= s->k;
         rest[i] = s->first[c->held - i] + value;
     }
     state[0] = c->state;
     for (unsigned i = 0; i < c->held; i++)
-        state[i + 1] = s->next[state[i] * KINDS + c->hold[i]];
+        state[i + 1] = s->next[state[i] * SYMBOLS + c->buffer[i]];
     for (unsigned r = c->held + 1; r-- > 0;)
         if (table[2 * (size_t)rest[r]] >> state[r] & 1) {
             if (r) {
-                memcpy(out, c->hold, r);
-                memmove(c->hold, c->hold + r, c->held - r);
+                memcpy(out, c->buffer, r);
+                memmove(c->buffer, c->buffer + r, c->held - r);
             }
             c->held -= r;
             c->state = state[r];
@@ -381,48 +382,48 @@ static int release(const sheet *s, const uint32_t *table, carried *c, uint8_t *o
 }
 
 /* Row 14 or 15 of an event, or 0. */
-static uint8_t event_row(const sheet *s, const carried *c, uint32_t event)
+static uint8_t event_row(const struct automaton *s, const struct configuration *c, uint32_t event)
 {
     if (event >= s->m)
         return 14;
-    return s->class[event] && c->held == s->b ? 15 : 0;
+    return s->classes[event] && c->held == s->b ? 15 : 0;
 }
 
 /* An event that no row refuses: how many kinds are put out, and whether the state is then guarded. */
-static unsigned step(const sheet *s, const uint32_t *table, carried *c, uint8_t event, uint8_t *out, int *guarded)
+static unsigned step(const struct automaton *s, const uint32_t *table, struct configuration *c, uint8_t event, uint8_t *out, int *winning)
 {
     unsigned count = 0;
-    if (s->class[event])
-        c->hold[c->held++] = event;
+    if (s->classes[event])
+        c->buffer[c->held++] = event;
     else {
         out[count++] = event;
-        c->state = s->next[c->state * KINDS + event];
+        c->state = s->next[c->state * SYMBOLS + event];
     }
     int r = release(s, table, c, out + count);
-    *guarded = r >= 0;
+    *winning = r >= 0;
     return r > 0 ? count + (unsigned)r : count;
 }
 
-static void hand_back(const carried *c, uint8_t *configuration)
+static void hand_back(const struct configuration *c, uint8_t *configuration)
 {
     configuration[0] = (uint8_t)c->state;
     configuration[1] = (uint8_t)c->held;
-    for (unsigned i = 0; i < HOLD; i++)
-        configuration[2 + i] = i < c->held ? c->hold[i] : 0;
+    for (unsigned i = 0; i < CAPACITY; i++)
+        configuration[2 + i] = i < c->held ? c->buffer[i] : 0;
 }
 
 uint8_t ref_receive(const uint8_t *automaton, const uint32_t *table, size_t table_length, uint8_t *configuration, uint32_t event,
     uint8_t *answer)
 {
-    sheet s;
-    carried c;
-    int guarded;
+    struct automaton s;
+    struct configuration c;
+    int winning;
     memset(answer, 0, 9);
     uint8_t row = entered(automaton, table_length, configuration, &s, &c);
     if (row || (row = event_row(&s, &c, event)))
         return row;
-    answer[7] = (uint8_t)step(&s, table, &c, (uint8_t)event, answer, &guarded);
-    answer[8] = (uint8_t)guarded;
+    answer[7] = (uint8_t)step(&s, table, &c, (uint8_t)event, answer, &winning);
+    answer[8] = (uint8_t)winning;
     hand_back(&c, configuration);
     return 0;
 }
@@ -430,9 +431,9 @@ uint8_t ref_receive(const uint8_t *automaton, const uint32_t *table, size_t tabl
 uint8_t ref_run(const uint8_t *automaton, const uint32_t *table, size_t table_length, uint8_t *configuration, const uint32_t *events,
     size_t events_length, uint8_t *out, size_t out_length, uint8_t *answer)
 {
-    sheet s;
-    carried c;
-    int guarded;
+    struct automaton s;
+    struct configuration c;
+    int winning;
     size_t used = 0, refused = 0;
     put(answer, 0);
     put(answer + 8, 0);
@@ -445,7 +446,7 @@ uint8_t ref_run(const uint8_t *automaton, const uint32_t *table, size_t table_le
         if (event_row(&s, &c, events[i]))
             refused++;
         else
-            used += step(&s, table, &c, (uint8_t)events[i], out + used, &guarded);
+            used += step(&s, table, &c, (uint8_t)events[i], out + used, &winning);
     }
     hand_back(&c, configuration);
     put(answer, used);

@@ -41,7 +41,7 @@ def declare(library):
         function.argtypes, function.restype = types, ctypes.c_uint8
 
 
-def kinds(values):
+def symbols(values):
     return " ".join(str(v) for v in values) or "-"
 
 
@@ -49,43 +49,65 @@ def yes(flag):
     return "yes" if flag else "no"
 
 
-def main(path, sheet_path, events):
-    gate = ctypes.CDLL(path)
-    declare(gate)
-    with open(sheet_path, "rb") as file:
+def read(library, path):
+    """The record of a sheet; the number of refusal and its place are printed, and nothing is handed back."""
+    with open(path, "rb") as file:
         data = file.read()
-    sheet, number = lent(AUTOMATON_SIZE), lent(NUMBER_SIZE)
-    row = gate.jaxhophasi_read((ctypes.c_uint8 * (len(data) + 1))(*data), len(data), sheet, number)
-    if row:
-        print("refused", row, "at", number_at(number))
-        return 1
+    automaton, place = lent(AUTOMATON_SIZE), lent(NUMBER_SIZE)
+    row = library.jaxhophasi_read((ctypes.c_uint8 * (len(data) + 1))(*data), len(data), automaton, place)
+    if row == 0:
+        return automaton
+    print("refused", row, "at", number_at(place))
+    return None
 
-    gate.jaxhophasi_buffers_count(sheet, number)
+
+def solve(library, automaton):
+    """The solved table and its length."""
+    number = lent(NUMBER_SIZE)
+    library.jaxhophasi_buffers_count(automaton, number)
     places = 2 * number_at(number)
     table = numbers([0] * places)
-    gate.jaxhophasi_solve(sheet, table, places, number)
+    library.jaxhophasi_solve(automaton, table, places, number)
     print("solved", places, "places,", number_at(number), "rounds")
+    return table, places
 
-    state, guarded = lent(CONFIGURATION_SIZE), lent(STATUS_SIZE)
-    gate.jaxhophasi_initial(sheet, state)
-    gate.jaxhophasi_winning(sheet, table, places, state, guarded)
-    print("sheet", sheet[0], sheet[1], sheet[2], "start", sheet[3], "guarded", yes(guarded[0]))
 
-    answer = lent(RECEIVED_SIZE)
+def print_events(library, automaton, table, places, events):
+    """One event after the other, as the day program prints them."""
+    configuration, winning, answer = lent(CONFIGURATION_SIZE), lent(STATUS_SIZE), lent(RECEIVED_SIZE)
+    library.jaxhophasi_initial(automaton, configuration)
+    library.jaxhophasi_winning(automaton, table, places, configuration, winning)
+    print("sheet", automaton[0], automaton[1], automaton[2], "start", automaton[3], "guarded", yes(winning[0]))
     for event in events:
-        row = gate.jaxhophasi_receive(sheet, table, places, state, event, answer)
+        row = library.jaxhophasi_receive(automaton, table, places, configuration, event, answer)
         if row:
             print("in", event, "refused", row)
         else:
-            print("in", event, "out", kinds(answer[:answer[7]]), "state", state[0], "held", state[1], "guarded", yes(answer[8]))
+            emitted = symbols(answer[:answer[7]])
+            print("in", event, "out", emitted, "state", configuration[0], "held", configuration[1], "guarded", yes(answer[8]))
 
-    answer, out = lent(RAN_SIZE), lent(len(events) + 1)
-    gate.jaxhophasi_initial(sheet, state)
-    row = gate.jaxhophasi_run(sheet, table, places, state, numbers(events), len(events), out, len(events), answer)
+
+def print_day(library, automaton, table, places, events):
+    """The whole day: all that is put out, the state, how many events were refused."""
+    configuration, answer, out = lent(CONFIGURATION_SIZE), lent(RAN_SIZE), lent(len(events) + 1)
+    library.jaxhophasi_initial(automaton, configuration)
+    row = library.jaxhophasi_run(automaton, table, places, configuration, numbers(events), len(events), out, len(events), answer)
     if row:
         print("day refused", row)
     else:
-        print("day out", kinds(out[:number_at(answer)]), "state", state[0], "held", state[1], "refused", number_at(answer, 8))
+        emitted = symbols(out[:number_at(answer)])
+        print("day out", emitted, "state", configuration[0], "held", configuration[1], "refused", number_at(answer, 8))
+
+
+def main(path, sheet, events):
+    library = ctypes.CDLL(path)
+    declare(library)
+    automaton = read(library, sheet)
+    if automaton is None:
+        return 1
+    table, places = solve(library, automaton)
+    print_events(library, automaton, table, places, events)
+    print_day(library, automaton, table, places, events)
     return 0
 
 
