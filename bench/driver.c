@@ -30,14 +30,6 @@ static uint32_t below(uint32_t limit)
     return (uint32_t)((uint64_t)any() * limit >> 32);
 }
 
-static uint64_t number_at(const uint8_t *bytes)
-{
-    uint64_t value = 0;
-    for (int i = 8; i-- > 0;)
-        value = value << 8 | bytes[i];
-    return value;
-}
-
 static void *room(size_t size)
 {
     void *p = malloc(size ? size : 1);
@@ -83,7 +75,7 @@ static void make_any_record(uint8_t *r, uint32_t most)
         unsigned m = 1 + below(16);
         make_record(r, 1 + below(below(3) ? 8 : 32), m, 1 + below(6), below(least(m, 8) + 1), (int)below(3));
         uint8_t count[8];
-        if (ref_buffers_count(r, count) == 0 && number_at(count) <= most)
+        if (ref_buffers_count(r, count) == 0 && jaxhophasi_number_at(count) <= most)
             return;
     }
 }
@@ -372,7 +364,7 @@ static void compare_round(uint32_t most)
     size_t shortest = 4u + r[0] + r[1] + r[0] * r[1];
     compare_write(record, below(2) ? shortest : below(2) ? shortest + below(9) : below((uint32_t)shortest + 1));
     compare_count_and_initial(record);
-    size_t needed = ref_buffers_count(r, count) ? below(20) : 2 * number_at(count);
+    size_t needed = ref_buffers_count(r, count) ? below(20) : 2 * jaxhophasi_number_at(count);
     size_t places = below(4) ? needed : below(2) ? needed + below(9) : below((uint32_t)needed + 1);
     twin table = twins(4 * places, (int)below(2));
     if (below(4))
@@ -517,7 +509,7 @@ static void measure(const char *name)
         puts("a bad record");
         exit(1);
     }
-    places = 2 * number_at(count);
+    places = 2 * jaxhophasi_number_at(count);
     best_of(places > 1000 ? 5 : 200, 3, solving, s);
     equal("table", table, table_by_c, 4 * places);
     equal("rounds", rounds, rounds_by_c, 8);
@@ -529,8 +521,8 @@ static void measure(const char *name)
     equal("answer", answer, answer_by_c, 16);
     equal("output", output, output_by_c, EVENTS);
     printf("%-12s | %9.4f  %4.2f  %4.2f | %5.1f  %4.2f  %4.2f | %5.2f  %4.2f | %7lu %7lu\n", name, s[0] / 1e6, s[0] / s[1], s[0] / s[2],
-        e[0] / EVENTS, e[0] / e[1], e[0] / e[2], d[0] / EVENTS, d[0] / d[1], (unsigned long)number_at(answer),
-        (unsigned long)number_at(answer + 8));
+        e[0] / EVENTS, e[0] / e[1], e[0] / e[2], d[0] / EVENTS, d[0] / d[1], (unsigned long)jaxhophasi_number_at(answer),
+        (unsigned long)jaxhophasi_number_at(answer + 8));
     fflush(stdout);
 }
 

@@ -315,7 +315,8 @@ uint8_t ref_initial(const uint8_t *automaton, uint8_t *configuration)
 }
 
 /* Rows 11 to 13: the sheet and the carried state. */
-static uint8_t entered(const uint8_t *automaton, size_t table_length, const uint8_t *configuration, struct automaton *s, struct configuration *c)
+static uint8_t entered(const uint8_t *automaton, size_t table_length, const uint8_t *configuration, struct automaton *s,
+    struct configuration *c)
 {
     if (!automaton_of(automaton, s))
         return 11;

@@ -8,15 +8,6 @@
 
 #include "jaxhophasi.h"
 
-/* A number of an answer. */
-static uint64_t number_at(const uint8_t *bytes)
-{
-    uint64_t value = 0;
-    for (int i = JAXHOPHASI_NUMBER_SIZE; i-- > 0;)
-        value = value << 8 | bytes[i];
-    return value;
-}
-
 static void print_symbols(const uint8_t *symbols, size_t count)
 {
     if (count == 0)
@@ -58,9 +49,9 @@ static void print_day(const uint8_t *automaton, const uint32_t *table, size_t pl
         printf("day refused %u\n", row);
     else {
         printf("day out");
-        print_symbols(out, number_at(answer + JAXHOPHASI_RAN_LENGTH));
+        print_symbols(out, jaxhophasi_number_at(answer + JAXHOPHASI_RAN_LENGTH));
         print_state(configuration);
-        printf(" refused %u\n", (unsigned)number_at(answer + JAXHOPHASI_RAN_REFUSED));
+        printf(" refused %u\n", (unsigned)jaxhophasi_number_at(answer + JAXHOPHASI_RAN_REFUSED));
     }
     free(out);
 }
@@ -70,12 +61,12 @@ static int run(const uint8_t *automaton, const uint32_t *events, size_t count)
 {
     uint8_t number[JAXHOPHASI_NUMBER_SIZE], configuration[JAXHOPHASI_CONFIGURATION_SIZE], winning[JAXHOPHASI_STATUS_SIZE];
     jaxhophasi_buffers_count(automaton, number);
-    size_t places = JAXHOPHASI_TABLE_LENGTH(number_at(number));
+    size_t places = JAXHOPHASI_TABLE_LENGTH(jaxhophasi_number_at(number));
     uint32_t *table = malloc(places * sizeof *table);
     if (!table)
         return 1;
     jaxhophasi_solve(automaton, table, places, number);
-    printf("solved %zu places, %u rounds\n", places, (unsigned)number_at(number));
+    printf("solved %zu places, %u rounds\n", places, (unsigned)jaxhophasi_number_at(number));
     jaxhophasi_initial(automaton, configuration);
     jaxhophasi_winning(automaton, table, places, configuration, winning);
     printf("sheet %u %u %u start %u guarded %s\n", automaton[JAXHOPHASI_AUTOMATON_STATES], automaton[JAXHOPHASI_AUTOMATON_SYMBOLS],
@@ -99,7 +90,7 @@ int main(int words, char **word)
     fclose(file);
     uint8_t row = jaxhophasi_read(bytes, length, automaton, place);
     if (row) {
-        printf("refused %u at %u\n", row, (unsigned)number_at(place));
+        printf("refused %u at %u\n", row, (unsigned)jaxhophasi_number_at(place));
         return 1;
     }
     size_t count = (size_t)words - 2;

@@ -44,6 +44,15 @@ extern "C" {
 /* A number in an answer: eight bytes, low byte first. */
 #define JAXHOPHASI_NUMBER_SIZE 8
 
+/* The number that stands there. */
+static inline uint64_t jaxhophasi_number_at(const uint8_t *bytes)
+{
+    uint64_t value = 0;
+    for (int i = JAXHOPHASI_NUMBER_SIZE; i-- > 0;)
+        value = value << 8 | bytes[i];
+    return value;
+}
+
 /* What jaxhophasi_winning answers: 1 guarded, 0 not. */
 #define JAXHOPHASI_STATUS_SIZE 1
 
@@ -65,7 +74,7 @@ extern "C" {
 /* The longest sheet that jaxhophasi_write writes: 4 + 16 + 32 + 32 * 16. */
 #define JAXHOPHASI_SHEET_MOST 564
 
-/* Numbers of refusal. Each call checks its own in this order, and the first that holds is given. */
+/* Numbers of refusal. A read goes left to right, every other call checks its own in this order; the first that holds is given. */
 enum {
     JAXHOPHASI_FINE = 0,
     JAXHOPHASI_ENDS_EARLY = 1,           /* read: the bytes end before the sheet does */
