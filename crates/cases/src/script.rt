@@ -1,5 +1,6 @@
 // The lines of the input. A line is a word, whose first letter says what is run; a label, which is printed before what came out; and
-// after the last colon numbers in decimal, where `V*N` is V, N times. A line leaves a record, a table and a configuration to the next.
+// after the last colon numbers in decimal, where `V*N` is V, N times. A line leaves a record, a table and a configuration to the next;
+// `#` begins a comment.
 //   number: BYTES                   the number that the bytes begin with
 //   put: V                          a number, written
 //   sheet LABEL: BYTES              a sheet, read (`use`: without a word)
