@@ -6,7 +6,6 @@ use crate::show::bytes;
 use crate::show::end;
 use crate::show::field;
 use crate::show::refusal;
-use crate::show::text;
 use automaton::Automaton;
 
 fn refused(row: u8, place: usize) {
@@ -47,8 +46,7 @@ fn show_automaton(a: Automaton) {
 }
 
 // What reading a sheet gives.
-fn read_automaton(label: &[u8], s: &[u8]) -> Automaton {
-    text(label);
+fn read_automaton(s: &[u8]) -> Automaton {
     let p = encoding::read(s);
     let a = p.automaton;
     if p.refusal != 0 {
@@ -60,8 +58,7 @@ fn read_automaton(label: &[u8], s: &[u8]) -> Automaton {
 }
 
 // What writing a record into a buffer gives, and the buffer afterwards.
-fn write_automaton(label: &[u8], a: Automaton, room: &mut [u8]) {
-    text(label);
+fn write_automaton(a: Automaton, room: &mut [u8]) {
     let w = encoding::write(a, room);
     refusal(w.refusal);
     field(b" length ", w.length);
@@ -69,10 +66,10 @@ fn write_automaton(label: &[u8], a: Automaton, room: &mut [u8]) {
     end();
 }
 
-fn write_into(label: &[u8], a: Automaton, room: usize) {
+fn write_into(a: Automaton, room: usize) {
     let mut out = [9u8; 64];
     if room <= 64 {
-        write_automaton(label, a, &mut out[..room]);
+        write_automaton(a, &mut out[..room]);
     }
 }
 
@@ -98,7 +95,7 @@ fn overwritten(a: Automaton, place: usize, value: u8) -> Automaton {
 }
 
 // The record after a line.
-pub fn case(word: u8, label: &[u8], values: &[u32], s: &[u8], a: Automaton) -> Automaton {
+pub fn case(word: u8, values: &[u32], s: &[u8], a: Automaton) -> Automaton {
     match word {
         b'n' => {
             read_number(s);
@@ -108,11 +105,11 @@ pub fn case(word: u8, label: &[u8], values: &[u32], s: &[u8], a: Automaton) -> A
             write_number(nth(values, 0, 0));
             a
         }
-        b's' => read_automaton(label, s),
+        b's' => read_automaton(s),
         b'u' => encoding::read(s).automaton,
         b'o' => overwritten(a, nth(values, 0, 0) as usize, nth_byte(s, 1)),
         b'w' => {
-            write_into(label, a, places(values));
+            write_into(a, places(values));
             a
         }
         _ => a,

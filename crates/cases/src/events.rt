@@ -1,11 +1,11 @@
-// Where a monitor stands, one event, and a whole day.
+// Where a monitor stands, the game, one event, and a whole day.
 use crate::line::nth_byte;
 use crate::line::places;
 use crate::show::bytes;
 use crate::show::end;
 use crate::show::field;
+use crate::show::flag;
 use crate::show::refusal;
-use crate::show::text;
 use crate::show::winning;
 use automaton::Automaton;
 use configuration::Configuration;
@@ -40,14 +40,7 @@ fn event(a: Automaton, table: &[u32], c: Configuration, e: u32) -> Configuration
 }
 
 // Events in turn; gives the last configuration.
-fn in_turn(
-    label: &[u8],
-    a: Automaton,
-    table: &[u32],
-    c: Configuration,
-    events: &[u32],
-) -> Configuration {
-    text(label);
+fn in_turn(a: Automaton, table: &[u32], c: Configuration, events: &[u32]) -> Configuration {
     end();
     let mut now = c;
     let mut i: usize = 0;
@@ -59,17 +52,15 @@ fn in_turn(
 }
 
 // Whether a configuration is winning.
-fn status(label: &[u8], a: Automaton, table: &[u32], c: Configuration) {
+fn status(a: Automaton, table: &[u32], c: Configuration) {
     let g = monitor::winning(a, table, c);
-    text(label);
     refusal(g.refusal);
     winning(g.winning);
     end();
 }
 
-fn started(label: &[u8], a: Automaton) -> Configuration {
+fn started(a: Automaton) -> Configuration {
     let s = configuration::initial(a);
-    text(label);
     show_configuration(s.refusal, s.configuration);
     end();
     s.configuration
@@ -93,7 +84,6 @@ fn given(s: &[u8]) -> Configuration {
 
 // A whole day with its whole answer and the lent output afterwards.
 fn ran(
-    label: &[u8],
     a: Automaton,
     table: &[u32],
     c: Configuration,
@@ -101,7 +91,6 @@ fn ran(
     out: &mut [u8],
 ) -> Configuration {
     let r = batch::run(a, table, c, events, out);
-    text(label);
     show_configuration(r.refusal, r.configuration);
     show_counts(r.length, r.refused);
     bytes(b", output", out);
@@ -110,25 +99,27 @@ fn ran(
 }
 
 // The first number is the output's length.
-fn run(
-    label: &[u8],
-    a: Automaton,
-    table: &[u32],
-    c: Configuration,
-    values: &[u32],
-) -> Configuration {
+fn run(a: Automaton, table: &[u32], c: Configuration, values: &[u32]) -> Configuration {
     let mut out = [9u8; 64];
     let room = places(values);
     if values.len() == 0 {
         return c;
     }
-    ran(label, a, table, c, &values[1..], &mut out[..room])
+    ran(a, table, c, &values[1..], &mut out[..room])
+}
+
+// The game's two answers.
+fn judged(a: Automaton, c: Configuration) {
+    let v = game::judge(a, c);
+    refusal(v.refusal);
+    flag(b", may rest ", v.may_rest);
+    flag(b", can rest ", v.can_rest);
+    end();
 }
 
 // The configuration after a line.
 pub fn case(
     word: u8,
-    label: &[u8],
     values: &[u32],
     s: &[u8],
     a: Automaton,
@@ -136,15 +127,19 @@ pub fn case(
     c: Configuration,
 ) -> Configuration {
     match word {
-        b'i' => started(label, a),
+        b'i' => started(a),
         b'f' => configuration::initial(a).configuration,
         b'a' => given(s),
         b'g' => {
-            status(label, a, table, c);
+            status(a, table, c);
             c
         }
-        b'e' => in_turn(label, a, table, c, values),
-        b'r' => run(label, a, table, c, values),
+        b'j' => {
+            judged(a, c);
+            c
+        }
+        b'e' => in_turn(a, table, c, values),
+        b'r' => run(a, table, c, values),
         _ => c,
     }
 }

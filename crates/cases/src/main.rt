@@ -2,7 +2,6 @@
 // prints what came out.
 mod codec;
 mod events;
-mod games;
 mod line;
 mod script;
 mod show;

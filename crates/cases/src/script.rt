@@ -15,16 +15,15 @@
 //   event LABEL: EVENTS             one event after the other
 //   run LABEL: ROOM EVENTS          a whole day
 //   judge LABEL:                    the game
-//   many LABEL: COUNT FIRST BYTES   the game against the solver, on so many sheets of a shape, controllable from FIRST on
-//   day LABEL: BYTES                what the day program prints (`volume`: only how many bytes)
+//   day LABEL: BYTES                what the day program prints
 use crate::codec;
 use crate::events;
-use crate::games;
 use crate::line::find;
 use crate::line::find_last;
 use crate::line::label_start;
 use crate::line::line_after;
 use crate::line::parse;
+use crate::show::text;
 use crate::solver;
 use crate::transcripts;
 use automaton::Automaton;
@@ -37,31 +36,29 @@ struct Left {
     places: usize,
 }
 
+// Whether a line says nothing, so that its label is not printed either.
+fn is_quiet(word: u8) -> bool {
+    match word {
+        b'u' | b'o' | b'l' | b'b' | b'f' | b'a' | b'#' => true,
+        _ => false,
+    }
+}
+
+fn show_label(word: u8, label: &[u8]) {
+    if !is_quiet(word) {
+        text(label);
+    }
+}
+
 // Runs a line: each part looks at its word.
-fn step(
-    word: u8,
-    label: &[u8],
-    values: &[u32],
-    bytes: &[u8],
-    table: &mut [u32],
-    left: Left,
-) -> Left {
-    let a = codec::case(word, label, values, bytes, left.automaton);
-    let places = solver::case(word, label, values, a, table, left.places);
+fn step(word: u8, values: &[u32], bytes: &[u8], table: &mut [u32], left: Left) -> Left {
+    let a = codec::case(word, values, bytes, left.automaton);
+    let places = solver::case(word, values, a, table, left.places);
     if table.len() < places {
         return left;
     }
-    let c = events::case(
-        word,
-        label,
-        values,
-        bytes,
-        a,
-        &table[..places],
-        left.configuration,
-    );
-    transcripts::case(word, label, bytes);
-    games::case(word, label, values, bytes, a, c);
+    let c = events::case(word, values, bytes, a, &table[..places], left.configuration);
+    transcripts::case(word, bytes);
     Left {
         automaton: a,
         configuration: c,
@@ -74,17 +71,12 @@ fn line(text: &[u8], values: &mut [u32], bytes: &mut [u8], table: &mut [u32], le
     if text.len() == 0 {
         return left;
     }
+    let word = text[0];
     let colon = find_last(text, b':');
     let from = label_start(text, colon);
+    show_label(word, &text[from..colon]);
     let count = parse(&text[colon..], values, bytes);
-    step(
-        text[0],
-        &text[from..colon],
-        &values[..count],
-        &bytes[..count],
-        table,
-        left,
-    )
+    step(word, &values[..count], &bytes[..count], table, left)
 }
 
 // What there is before the first line: an all-zero record.

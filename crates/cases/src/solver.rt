@@ -9,9 +9,8 @@ use crate::show::words;
 use automaton::Automaton;
 use winning::Solution;
 
-fn counted(label: &[u8], a: Automaton) {
+fn counted(a: Automaton) {
     let c = winning::buffers_count(a);
-    text(label);
     refusal(c.refusal);
     field(b", ", c.count as usize);
     text(b" buffers\n");
@@ -23,10 +22,9 @@ fn show_solution(s: Solution) {
 }
 
 // What solving into a lent table gives, and the table afterwards.
-fn solved(label: &[u8], a: Automaton, table: &mut [u32]) {
+fn solved(a: Automaton, table: &mut [u32]) {
     let c = winning::buffers_count(a);
     let s = winning::solve(a, table);
-    text(label);
     field(b": ", c.count as usize);
     show_solution(s);
     words(b", table", table);
@@ -43,12 +41,12 @@ fn fill(table: &mut [u32], values: &[u32]) {
 }
 
 // The solver over so many places of the table, with or without a word.
-fn solve(label: &[u8], a: Automaton, table: &mut [u32], places: usize, shown: bool) -> usize {
+fn solve(a: Automaton, table: &mut [u32], places: usize, shown: bool) -> usize {
     if table.len() < places {
         return 0;
     }
     if shown {
-        solved(label, a, &mut table[..places]);
+        solved(a, &mut table[..places]);
     } else {
         winning::solve(a, &mut table[..places]);
     }
@@ -62,24 +60,17 @@ fn given(table: &mut [u32], values: &[u32]) -> usize {
 }
 
 // How many places the table has after a line.
-pub fn case(
-    word: u8,
-    label: &[u8],
-    values: &[u32],
-    a: Automaton,
-    table: &mut [u32],
-    before: usize,
-) -> usize {
+pub fn case(word: u8, values: &[u32], a: Automaton, table: &mut [u32], before: usize) -> usize {
     match word {
         b'c' => {
-            counted(label, a);
+            counted(a);
             before
         }
         b't' => {
             fill(table, &[]);
-            solve(label, a, table, places(values), true)
+            solve(a, table, places(values), true)
         }
-        b'l' => solve(label, a, table, places(values), false),
+        b'l' => solve(a, table, places(values), false),
         b'b' => given(table, values),
         _ => before,
     }
