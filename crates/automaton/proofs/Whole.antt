@@ -129,15 +129,15 @@ module _ (a : Automaton) where
         leb-true (a .symbols) 16 (and-right (leb 1 (a .symbols)) (leb (a .symbols) 16) (and-left m rest (and-right n (m && rest) h))),
       )
 
-  shapes : length (a .classes) ≡ 16 → length (a .accepting) ≡ 32 → length (a .next) ≡ 512 → shaped a ≡ true
+  pub shapes : length (a .classes) ≡ 16 → length (a .accepting) ≡ 32 → length (a .next) ≡ 512 → shaped a ≡ true
   unfolding shaped
   shapes c f n = and-both (eq-eqb _ 16 c) (and-both (eq-eqb _ 32 f) (eq-eqb _ 512 n))
 
-  pub refuses : in-ranges ≡ false → false ≡ valid a
-  unfolding valid
-  refuses h = by (shaped a) (λ s. rw (s, h)) (λ s. rw s)
+  module _ (s : shaped a ≡ true) where
+    pub refuses : in-ranges ≡ false → false ≡ valid a
+    unfolding valid
+    refuses h = rw (s, h)
 
-  pub passes : length (a .classes) ≡ 16 → length (a .accepting) ≡ 32 → length (a .next) ≡ 512 → in-ranges ≡ true
-      → tablesStand (a .states) (a .symbols) (a .classes) (a .accepting) (a .next) ≡ valid a
-  unfolding valid
-  passes c f n h = sym (rw (shapes c f n, h))
+    pub passes : in-ranges ≡ true → tablesStand (a .states) (a .symbols) (a .classes) (a .accepting) (a .next) ≡ valid a
+    unfolding valid
+    passes h = sym (rw (s, h))

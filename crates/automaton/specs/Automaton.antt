@@ -73,3 +73,16 @@ valid a =
     shaped a &&
     (ranged (a .states) (a .symbols) (a .capacity) (a .initial) &&
     tablesStand (a .states) (a .symbols) (a .classes) (a .accepting) (a .next))
+
+-- the record of which the parts are lent
+abbrev pub assembled : ℕ → ℕ → ℕ → ℕ → List ℕ → List ℕ → List ℕ → Automaton
+assembled states symbols capacity initial classes accepting next =
+    record {
+      states = states;
+      symbols = symbols;
+      capacity = capacity;
+      initial = initial;
+      classes = classes;
+      accepting = accepting;
+      next = next;
+    }

@@ -1,9 +1,10 @@
 // Row 11: the record keeps rows 3 to 9 and every unused place is 0. No loop is left early, so that each one is vectorised.
 use crate::Automaton;
 ghost use mathlib.Core.Path.{_≡_};
+ghost use mathlib.Core.Bool.{true};
 ghost use Prim.Native.Nat.{_+_, _≤_};
 ghost use lib.ListN.{length};
-ghost use Rattle.automaton.specs.Automaton.{ranged, nextStand, tablesStand, valid};
+ghost use Rattle.automaton.specs.Automaton.{shaped, ranged, nextStand, tablesStand, valid, assembled};
 ghost use Rattle.automaton.specs.Parts.{controllableIn, placesStand, belowFrom, limitsOf, rowBelow, rowsBelow};
 
 // Rows 3 to 6.
@@ -153,13 +154,36 @@ fn tables_stand<'a>(
     next_stand(n, m, next)
 }
 
+// Row 11 over the lent parts of a record, for callers that copy none of it.
+pub fn valid_in<'a>(
+    states: u8,
+    symbols: u8,
+    capacity: u8,
+    initial: u8,
+    classes: &'a [u8; 16],
+    accepting: &'a [u8; 32],
+    next: &'a [u8; 512],
+) -> bool
+    requires { ⌜ shaped (assembled states symbols capacity initial (now classes) (now accepting) (now next)) ≡ true ⌝ }
+    ensures { λ r. ⌜ r ≡ valid (assembled states symbols capacity initial (now (classes .entry)) (now (accepting .entry)) (now (next .entry))) ⌝ }
+{
+    if ranged(states, symbols, capacity, initial) {
+        let m = base::size(symbols);
+        return tables_stand(states, m, classes, accepting, next);
+    }
+    false
+}
+
 pub fn valid(a: Automaton) -> bool
     ensures { λ r. ⌜ r ≡ valid a ⌝ }
 {
-    if ranged(a.states, a.symbols, a.capacity, a.initial) {
-        let n = a.states;
-        let m = base::size(a.symbols);
-        return tables_stand(n, m, &a.classes, &a.accepting, &a.next);
-    }
-    false
+    valid_in(
+        a.states,
+        a.symbols,
+        a.capacity,
+        a.initial,
+        &a.classes,
+        &a.accepting,
+        &a.next,
+    )
 }

@@ -4,79 +4,9 @@ use base::size;
 use configuration::Configuration;
 use monitor::Ran;
 use monitor::enter;
-use releasing::Ranking;
-use stepping::event_row;
-use stepping::step;
+use monitor::process;
 ghost use mathlib.Core.Path.{_≡_};
-ghost use Prim.Native.Nat.{ℕ, _+_, _≤_, _<_};
-ghost use lib.ListN.{length};
-ghost use Rattle.monitor.specs.Answers.{callRefusal, refusedRun, ran, ranOf, ranBuffer, ranBufferOf};
-ghost use Rattle.releasing.specs.Parts.{rankingOf};
-ghost use Rattle.batch.specs.Parts.{completedRun};
-
-// The answer after the last event.
-fn completed(q: usize, buffer: [u8; 6], held: usize, written: usize, refused: usize) -> Ran
-    requires { ⌜ (q < 256) × (held < 256) ⌝ }
-    ensures { λ r. ⌜ r ≡ completedRun q buffer held written refused ⌝ }
-{
-    Ran {
-        refusal: 0,
-        configuration: Configuration {
-            state: q as u8,
-            held: held as u8,
-            buffer,
-        },
-        length: written,
-        refused,
-    }
-}
-
-// The events in turn; those that are refused are passed over and counted.
-fn go(
-    a: Automaton,
-    ranking: Ranking,
-    table: &[u32],
-    c: Configuration,
-    events: &[u32],
-    out: &mut [u8],
-) -> Ran
-    requires { ⌜ (callRefusal a (now table) c ≡ 0) × (ranking ≡ rankingOf (a .classes) (a .symbols)) × (length (now events) + c .held ≤ length (now out)) ⌝ }
-    ensures { λ r. ⌜ (r ≡ ranOf a (now (table .entry)) c (now (events .entry))) × (now (out .exit) ≡ ranBufferOf a (now (table .entry)) c (now (events .entry)) (now (out .entry))) ⌝ }
-{
-    let capacity = size(a.capacity);
-    let mut q = size(c.state);
-    let mut buffer = c.buffer;
-    let mut held = size(c.held);
-    let mut written: usize = 0;
-    let mut refused: usize = 0;
-    let mut i: usize = 0;
-    while i < events.len() {
-        let event = events[i];
-        i = i + 1;
-        if event_row(&ranking.ranks, a.symbols, capacity, held, event) != 0 {
-            refused = refused + 1;
-        } else {
-            let after = step(
-                &a.next,
-                &ranking.ranks,
-                ranking.count,
-                table,
-                q,
-                buffer,
-                held,
-                event as u8,
-                out,
-                written,
-            );
-            let left = after.buffer;
-            q = after.state;
-            buffer = left;
-            held = after.held;
-            written = after.written;
-        }
-    }
-    completed(q, buffer, held, written, refused)
-}
+ghost use Rattle.monitor.specs.Answers.{refusedRun, ran, ranBuffer};
 
 fn refused_run(row: u8, c: Configuration) -> Ran
     ensures { λ r. ⌜ r ≡ refusedRun row c ⌝ }
@@ -92,7 +22,17 @@ fn refused_run(row: u8, c: Configuration) -> Ran
 pub fn run(a: Automaton, table: &[u32], c: Configuration, events: &[u32], out: &mut [u8]) -> Ran
     ensures { λ r. ⌜ (r ≡ ran a (now (table .entry)) c (now (events .entry)) (now (out .entry))) × (now (out .exit) ≡ ranBuffer a (now (table .entry)) c (now (events .entry)) (now (out .entry))) ⌝ }
 {
-    let entry = enter(a, table, c);
+    let entry = enter(
+        a.states,
+        a.symbols,
+        a.capacity,
+        a.initial,
+        &a.classes,
+        &a.accepting,
+        &a.next,
+        table,
+        c,
+    );
     if entry.refusal != 0 {
         return refused_run(entry.refusal, c);
     }
@@ -104,5 +44,5 @@ pub fn run(a: Automaton, table: &[u32], c: Configuration, events: &[u32], out: &
         return refused_run(16, c);
     }
     let ranking = entry.ranking;
-    go(a, ranking, table, c, events, out)
+    process(a, ranking, table, c, events, out)
 }

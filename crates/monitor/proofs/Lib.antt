@@ -1,3 +1,4 @@
 pub mod Refusals
 pub mod Entries
 pub mod Receiving
+pub mod Running

@@ -2,32 +2,33 @@
 use Prim.Native.Nat.{ℕ, suc, _+_, _<_, _≤_}
 use mathlib.Core.Path.{_≡_, refl, sym, _∙_, ap, subst}
 use mathlib.Core.Bool.{Bool, true, false}
-use mathlib.Core.List.{List}
+use mathlib.Core.List.{List, [], _∷_, _++_, append-nil}
 use native.Mathlib.Nat.{zero-add}
 use native.Mathlib.Omega.{arith}
-use lib.ListN.{length, getD, take, replicate}
-use lib.Seq.{sets}
+use lib.ListN.{length, getD, take, drop, replicate}
+use lib.Seq.{sets-eq}
 use borrow.Author.Tests.{ne-eqb}
 use Rattle.base.specs.Pad.{pad}
-use Rattle.base.proofs.Padding.{pad-stored}
+use Rattle.base.proofs.Padding.{pad-stored, take-pad}
 use Rattle.automaton.specs.declared.Automaton.{Automaton}
 use Rattle.automaton.proofs.Facts.{Valid, valid-facts, valid-of}
 use Rattle.sets.proofs.Total.{total}
 use Rattle.configuration.specs.declared.Configuration.{Configuration}
-use Rattle.configuration.specs.Configuration.{heldEvents}
+use Rattle.configuration.specs.Configuration.{heldEvents, configuration}
 use Rattle.configuration.proofs.Facts.{Consistent, consistent-facts, held-buffer}
-use Rattle.releasing.specs.Step.{byTable, Effect, effect, eventRows, eventRefusal}
+use Rattle.releasing.specs.Step.{byTable, Effect, effect, eventRows, eventRefusal, Run, runOf}
 use Rattle.releasing.specs.declared.Ranking.{Ranking}
-use Rattle.releasing.specs.Parts.{rankingOf, restIn, over, Lent}
+use Rattle.releasing.specs.Parts.{rankingOf, restIn, Lent}
 use Rattle.releasing.proofs.Effects.{Occurs, effect-occurs, effect-length}
+use Rattle.releasing.proofs.Runs.{run-accepts}
 use Rattle.releasing.proofs.Tabled.{rest-tabled, lent}
-use Rattle.stepping.specs.declared.Stepped.{Stepped}
-use Rattle.stepping.specs.Stepping.{eventRowBy, stepped, Ready}
-use Rattle.stepping.proofs.Tabled.{row-same, stepped-tabled, emitted-tabled, symbols-low, ready}
+use Rattle.stepping.specs.Stepping.{eventRowBy}
+use Rattle.stepping.proofs.Tabled.{row-same, symbols-low}
+use Rattle.monitor.specs.declared.Ran.{Ran}
 use Rattle.monitor.specs.declared.Received.{Received}
 use Rattle.monitor.specs.declared.Status.{Status}
 use Rattle.monitor.specs.declared.Entry.{Entry}
-use Rattle.monitor.specs.Answers.{callRows, callRefusal, receiveRefusal, refusedEvent, received, isWinning, status}
+use Rattle.monitor.specs.Answers.{callRows, callRefusal, receiveRefusal, refusedEvent, received, isWinning, status, ranOf, ranBufferOf}
 use Rattle.monitor.specs.Parts.{entryOf}
 use Rattle.monitor.proofs.Refusals.{Clear, clear, status-clear, rows-stand, rows-pass}
 
@@ -51,11 +52,12 @@ module _ (a : Automaton) (t : List ℕ) (c : Configuration) where
     occurs = record { state-below = place .state-below; buffer = held-buffer a c place }
 
     -- what the release asks
-    pub lent-here : Lent (a .next) (rankingOf (a .classes) (a .symbols) .ranks) (rankingOf (a .classes) (a .symbols) .count) t (c .state) (c .buffer) (c .held)
+    pub lent-here : (r : Ranking) → r ≡ rankingOf (a .classes) (a .symbols) → Lent (a .next) (r .ranks) (r .count) t (c .state) (c .buffer) (c .held)
     unfolding heldEvents
-    lent-here =
-        lent a facts t (k .table-long) (c .state) (c .buffer) (c .held) (place .state-below) (place .held-small) (held-buffer a c place)
-        (λ i. subst (λ b. getD b i 0 < 16) (sym (ap (λ (y : Configuration). y .buffer) (place .whole))) (symbols-low a facts (heldEvents c) (place .events) i))
+    lent-here r own =
+        rw own
+        (lent a facts t (k .table-long) (c .state) (c .buffer) (c .held) (place .state-below) (place .held-small) (held-buffer a c place)
+        (λ i. subst (λ b. getD b i 0 < 16) (sym (ap (λ (y : Configuration). y .buffer) (place .whole))) (symbols-low a facts (heldEvents c) (place .events) i)))
 
     -- rows 14 and 15, as the code finds them
     module _ (r : Ranking) (own : r ≡ rankingOf (a .classes) (a .symbols)) (capacity held e n : ℕ) (ec : capacity ≡ a .capacity) (eh : held ≡ c .held)
@@ -81,57 +83,52 @@ module _ (a : Automaton) (t : List ℕ) (c : Configuration) where
         unfolding f
         seven = omega (arith, effect-length (byTable a t) a (c .state) (heldEvents c) e, place .held-length, place .held-small)
 
-        pub receive-ready : (q : ℕ) → q ≡ c .state → Ready (a .next) (r .ranks) (r .count) t q (c .buffer) held e 7 0
-        unfolding heldEvents
-        receive-ready q eq =
-            rw (own, eh, eq)
-            (ready a facts t (k .table-long) (c .state) (c .buffer) (c .held) e 7 0 occurs (place .held-small) (ap (λ (y : Configuration). y .buffer) (place .whole))
-            (place .held-length) row (omega (arith, place .held-small)) (omega arith))
+        -- a list of this one event
+        alone : runOf (byTable a t) a (c .state) (heldEvents c) (e ∷ []) ≡ record { emitted = f .emitted; refused = 0; state = f .state; buffer = f .buffer }
+        unfolding runOf f
+        alone = run-accepts (byTable a t) a (c .state) (heldEvents c) e [] row ∙ rw (append-nil (effect (byTable a t) a (c .state) (heldEvents c) e .emitted))
 
         -- its answer
-        module _ (q : ℕ) (eq : q ≡ c .state) (s : Stepped)
-            (es : s ≡ stepped (restIn t (r .ranks) (r .count)) (over (r .ranks) (a .next)) q (take held (c .buffer)) e 0) (out : List ℕ)
-            (eo : out ≡ sets (replicate 7 0) 0 (effect (restIn t (r .ranks) (r .count)) (over (r .ranks) (a .next)) q (take held (c .buffer)) e .emitted)) where
-          pub step-is : s ≡ stepped (byTable a t) a (c .state) (heldEvents c) e 0
-          unfolding heldEvents
-          step-is = es ∙ rw (own, eh, eq) (stepped-tabled a facts t (c .state) (heldEvents c) e occurs row 0)
+        module _ (s : Ran) (es : s ≡ ranOf a t c (e ∷ [])) (out : List ℕ) (eo : out ≡ ranBufferOf a t c (e ∷ []) (replicate 7 0)) where
+          ran-is : s ≡ record { refusal = 0; configuration = configuration (f .state) (f .buffer); length = length (f .emitted); refused = 0 }
+          ran-is =
+              es ∙ ap (λ (y : Run). record { refusal = 0; configuration = configuration (y .state) (y .buffer); length = length (y .emitted); refused = y .refused }) alone
 
           out-is : out ≡ pad 7 (f .emitted)
-          unfolding heldEvents f
           out-is =
-              eo ∙ rw (own, eh, eq) (ap (sets (replicate 7 0) 0) (emitted-tabled a facts t (c .state) (heldEvents c) e occurs row)) ∙
+              let zeros : List ℕ = replicate 7 0 in
+              let m : 0 + length (f .emitted) ≤ length zeros = omega (arith, seven) in
+              eo ∙ ap (λ (y : Run). y .emitted ++ drop (length (y .emitted)) zeros) alone ∙
+              sym (sets-eq (f .emitted) zeros 0 m ∙ ap (λ i. f .emitted ++ drop i zeros) (zero-add (length (f .emitted)))) ∙
               pad-stored 7 (f .emitted) seven
 
-          pub state-small : s .state < 256
-          unfolding stepped
-          state-small =
-              omega (
-                arith,
-                ap (λ (y : Stepped). y .state) step-is,
-                effect-occurs (byTable a t) a (c .state) (heldEvents c) e (total a (valid-of a facts)) occurs row .state-below,
-                facts .states-high,
-              )
+          next-occurs : Occurs a (f .state) (f .buffer)
+          unfolding f
+          next-occurs = effect-occurs (byTable a t) a (c .state) (heldEvents c) e (total a (valid-of a facts)) occurs row
 
-          pub held-small : s .held < 256
-          unfolding stepped
-          held-small =
-              omega (arith, ap (λ (y : Stepped). y .held) step-is, effect-length (byTable a t) a (c .state) (heldEvents c) e, place .held-length, place .held-small)
+          pub count-small : s .length < 256
+          count-small = omega (arith, ap (λ (y : Ran). y .length) ran-is, seven)
 
-          pub count-small : s .written < 256
-          unfolding stepped f
-          count-small = omega (arith, ap (λ (y : Stepped). y .written) step-is, seven)
+          -- what the test of rest asks
+          pub lent-after : Lent (a .next) (r .ranks) (r .count) t (s .configuration .state) (s .configuration .buffer) (s .configuration .held)
+          unfolding f
+          lent-after =
+              rw (ran-is, own)
+              (lent a facts t (k .table-long) (f .state) (pad 6 (f .buffer)) (length (f .buffer)) (next-occurs .state-below)
+              (omega (arith, next-occurs .buffer .1, facts .capacity-high))
+              (rw (take-pad 6 (f .buffer)) (next-occurs .buffer))
+              (symbols-low a facts (f .buffer) (next-occurs .buffer .0)))
 
-          pub receive-accepts : record {
-            refusal = 0;
-            configuration = record { state = s .state; held = s .held; buffer = s .buffer };
-            emitted = out;
-            count = s .written;
-            winning = s .winning;
-          } ≡ received a t c e
-          unfolding received receiveRefusal eventRefusal stepped f
-          receive-accepts =
-              rw (out-is, step-is)
-              (rw (rows-pass a t c (k .record-valid) (k .table-long) (k .configuration-consistent) (eventRows a (heldEvents c) e), row, zero-add (length (f .emitted))))
+          pub receive-accepts : (b : Bool)
+              → b ≡ restIn t (r .ranks) (r .count) (take (s .configuration .held) (s .configuration .buffer)) (s .configuration .state)
+              → record { refusal = 0; configuration = s .configuration; emitted = out; count = s .length; winning = b } ≡ received a t c e
+          unfolding received receiveRefusal eventRefusal f
+          receive-accepts b eb =
+              let w : b ≡ byTable a t (f .buffer) (f .state) =
+              eb ∙ rw (ran-is, own, take-pad 6 (f .buffer)) (rest-tabled a facts t (f .buffer) (next-occurs .buffer) (f .state))
+              in
+              rw (w, out-is, ran-is)
+              (rw (rows-pass a t c (k .record-valid) (k .table-long) (k .configuration-consistent) (eventRows a (heldEvents c) e), row))
 
 -- what `enter` hands over
 pub entered : (a : Automaton) (t : List ℕ) (c : Configuration) (n : Entry) → n ≡ entryOf a t c → n .refusal ≡ callRefusal a t c
@@ -159,7 +156,3 @@ module _ (a : Automaton) (t : List ℕ) (c : Configuration) where
       let z = status-clear a t c (k .record-valid) (k .table-long) (k .configuration-consistent) in
       let s = rest-tabled a (facts a t c k) t (take (c .held) (c .buffer)) (held-buffer a c (place a t c k)) (c .state) in
       rw (z, ← s, e)
-
-  pub held-long : Clear a t c → length (take (c .held) (c .buffer)) ≡ c .held
-  unfolding heldEvents
-  held-long k = place a t c k .held-length

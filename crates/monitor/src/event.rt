@@ -1,11 +1,12 @@
-// One event.
+// One event: a list of one, and whether the monitor may then rest.
 use crate::Received;
 use crate::checking::enter;
+use crate::events::process;
 use automaton::Automaton;
 use base::size;
 use configuration::Configuration;
+use releasing::rests;
 use stepping::event_row;
-use stepping::step;
 ghost use mathlib.Core.Path.{_≡_};
 ghost use Rattle.monitor.specs.Answers.{received, refusedEvent};
 
@@ -24,7 +25,17 @@ fn refused(row: u8, c: Configuration) -> Received
 pub fn receive(a: Automaton, table: &[u32], c: Configuration, event: u32) -> Received
     ensures { λ r. ⌜ r ≡ received a (now (table .entry)) c event ⌝ }
 {
-    let entry = enter(a, table, c);
+    let entry = enter(
+        a.states,
+        a.symbols,
+        a.capacity,
+        a.initial,
+        &a.classes,
+        &a.accepting,
+        &a.next,
+        table,
+        c,
+    );
     if entry.refusal != 0 {
         return refused(entry.refusal, c);
     }
@@ -34,30 +45,22 @@ pub fn receive(a: Automaton, table: &[u32], c: Configuration, event: u32) -> Rec
     if row != 0 {
         return refused(row, c);
     }
-    let buffer = c.buffer;
     let mut emitted = [0u8; 7];
-    let after = step(
-        &a.next,
-        &ranking.ranks,
-        ranking.count,
-        table,
-        size(c.state),
-        buffer,
-        held,
-        event as u8,
-        &mut emitted,
-        0,
-    );
-    let left = after.buffer;
+    let ran = process(a, ranking, table, c, &[event], &mut emitted);
+    let after = ran.configuration;
+    let buffer = after.buffer;
     Received {
         refusal: 0,
-        configuration: Configuration {
-            state: after.state as u8,
-            held: after.held as u8,
-            buffer: left,
-        },
+        configuration: after,
         emitted,
-        count: after.written as u8,
-        winning: after.winning,
+        count: ran.length as u8,
+        winning: rests(
+            &ranking.ranks,
+            ranking.count,
+            table,
+            size(after.state),
+            buffer,
+            size(after.held),
+        ),
     }
 }

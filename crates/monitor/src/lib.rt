@@ -1,11 +1,13 @@
-// The enforcement monitor: one event over a lent table. (A whole day of them is crate `batch`.)
+// The enforcement monitor: one event over a lent table, and the loop over events. (The call of a whole day is crate `batch`.)
 mod checking;
 mod event;
+mod events;
 
 pub use checking::enter;
 pub use checking::winning;
 use configuration::Configuration;
 pub use event::receive;
+pub use events::process;
 use releasing::Ranking;
 
 // Whether a configuration is winning (document 01's guarded), or the refusing row with no.

@@ -11,6 +11,7 @@ use lib.Seq.{set-at, drop-cons, drop-length, getD-take, getD-append-add, length-
 use lib.Dec.{eqb, ltb}
 use borrow.Author.Tests.{eq-eqb, ne-eqb, ltb-true, ltb-false}
 use Rattle.base.specs.Each.{count}
+use Rattle.base.specs.Masks.{has}
 use Rattle.base.specs.Pad.{pad}
 use Rattle.base.proofs.Bools.{by}
 use Rattle.base.proofs.Ranges.{count-max, count-more}
@@ -19,7 +20,7 @@ use Rattle.automaton.specs.declared.Automaton.{Automaton}
 use Rattle.automaton.specs.Automaton.{controllable, controllables}
 use Rattle.automaton.specs.Parts.{controllableIn}
 use Rattle.sets.specs.Table.{rank, value, shorter, index, Controllable}
-use Rattle.releasing.specs.Parts.{ranksTo, rankingOf, placeIn, placesOf}
+use Rattle.releasing.specs.Parts.{ranksTo, rankingOf, placeIn, placesOf, restIn}
 
 -- a run of equal elements, one longer
 repeat-end : (k : ℕ) (x : ℕ) (rest : List ℕ) → replicate k x ++ x ∷ rest ≡ replicate (suc k) x ++ rest
@@ -144,3 +145,12 @@ place-at ranks k w i h =
     (λ t.
     let e : i ≡ length w = omega (arith, ltb-false i (length w) t) in
     pad-outside 8 (placesOf ranks k w) i (omega (arith, places-length ranks k w, ltb-false i (length w) t)) ∙ sym (rw (e, drop-length w)))
+
+-- the first of the places is that of the whole buffer
+pub first-place : (ranks : List ℕ) (k : ℕ) (w places : List ℕ) → places ≡ pad 8 (placesOf ranks k w) → getD places 0 0 ≡ placeIn ranks k w
+first-place ranks k w places e = ap (λ x. getD x 0 0) e ∙ place-at ranks k w 0 (omega arith)
+
+pub first-rests : (ranks : List ℕ) (k : ℕ) (t w places : List ℕ) (q : ℕ) → places ≡ pad 8 (placesOf ranks k w)
+    → has (getD t (2 * getD places 0 0) 0) q ≡ restIn t ranks k w q
+unfolding restIn
+first-rests ranks k t w places q e = ap (λ x. has (getD t (2 * x) 0) q) (first-place ranks k w places e)

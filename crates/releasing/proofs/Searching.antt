@@ -20,28 +20,26 @@ use Rattle.releasing.specs.declared.Front.{Front}
 use Rattle.releasing.specs.Parts.{front, placeIn, placesOf, restIn, over, Lent}
 use Rattle.releasing.proofs.Numbers.{place-at}
 
-pub record Searching (rest : Rest) (a : Automaton) (q : ℕ) (w : List ℕ) (winning : Bool) (count state p r : ℕ) : Type 0 where
+pub record Searching (rest : Rest) (a : Automaton) (q : ℕ) (w : List ℕ) (count state p r : ℕ) : Type 0 where
   pub within : r ≤ length w
   pub below : count ≤ r
   pub here : p ≡ run a q (take r w)
   pub longest : count ≡ lastOr 0 (those (r + 1) (qualifies rest a q w))
   pub state-is : state ≡ run a q (take count w)
-  pub winning-is : winning ≡ qualifies rest a q w count
 
 module _ (rest : Rest) (a : Automaton) (q : ℕ) (w : List ℕ) where
-  pub searching-begins : (b : Bool) → b ≡ rest w q → Searching rest a q w b 0 q q 0
+  pub searching-begins : Searching rest a q w 0 q q 0
   unfolding qualifies run those lastOr
-  searching-begins b e =
+  searching-begins =
       record {
         within = omega arith;
         below = omega arith;
         here = refl;
         longest = by (rest w q) (λ h. sym (last-taken 0 0 (qualifies rest a q w) h)) (λ h. sym (last-kept 0 0 (qualifies rest a q w) h));
         state-is = refl;
-        winning-is = e;
       }
 
-  module _ {winning : Bool} {count state p r : ℕ} (g : Searching rest a q w winning count state p r) (h : r < length w) where
+  module _ {count state p r : ℕ} (g : Searching rest a q w count state p r) (h : r < length w) where
     -- the next state on the way
     next-state : step a p (getD w r 0) ≡ run a q (take (r + 1) w)
     next-state =
@@ -53,7 +51,7 @@ module _ (rest : Rest) (a : Automaton) (q : ℕ) (w : List ℕ) where
       unfolding qualifies
       found = f ∙ ap (rest (drop (r + 1) w)) (e ∙ next-state)
 
-      pub searching-finds : b ≡ true → Searching rest a q w true (r + 1) s s (r + 1)
+      pub searching-finds : b ≡ true → Searching rest a q w (r + 1) s s (r + 1)
       searching-finds t =
           record {
             within = omega arith;
@@ -61,10 +59,9 @@ module _ (rest : Rest) (a : Automaton) (q : ℕ) (w : List ℕ) where
             here = e ∙ next-state;
             longest = sym (last-taken 0 (r + 1) (qualifies rest a q w) (sym found ∙ t));
             state-is = e ∙ next-state;
-            winning-is = sym t ∙ found;
           }
 
-      pub searching-passes : b ≡ false → Searching rest a q w winning count state s (r + 1)
+      pub searching-passes : b ≡ false → Searching rest a q w count state s (r + 1)
       searching-passes t =
           record {
             within = omega arith;
@@ -72,16 +69,15 @@ module _ (rest : Rest) (a : Automaton) (q : ℕ) (w : List ℕ) where
             here = e ∙ next-state;
             longest = g .longest ∙ sym (last-kept 0 (r + 1) (qualifies rest a q w) (sym found ∙ t));
             state-is = g .state-is;
-            winning-is = g .winning-is;
           }
 
-  pub searching-done : {winning : Bool} {count state p r : ℕ} → Searching rest a q w winning count state p r → length w ≤ r
-      → record { winning = winning; count = count; state = state } ≡ front rest a q w
+  pub searching-done : {count state p r : ℕ} → Searching rest a q w count state p r → length w ≤ r
+      → record { count = count; state = state } ≡ front rest a q w
   unfolding front release qualifying
   searching-done {r = r} g h =
       let e : r ≡ length w = omega (arith, g .within) in
       let k = rw (e, add-one (length w)) at (g .longest) in
-      rw (g .winning-is, g .state-is, k)
+      rw (g .state-is, k)
 
 -- what the release reads of the arrays that it is lent
 module _ {next ranks : List ℕ} {k : ℕ} {t : List ℕ} {q : ℕ} {buffer : List ℕ} {held : ℕ} (l : Lent next ranks k t q buffer held)
@@ -100,3 +96,10 @@ module _ {next ranks : List ℕ} {k : ℕ} {t : List ℕ} {q : ℕ} {buffer : Li
   pub lent-step : (p r x s : ℕ) → r < held → x ≡ getD buffer r 0 → s ≡ getD next (p * 16 + x) 0 → s ≡ step (over ranks next) p (getD (take held buffer) r 0)
   unfolding step
   lent-step p r x s h e f = f ∙ ap (λ y. getD next (p * 16 + y) 0) (e ∙ sym (getD-take held buffer r 0 h))
+
+-- what the test of rest asks, of the same arrays
+pub rests-asks : {next ranks : List ℕ} {k : ℕ} {t : List ℕ} {q : ℕ} {buffer : List ℕ} {held : ℕ} → Lent next ranks k t q buffer held
+    → (p n : ℕ) → p ≡ q → n ≡ held
+    → (n ≤ 6) × (k ≤ 8) × ((e : ℕ) → getD ranks e 0 ≤ 8) × ((i : ℕ) → getD buffer i 0 < 16) × (p < 32) × (2 * placeIn ranks k (take n buffer) < length t)
+rests-asks l p n ep en =
+    (omega (arith, l .few), l .radix, l .rank-high, l .symbol-low, omega (arith, l .state-low), rw en (l .long 0 (omega arith)))

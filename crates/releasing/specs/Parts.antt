@@ -10,7 +10,7 @@ use Rattle.base.specs.Pad.{pad}
 use Rattle.automaton.specs.declared.Automaton.{Automaton}
 use Rattle.automaton.specs.Automaton.{run}
 use Rattle.automaton.specs.Parts.{controllableIn}
-use Rattle.releasing.specs.Step.{Rest, qualifies, release}
+use Rattle.releasing.specs.Step.{Rest, release}
 pub use Rattle.releasing.specs.declared.Ranking.{Ranking}
 pub use Rattle.releasing.specs.declared.Front.{Front}
 
@@ -53,11 +53,11 @@ over ranks next =
       next = next;
     }
 
--- the longest front part that qualifies, where it leads, and whether the monitor may rest then
+-- the longest front part that qualifies, and where it leads
 unfoldable pub front : Rest → Automaton → ℕ → List ℕ → Front
 front rest a q w =
     let k = release rest a q w in
-    record { winning = qualifies rest a q w k; count = k; state = run a q (take k w) }
+    record { count = k; state = run a q (take k w) }
 
 -- what the release asks of its arguments
 pub record Lent (next ranks : List ℕ) (k : ℕ) (t : List ℕ) (q : ℕ) (buffer : List ℕ) (held : ℕ) : Type 0 where

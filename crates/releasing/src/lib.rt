@@ -4,10 +4,10 @@ use base::size;
 use base::wide;
 ghost use mathlib.Core.Path.{_≡_};
 ghost use Prim.Native.Nat.{ℕ, _+_, _*_, _≤_, _<_};
-ghost use lib.ListN.{getD, length, take};
+ghost use lib.ListN.{getD, length, take, replicate};
 ghost use Rattle.base.specs.Pad.{pad};
 ghost use Rattle.base.specs.Masks.{has};
-ghost use Rattle.releasing.specs.Parts.{rankingOf, placesOf, restIn, over, front, Lent};
+ghost use Rattle.releasing.specs.Parts.{rankingOf, placeIn, placesOf, restIn, over, front, Lent};
 
 // The controllable symbols: how many there are, and the rank of each from 1 (0: uncontrollable).
 pub struct Ranking {
@@ -15,9 +15,8 @@ pub struct Ranking {
     pub ranks: [u8; 16],
 }
 
-// The front part of a buffer that is released: its length, the state after it, and whether the monitor may rest there.
+// The front part of a buffer that is released: its length, and the state after it.
 pub struct Front {
-    pub winning: bool,
     pub count: usize,
     pub state: usize,
 }
@@ -43,7 +42,7 @@ pub fn rank_symbols(classes: &[u8; 16], m: usize) -> Ranking
 }
 
 // State q is in the set at a place of the table.
-pub fn in_set(table: &[u32], place: u32, q: usize) -> bool
+fn in_set(table: &[u32], place: u32, q: usize) -> bool
     requires { ⌜ (2 * place < length (now table)) × (q < 32) ⌝ }
     ensures { λ r. ⌜ r ≡ has (getD (now (table .entry)) (2 * place) 0) q ⌝ }
 {
@@ -51,12 +50,12 @@ pub fn in_set(table: &[u32], place: u32, q: usize) -> bool
     has(table[at], q)
 }
 
-// The numbers of what is left of the buffer after each front part; 0 for the empty buffer, and in unused places.
-pub fn places(ranks: &[u8; 16], k: u32, buffer: [u8; 6], held: usize) -> [u32; 8]
-    requires { ⌜ (held ≤ 6) × (k ≤ 8) × ((e : ℕ) → getD (now ranks) e 0 ≤ 8) × ((i : ℕ) → getD buffer i 0 < 16) ⌝ }
-    ensures { λ r. ⌜ r ≡ pad 8 (placesOf (now (ranks .entry)) k (take held buffer)) ⌝ }
+// The numbers of what is left of the buffer after each front part, into places that are 0; they stay so for the empty buffer and
+// where they are not used.
+fn places<'a>(ranks: &'a [u8; 16], k: u32, buffer: [u8; 6], held: usize, out: &mut [u32; 8])
+    requires { ⌜ (held ≤ 6) × (k ≤ 8) × ((e : ℕ) → getD (now ranks) e 0 ≤ 8) × ((i : ℕ) → getD buffer i 0 < 16) × (now out ≡ replicate 8 0) ⌝ }
+    ensures { λ _. ⌜ now (out .exit) ≡ pad 8 (placesOf (now (ranks .entry)) k (take held buffer)) ⌝ }
 {
-    let mut places = [0u32; 8];
     let mut place: u32 = 0;
     let mut weight: u32 = 1;
     let mut i = held;
@@ -64,9 +63,25 @@ pub fn places(ranks: &[u8; 16], k: u32, buffer: [u8; 6], held: usize) -> [u32; 8
         i = i - 1;
         place = place + wide(ranks[size(buffer[i])]) * weight;
         weight = weight * k;
-        places[i] = place;
+        out[i] = place;
     }
-    places
+}
+
+// Whether the monitor may rest in a state with a buffer.
+pub fn rests<'a>(
+    ranks: &'a [u8; 16],
+    k: u32,
+    table: &[u32],
+    q: usize,
+    buffer: [u8; 6],
+    held: usize,
+) -> bool
+    requires { ⌜ (held ≤ 6) × (k ≤ 8) × ((e : ℕ) → getD (now ranks) e 0 ≤ 8) × ((i : ℕ) → getD buffer i 0 < 16) × (q < 32) × (2 * placeIn (now ranks) k (take held buffer) < length (now table)) ⌝ }
+    ensures { λ r. ⌜ r ≡ restIn (now (table .entry)) (now (ranks .entry)) k (take held buffer) q ⌝ }
+{
+    let mut left = [0u32; 8];
+    places(ranks, k, buffer, held, &mut left);
+    in_set(table, left[0], q)
 }
 
 pub fn release<'a>(
@@ -81,8 +96,8 @@ pub fn release<'a>(
     requires { ⌜ Lent (now next) (now ranks) k (now table) q buffer held ⌝ }
     ensures { λ r. ⌜ r ≡ front (restIn (now (table .entry)) (now (ranks .entry)) k) (over (now (ranks .entry)) (now (next .entry))) q (take held buffer) ⌝ }
 {
-    let places = places(ranks, k, buffer, held);
-    let mut winning = in_set(table, places[0], q);
+    let mut left = [0u32; 8];
+    places(ranks, k, buffer, held, &mut left);
     let mut count: usize = 0;
     let mut state = q;
     let mut p = q;
@@ -90,15 +105,10 @@ pub fn release<'a>(
     while r < held {
         p = size(next[p * 16 + size(buffer[r])]);
         r = r + 1;
-        if in_set(table, places[r], p) {
-            winning = true;
+        if in_set(table, left[r], p) {
             count = r;
             state = p;
         }
     }
-    Front {
-        winning,
-        count,
-        state,
-    }
+    Front { count, state }
 }

@@ -13,7 +13,7 @@ use Rattle.base.proofs.Padding.{pad-length}
 use Rattle.base.proofs.Stores.{sets-join}
 use Rattle.automaton.specs.declared.Automaton.{Automaton}
 use Rattle.automaton.specs.Automaton.{controllable, run}
-use Rattle.releasing.specs.Step.{Rest, qualifies, release, Effect, arrival, effect}
+use Rattle.releasing.specs.Step.{Rest, release, Effect, arrival, effect}
 use Rattle.releasing.specs.declared.Front.{Front}
 use Rattle.releasing.specs.Parts.{front, restIn, classBy, over, Lent}
 use Rattle.releasing.proofs.Longest.{release-le}
@@ -57,8 +57,8 @@ module _ (rest : Rest) (a : Automaton) (q : ℕ) (w : List ℕ) (e p : ℕ) (lon
   released-few = omega (arith, count-is, release-le rest a (x .state) (x .buffer), all-is)
 
   pub step-answers : (at : ℕ) (left : List ℕ) → left ≡ pad 6 (drop (f .count) (take all longer))
-      → record { state = f .state; held = all - f .count; buffer = left; written = at + n + f .count; winning = f .winning } ≡ stepped rest a q w e at
-  unfolding stepped effect front qualifies
+      → record { state = f .state; held = all - f .count; buffer = left; written = at + n + f .count } ≡ stepped rest a q w e at
+  unfolding stepped effect front
   step-answers at left l =
       let few = release-le rest a (x .state) (x .buffer) in
       let h : all - k ≡ length (drop k (x .buffer)) = omega (arith, all-is, length-drop k (x .buffer)) in

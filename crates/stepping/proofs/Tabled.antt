@@ -20,8 +20,8 @@ use Rattle.sets.proofs.Buffers.{buffer-drop}
 use Rattle.releasing.specs.Step.{byTable, release, remaining, Effect, arrival, effect, eventRows, eventRefusal}
 use Rattle.releasing.specs.declared.Ranking.{Ranking}
 use Rattle.releasing.specs.Parts.{rankingOf, restIn, over, Lent}
-use Rattle.releasing.proofs.Effects.{Occurs, accepted-facts, arrival-occurs, effect-occurs}
-use Rattle.releasing.proofs.Tabled.{rank-controllable, rank-uncontrollable, release-tabled, rest-tabled, run-over, lent}
+use Rattle.releasing.proofs.Effects.{Occurs, accepted-facts, arrival-occurs}
+use Rattle.releasing.proofs.Tabled.{rank-controllable, rank-uncontrollable, release-tabled, run-over, lent}
 use Rattle.stepping.specs.Stepping.{eventRowBy, stepped, Ready}
 use Rattle.stepping.proofs.Steps.{class-rank}
 
@@ -84,10 +84,7 @@ module _ (a : Automaton) (v : Valid a) where
     -- a step over the lent arrays is the rule over the automaton and its table
     pub stepped-tabled : (at : ℕ) → stepped (restIn t (own .ranks) (own .count)) lentOnly q w e at ≡ stepped (byTable a t) a q w e at
     unfolding stepped
-    stepped-tabled at =
-        let f = effect (byTable a t) a q w e in
-        let p = effect-occurs (byTable a t) a q w e (total a (valid-of a v)) o row in
-        rw (effect-tabled, rest-tabled a v t (f .buffer) (p .buffer) (f .state))
+    stepped-tabled at = rw effect-tabled
 
     pub emitted-tabled : effect (restIn t (own .ranks) (own .count)) lentOnly q w e .emitted ≡ effect (byTable a t) a q w e .emitted
     emitted-tabled = ap (λ (f : Effect). f .emitted) effect-tabled

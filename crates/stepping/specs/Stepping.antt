@@ -26,7 +26,6 @@ stepped rest a q w e at =
       held = length (f .buffer);
       buffer = pad 6 (f .buffer);
       written = at + length (f .emitted);
-      winning = rest (f .buffer) (f .state);
     }
 
 -- what a step asks of its arguments

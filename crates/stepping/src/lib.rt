@@ -13,14 +13,12 @@ ghost use Rattle.releasing.specs.Step.{effect};
 ghost use Rattle.releasing.specs.Parts.{restIn, over};
 ghost use Rattle.stepping.specs.Stepping.{eventRowBy, stepped, Ready};
 
-// What an accepted event leaves: the state, the buffer and how many it holds, the place after what was written, and whether the
-// configuration is winning.
+// What an accepted event leaves: the state, the buffer and how many it holds, and the place after what was written.
 pub struct Stepped {
     pub state: usize,
     pub held: usize,
     pub buffer: [u8; 6],
     pub written: usize,
-    pub winning: bool,
 }
 
 // The row that refuses an event with so many held: 14, no symbol; 15, controllable with the buffer full; 0, none.
@@ -135,6 +133,5 @@ pub fn step<'a>(
         held: all - front.count,
         buffer: left(longer, all, front.count),
         written: at + n + front.count,
-        winning: front.winning,
     }
 }

@@ -12,13 +12,13 @@ use Rattle.releasing.proofs.places.Statement.{statement}
 use Rattle.releasing.proofs.places.Tie as tie
 
 abbrev Inv-loop : tie.InvT-loop
-Inv-loop ranks k held buffer places₀ place₀ weight₀ i₀ places place weight i = (i ≤ held) × (length (take held buffer) ≡ held) × Placing ranks k (take held buffer) places place weight i
+Inv-loop ranks k held out₀ buffer place₀ weight₀ i₀ out place weight i = (i ≤ held) × (length (take held buffer) ≡ held) × Placing ranks k (take held buffer) out place weight i
 
 abbrev μ-loop : tie.MeasureT-loop
-μ-loop ranks k held buffer places₀ place₀ weight₀ i₀ places place weight i = i
+μ-loop ranks k held out₀ buffer place₀ weight₀ i₀ out place weight i = i
 
 loop-holds : tie.Need-loop-holds Inv-loop μ-loop
-loop-holds c = let long : length (c .args .t3) ≡ 6 = search needs in let e = length-take-le (c .args .held) (c .args .t3) (omega (arith, c .pre .0)) in (omega arith, e, placing-begins _ _ _ _ e (omega (arith, c .pre .0)))
+loop-holds c = let long : length (c .args .t3) ≡ 6 = search needs in let e = length-take-le (c .args .held) (c .args .t3) (omega (arith, c .pre .0)) in (omega arith, e, rw (c .pre .4) (placing-begins _ _ _ _ e (omega (arith, c .pre .0))))
 
 sub-i : tie.Need-sub-i Inv-loop μ-loop
 sub-i c = omega arith
@@ -44,11 +44,11 @@ add-place c = let g = c .before .before .before .before .loop .inv .2 in let p =
 mul-weight : tie.Need-mul-weight Inv-loop μ-loop
 mul-weight c = let g = c .before .before .before .before .loop .inv .2 in let p = c .before .before .before .before .before .pre in let m : c .before .before .before .before .loop .weight * c .before .before .before .before .before .args .k ≤ 262144 * 8 = mul-le-mul (weight-bound g (p .2) (p .1) (omega (arith, c .before .before .before .before .loop .inv .1, p .0))) (p .1) in omega (arith, m)
 
-mul-places : tie.Need-mul-places Inv-loop μ-loop
-mul-places c = omega (arith, c .before .before .before .before .before .pre .0)
+mul-out : tie.Need-mul-out Inv-loop μ-loop
+mul-out c = omega (arith, c .before .before .before .before .before .pre .0)
 
-array-write-places : tie.Need-array-write-places Inv-loop μ-loop
-array-write-places c = omega (arith, c .before .before .before .before .before .pre .0)
+element-write-out : tie.Need-element-write-out Inv-loop μ-loop
+element-write-out c = omega (arith, c .before .before .before .before .before .pre .0)
 
 loop-less : tie.Need-loop-less Inv-loop μ-loop
 loop-less c = omega arith
@@ -74,8 +74,8 @@ places-spec =
     mul-place
     add-place
     mul-weight
-    mul-places
-    array-write-places
+    mul-out
+    element-write-out
     loop-less
     loop-again
     returns)

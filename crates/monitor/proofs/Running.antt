@@ -1,4 +1,4 @@
--- The loop of a whole day.
+-- The loop over events, and the ways out of a whole day.
 use Prim.Native.Nat.{ℕ, suc, _+_, _<_, _≤_}
 use mathlib.Core.Path.{_≡_, refl, sym, _∙_, ap, ap₂}
 use mathlib.Core.Bool.{Bool, true, false, cond}
@@ -29,11 +29,11 @@ use Rattle.releasing.proofs.Runs.{run-accepts, run-refuses, after, passed}
 use Rattle.stepping.specs.declared.Stepped.{Stepped}
 use Rattle.stepping.specs.Stepping.{eventRowBy, stepped, Ready}
 use Rattle.stepping.proofs.Tabled.{row-same, stepped-tabled, emitted-tabled, ready}
 use Rattle.monitor.specs.declared.Ran.{Ran}
 use Rattle.monitor.specs.Answers.{callRows, callRefusal, room, runRefusal, refusedRun, ran, ranOf, ranBuffer, ranBufferOf}
 use Rattle.monitor.proofs.Refusals.{Clear, rows-stand, rows-pass}
 use Rattle.monitor.proofs.Receiving.{facts, place}
-use Rattle.batch.specs.Parts.{completedRun}
+use Rattle.monitor.specs.Parts.{completedRun}
 
 -- a run after what was done before it
 abbrev pub joined : List ℕ → ℕ → Run → Run

@@ -1,5 +1,5 @@
-use Rattle.batch.proofs.Running.{Running, running-starts, running-refuses, event-low, running-ready, running-accepts, running-answer}
+use Rattle.monitor.proofs.Running.{Running, running-starts, running-refuses, event-low, running-ready, running-accepts, running-answer}
 use Rattle.monitor.proofs.Refusals.{clear}
 use Rattle.releasing.specs.Parts.{rankingOf}
 use Rattle.configuration.specs.Configuration.{heldEvents}
 use mathlib.Core.Path.{_≡_, _∙_, sym, ap}
@@ -7,8 +7,8 @@ use lib.ListN.{length, take}
 use Prim.Native.Nat.{_≤_, _<_, _-_, _+_}
 use native.Mathlib.Omega.{arith}
 use borrow.Author.Needs.{needs}
-use Rattle.batch.proofs.go.Statement.{statement}
-use Rattle.batch.proofs.go.Tie as tie
+use Rattle.monitor.proofs.events.process.Statement.{statement}
+use Rattle.monitor.proofs.events.process.Tie as tie
 
 abbrev Inv-loop : tie.InvT-loop
 Inv-loop table events out₀ a ranking capacity q₀ buffer₀ held₀ written₀ refused₀ i₀ out q buffer held written refused i =
@@ -73,8 +73,8 @@ returns : tie.Need-returns Inv-loop μ-loop
 unfolding heldEvents
 returns c = let a = c .before .before .before .before .before .before .before .before .before .before .args in let r = running-answer (c .before .before .loop .inv .2) (c .before .loop-test .left) (a .c) (sym (c .before .before .before .before .before .size2 .ensures .0)) (ap (λ n. take n (a .c .buffer)) (sym (c .before .before .before .size3 .ensures .0))) in (c .completed .ensures ∙ r .0, r .1)
 
-pub go-spec : {M : Type 1} → statement M
-go-spec =
+pub process-spec : {M : Type 1} → statement M
+process-spec =
     tie.close
     (tie.spec
     Inv-loop
