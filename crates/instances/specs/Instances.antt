@@ -1,0 +1,142 @@
+-- Each claim at document 01's sheet V or W, or on bytes of theirs, with no hypothesis left.
+use Prim.Native.Nat.{ℕ, _+_, _*_, _<_, _≤_, _^_}
+use mathlib.Core.Path.{_≡_}
+use mathlib.Core.Bool.{Bool, true, false, _||_}
+use mathlib.Core.List.{List, [], _∷_, _++_}
+use lib.ListN.{length, getD, replicate}
+use Rattle.base.specs.Each.{count}
+use Rattle.base.specs.Masks.{has}
+use Rattle.varint.specs.Varint.{read, bytes, value}
+use Rattle.automaton.specs.Automaton.{accepts, valid}
+use Rattle.encoding.specs.Reading.{parse, parsed}
+use Rattle.encoding.specs.Writing.{recordBytes}
+use Rattle.sets.specs.Sets.{sets}
+use Rattle.sets.specs.Definition6.{States, Definition6}
+use Rattle.sets.specs.Table.{index, buffersCount, Buffer, table, Solved}
+use Rattle.sets.specs.Claims.{Winning, Intermediate, Resting}
+use Rattle.configuration.specs.Configuration.{configuration, initialOf}
+use Rattle.winning.specs.Solving.{solvedTable}
+use Rattle.game.specs.Game.{mayRest, canRest, verdict}
+use Rattle.game.specs.Claims.{Questions}
+use Rattle.monitor.specs.Answers.{status, received, ran}
+use Rattle.claims.specs.Calls.{Call, one, many, configurationAfter}
+use Rattle.claims.specs.Moments.{Moment, moments}
+use Rattle.claims.specs.Rival.{Lost, lostBound}
+use Rattle.claims.specs.Claims.{Enforced, Stays, rivalOutput, rivalBuffer}
+use Rattle.claims.specs.Answers.{SaysWinning, SameAnswers}
+use Rattle.claims.specs.Cases.{bytesV, automatonV, automatonW}
+use Rattle.layout.specs.Layout.{automatonBytes, automatonOf, configurationBytes, configurationOf, numberBytes, numberOf}
+use Rattle.text.specs.Decimal.{ascii}
+use Rattle.notation.specs.Outcomes.{numbers}
+use Rattle.notation.specs.Packing.{reading, encoded, packed, done}
+use Rattle.listing.specs.Unpacking.{decoded, lineOf}
+use Rattle.transcript.specs.Claims.{Prints}
+
+-- V with three of its numbers padded, as somebody else may write it
+abbrev pub paddedV : List ℕ
+paddedV = 131 ∷ 0 ∷ 2 ∷ 1 ∷ 128 ∷ 128 ∷ 0 ∷ 0 ∷ 1 ∷ 1 ∷ 0 ∷ 1 ∷ 1 ∷ 0 ∷ 1 ∷ 2 ∷ 2 ∷ 130 ∷ 0 ∷ []
+
+-- a list of so many times the same number
+abbrev pub filled : ℕ → ℕ → List ℕ
+filled n x = replicate n x
+
+-- numbers and sheets
+pub record Encodings : Type 0 where
+  pub reads-back : read ((7 ∷ []) ++ (bytes 128 ++ (9 ∷ []))) 1 ≡ value 128 (1 + length (bytes 128))
+  pub fewest : 0 + length (bytes 0) ≤ 2
+  pub written-reads-back : parse (recordBytes automatonW) ≡ parsed automatonW
+  pub read-is-valid : valid automatonV ≡ true
+  pub read-again : (parse (recordBytes automatonV) ≡ parsed automatonV) × (length (recordBytes automatonV) ≤ length paddedV)
+
+-- what the solver leaves in a table of nines with two places more than W needs
+abbrev pub tableW : List ℕ
+tableW = 3 ∷ 0 ∷ 3 ∷ 0 ∷ 3 ∷ 7 ∷ 3 ∷ 0 ∷ 3 ∷ 2 ∷ 3 ∷ 7 ∷ 3 ∷ 7 ∷ 9 ∷ 9 ∷ []
+
+-- the sets, the numbering and the solver
+pub record Solving : Type 1 where
+  pub is-resting : Resting automatonW (2 ∷ 3 ∷ []) (Winning automatonW (2 ∷ 3 ∷ []))
+  -- V stays in state 2 under Query, so 2 is in S of the empty list
+  pub is-largest : Winning automatonV [] 2
+  pub rounds-bounded : sets automatonV (1 ∷ []) .rounds ≤ count 3 (accepts automatonV)
+  pub union-adds-nothing : Winning automatonV ([] ++ 1 ∷ []) 2
+  pub satisfies : Definition6 automatonW (Winning automatonW) (Intermediate automatonW)
+  -- the paper's S of Page and Receipt, by any sets that satisfy it, has state 0
+  pub only : (S I : List ℕ → States) → Definition6 automatonW S I → S (2 ∷ 3 ∷ []) 0
+  pub numbered : index automatonW (2 ∷ 3 ∷ []) < buffersCount automatonW
+  pub one-to-one : (w : List ℕ) → Buffer automatonW w → index automatonW w ≡ index automatonW (2 ∷ 3 ∷ []) → w ≡ 2 ∷ 3 ∷ []
+  pub onto : (w : List ℕ) × Buffer automatonW w × (index automatonW w ≡ 5)
+  pub table-is-solved : (length (table automatonW) ≡ 2 * buffersCount automatonW) × Solved automatonW (table automatonW ++ 9 ∷ 9 ∷ [])
+  pub left : solvedTable automatonW (filled 16 9) ≡ tableW
+  pub leaves-solved : Solved automatonW tableW
+  -- by Definition 6 itself the bit of state 0 is set where Page and Receipt are held
+  pub solves-definition6 : Winning automatonW (2 ∷ 3 ∷ []) 0 → has (getD tableW (2 * index automatonW (2 ∷ 3 ∷ [])) 0) 0 ≡ true
+
+-- the second judge
+pub record Judging : Type 0 where
+  pub as-worded : Questions automatonW
+  pub agrees : mayRest automatonW (2 ∷ []) 4 1 ≡ has (sets automatonW (2 ∷ []) .winning) 1
+  pub verdict-agrees : verdict automatonW (configuration 1 (2 ∷ [])) .«can_rest»
+      ≡ (has (sets automatonW (2 ∷ []) .winning) 1 || has (sets automatonW (2 ∷ []) .intermediate) 1)
+
+-- Sign, then Page
+abbrev pub calls : List Call
+calls = one 0 ∷ one 2 ∷ []
+
+-- the second accepted event of theirs
+abbrev pub second : Moment
+second = record { past = 0 ∷ []; output = 0 ∷ []; state = 1; buffer = []; event = 2 }
+
+-- the rule that lets every held request go at once
+abbrev pub eager : List ℕ → List ℕ → ℕ
+eager events output = 6
+
+-- demand 3
+pub record Enforcing : Type 0 where
+  pub demand3 : (xs : List Call) → Enforced automatonV (table automatonV) xs
+  pub demand3-solved : (xs : List Call) → Enforced automatonW (solvedTable automatonW (filled 16 9)) xs
+  pub initially-winning : Stays automatonW tableW (moments automatonW tableW (initialOf automatonW) calls)
+  -- whoever lets the Page go is lost
+  pub rivals-lose : Lost automatonW eager (0 ∷ 2 ∷ []) (rivalOutput automatonW eager second) (rivalBuffer automatonW eager second)
+      (lostBound automatonW (rivalBuffer automatonW eager second))
+  pub driven-out : Lost automatonW eager (0 ∷ 2 ∷ []) (0 ∷ 2 ∷ []) [] (lostBound automatonW [])
+  pub flag-is-status : status automatonW tableW (received automatonW tableW (initialOf automatonW) 0 .configuration)
+      ≡ record { refusal = 0; winning = received automatonW tableW (initialOf automatonW) 0 .winning }
+  pub flag-stays : (xs : List Call) → SaysWinning automatonW tableW (configurationAfter automatonW tableW (initialOf automatonW) xs)
+  -- Sign leaves W winning, and so it stays
+  pub once-winning-said : SaysWinning automatonW tableW (configurationAfter automatonW tableW (initialOf automatonW) calls)
+  pub others-ignored : SameAnswers automatonW tableW (tableW ++ 9 ∷ []) (initialOf automatonW)
+
+-- what lies where in lent bytes
+pub record Layouts : Type 0 where
+  pub automaton-kept : automatonOf (automatonBytes automatonW) ≡ automatonW
+  pub automaton-bytes-kept : automatonBytes (automatonOf (filled 564 7)) ≡ filled 564 7
+  pub configuration-kept : configurationOf (configurationBytes (configuration 1 (2 ∷ []))) ≡ configuration 1 (2 ∷ [])
+  pub configuration-bytes-kept : configurationBytes (configurationOf (filled 8 7)) ≡ filled 8 7
+  pub number-kept : numberOf (numberBytes 8 60001) ≡ 60001
+  -- an event that W has no kind for
+  pub refused-event-keeps : configurationBytes (received automatonW tableW (configurationOf (filled 8 0)) 4 .configuration) ≡ filled 8 0
+  -- a day of one event with no room
+  pub refused-run-keeps : configurationBytes (ran automatonW tableW (configurationOf (filled 8 0)) (0 ∷ []) [] .configuration) ≡ filled 8 0
+  pub event-handed-on : configurationOf (configurationBytes (received automatonW tableW (configurationOf (filled 8 0)) 0 .configuration))
+      ≡ received automatonW tableW (configurationOf (filled 8 0)) 0 .configuration
+  pub run-handed-on : configurationOf (configurationBytes (ran automatonW tableW (configurationOf (filled 8 0)) (0 ∷ 2 ∷ []) (filled 2 9) .configuration))
+      ≡ ran automatonW tableW (configurationOf (filled 8 0)) (0 ∷ 2 ∷ []) (filled 2 9) .configuration
+
+-- V as text
+abbrev pub textV : List ℕ
+textV = ascii "3 2 1 0, 0 1, 1 0 1, 1 0, 1 2, 2 2"
+
+-- 0 and 7, the 0 padded
+abbrev pub bytesPadded : List ℕ
+bytesPadded = 128 ∷ 0 ∷ 7 ∷ []
+
+-- text, and numbers in groups
+pub record Texts : Type 0 where
+  pub never-longer : length (encoded bytesV) ≤ length textV
+  pub room-in-text : packed (reading textV) (filled 34 9) ≡ done (length (encoded bytesV))
+  pub read-small : getD bytesV 0 0 < 2097152
+  pub line-reads-back : reading (lineOf (0 ∷ 7 ∷ [])) ≡ numbers (0 ∷ 7 ∷ [])
+  pub packs-shortest : length (encoded (0 ∷ 7 ∷ [])) ≤ length bytesPadded
+  pub line-bounded : length (lineOf (0 ∷ 7 ∷ [])) ≤ 4 * length bytesPadded
+  pub packed-reads-back : decoded (encoded bytesV) ≡ numbers bytesV
+  pub long-refused : Prints (filled 60001 0) ("refused 18" ∷ [])

@@ -1,0 +1,1 @@
+// Theorems only: each claim of the other crates at sheet V or W, so that its hypotheses are seen to be met.
