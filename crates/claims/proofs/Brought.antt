@@ -6,6 +6,7 @@ use mathlib.Core.List.{List, [], _∷_, _++_, map, append-assoc, append-nil}
 use lib.Dec.{eqb}
 use lib.ListN.{length}
 use borrow.Author.Tests.{eqb-true, eqb-false}
+use Rattle.base.specs.All.{AllOf}
 use Rattle.base.proofs.Bools.{by}
 use Rattle.automaton.specs.declared.Automaton.{Automaton}
 use Rattle.automaton.specs.Automaton.{run, valid}
@@ -17,7 +18,7 @@ use Rattle.releasing.proofs.Effects.{effect-same}
 use Rattle.releasing.proofs.Solved.{solved-agree}
 use Rattle.claims.specs.Store.{Store, empty, stateOf, store, storeAll, lacksRoom, feed, feedAll, acceptedOf, acceptedBy, acceptedAll}
 use Rattle.claims.specs.Calls.{Call, one, many, fedBy, configurationOf}
-use Rattle.claims.specs.Moments.{Moment, AllOf, effectAt, emittedAt, within, broughtBy, broughtAll, moments}
+use Rattle.claims.specs.Moments.{Moment, effectAt, emittedAt, within, broughtBy, broughtAll, moments}
 use Rattle.claims.specs.Claims.{MomentsAccounted}
 use Rattle.claims.proofs.Stores.{Sound, grown, initially, initial-sound, byStore, store-accepts, store-refuses, store-state, store-sound}
 use Rattle.claims.proofs.Alone.{store-append, accepted-append}

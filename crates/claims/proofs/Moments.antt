@@ -5,6 +5,7 @@ use mathlib.Core.Bool.{true}
 use mathlib.Core.List.{List, [], _∷_, _++_}
 use lib.Dec.{eqb}
 use borrow.Author.Tests.{eqb-true}
+use Rattle.base.specs.All.{AllOf}
 use Rattle.base.specs.Pad.{pad}
 use Rattle.base.proofs.Bools.{by}
 use Rattle.automaton.specs.declared.Automaton.{Automaton}
@@ -15,7 +16,7 @@ use Rattle.configuration.specs.Configuration.{heldEvents, initialOf}
 use Rattle.releasing.specs.Step.{byTable, eventRefusal}
 use Rattle.releasing.proofs.Effects.{Occurs, initial-occurs, effect-occurs, effect-leads}
 use Rattle.claims.specs.Calls.{Call}
-use Rattle.claims.specs.Moments.{Moment, effectAt, AllOf, within, moments}
+use Rattle.claims.specs.Moments.{Moment, effectAt, within, moments}
 use Rattle.claims.specs.Claims.{outputAfter}
 
 -- a fact of each of them with those after it

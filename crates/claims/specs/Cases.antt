@@ -4,6 +4,7 @@ use mathlib.Core.Path.{_≡_}
 use mathlib.Core.Bool.{Bool, true, false}
 use mathlib.Core.List.{List, [], _∷_, _++_, map}
 use lib.ListN.{length, replicate}
+use Rattle.base.specs.All.{AllOf}
 use Rattle.base.specs.Pad.{pad}
 use Rattle.varint.specs.Varint.{bytes, read, value}
 use Rattle.automaton.specs.declared.Automaton.{Automaton}
@@ -140,10 +141,6 @@ cases =
     buffers 0 6 1 ∷
     buffers 8 6 299593 ∷ []
 
-abbrev pub AllHold : List Case → Type 0
-AllHold [] = Unit {0}
-AllHold (c ∷ cs) = Holds c × AllHold cs
-
 -- all of them hold
 abbrev pub MarkedCases : Type 0
-MarkedCases = AllHold cases
+MarkedCases = AllOf Holds cases

@@ -4,6 +4,7 @@ use mathlib.Core.Path.{_≡_}
 use mathlib.Core.Bool.{Bool, true, false}
 use mathlib.Core.List.{List, [], _∷_, _++_, map}
 use lib.ListN.{length, take, drop}
+use Rattle.base.specs.All.{AllOf}
 use Rattle.base.specs.Masks.{has}
 use Rattle.automaton.specs.declared.Automaton.{Automaton}
 use Rattle.automaton.specs.Automaton.{valid, accepts, run}
@@ -15,7 +16,7 @@ use Rattle.releasing.specs.Step.{byTable, Effect, release, arrival}
 use Rattle.monitor.specs.Answers.{isWinning}
 use Rattle.claims.specs.Store.{empty, storeAll, feedAll, acceptedAll}
 use Rattle.claims.specs.Calls.{Call, replies, configurationAfter, emittedAll, fedBy, configurationOf, expectedAll}
-use Rattle.claims.specs.Moments.{Moment, AllOf, effectAt, emittedAt, moments}
+use Rattle.claims.specs.Moments.{Moment, effectAt, emittedAt, moments}
 use Rattle.claims.specs.Rival.{Strategy, Lost, lostBound}
 
 -- The replies to any list of calls over a solved table: every call's whole reply is the published function's; all that was emitted,

@@ -27,11 +27,6 @@ unfoldable pub emittedAt : Automaton → List ℕ → List Moment → List ℕ
 emittedAt a t [] = []
 emittedAt a t (m ∷ ms) = effectAt a t m .emitted ++ emittedAt a t ms
 
--- a fact of each of them
-abbrev pub AllOf : (Moment → Type 0) → List Moment → Type 0
-AllOf P [] = Unit {0}
-AllOf P (m ∷ ms) = P m × AllOf P ms
-
 -- the accepted ones of a list of events, as `runOf` goes through them
 unfoldable pub within : Automaton → List ℕ → List ℕ → List ℕ → ℕ → List ℕ → List ℕ → List Moment
 within a t past output q w [] = []

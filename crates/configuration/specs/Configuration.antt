@@ -7,6 +7,7 @@ use lib.Dec.{eqb, leb, ltb}
 use Rattle.base.specs.Each.{each}
 use Rattle.base.specs.Pad.{pad}
 use Rattle.automaton.specs.declared.Automaton.{Automaton}
+use Rattle.automaton.specs.Parts.{controllableAt}
 use Rattle.automaton.specs.Automaton.{valid}
 pub use Rattle.configuration.specs.declared.Configuration.{Configuration}
 pub use Rattle.configuration.specs.declared.Start.{Start}
@@ -21,7 +22,7 @@ configuration q w = record { state = q; held = length w; buffer = pad 6 w }
 
 -- e is a controllable symbol
 unfoldable pub controllableSymbol : ℕ → List ℕ → ℕ → Bool
-controllableSymbol symbols classes e = ltb e symbols && eqb (getD classes e 0) 1
+controllableSymbol symbols classes e = ltb e symbols && controllableAt classes e
 
 -- what stands at a place of the buffer: a controllable symbol where the place is used, else 0
 unfoldable pub placeStands : ℕ → List ℕ → Bool → ℕ → Bool

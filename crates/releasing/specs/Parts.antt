@@ -9,7 +9,7 @@ use Rattle.base.specs.Masks.{has}
 use Rattle.base.specs.Pad.{pad}
 use Rattle.automaton.specs.declared.Automaton.{Automaton}
 use Rattle.automaton.specs.Automaton.{run}
-use Rattle.automaton.specs.Parts.{controllableIn}
+use Rattle.automaton.specs.Parts.{controllableAt, controllableIn}
 use Rattle.releasing.specs.Step.{Rest, release}
 pub use Rattle.releasing.specs.declared.Ranking.{Ranking}
 pub use Rattle.releasing.specs.declared.Front.{Front}
@@ -17,7 +17,7 @@ pub use Rattle.releasing.specs.declared.Front.{Front}
 -- the rank of each symbol below m among the controllable ones, from 1; 0 for an uncontrollable one
 unfoldable pub ranksTo : List ℕ → ℕ → List ℕ
 ranksTo classes zero = []
-ranksTo classes (suc e) = ranksTo classes e ++ cond (eqb (getD classes e 0) 1) (controllableIn classes (suc e)) 0 ∷ []
+ranksTo classes (suc e) = ranksTo classes e ++ cond (controllableAt classes e) (controllableIn classes (suc e)) 0 ∷ []
 
 unfoldable pub rankingOf : List ℕ → ℕ → Ranking
 rankingOf classes m = record { count = controllableIn classes m; ranks = pad 16 (ranksTo classes m) }
