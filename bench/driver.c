@@ -443,26 +443,29 @@ static void solve_by_c_remembering(void)
 static uint8_t state[8], state_by_c[8], answer[16], answer_by_c[16];
 static uint64_t emitted, emitted_by_c;
 
-static void events_ours(void)
+typedef uint8_t (*receive_call)(const uint8_t *, const uint32_t *, size_t, uint8_t *, uint32_t, uint8_t *);
+
+/* All events one by one from a state on: the refusals, and how many symbols were put out, in one sum. */
+static uint64_t one_after_another(receive_call receive, uint8_t *from, uint8_t *to)
 {
     uint64_t sum = 0;
-    jaxhophasi_initial(record, state);
     for (size_t i = 0; i < EVENTS; i++) {
-        sum += jaxhophasi_receive(record, table, places, state, events[i], answer);
-        sum += (uint64_t)answer[JAXHOPHASI_RECEIVED_COUNT] << 32;
+        sum += receive(record, table, places, from, events[i], to);
+        sum += (uint64_t)to[JAXHOPHASI_RECEIVED_COUNT] << 32;
     }
-    emitted = sum;
+    return sum;
+}
+
+static void events_ours(void)
+{
+    jaxhophasi_initial(record, state);
+    emitted = one_after_another(jaxhophasi_receive, state, answer);
 }
 
 static void events_by_c(void)
 {
-    uint64_t sum = 0;
     ref_initial(record, state_by_c);
-    for (size_t i = 0; i < EVENTS; i++) {
-        sum += ref_receive(record, table, places, state_by_c, events[i], answer_by_c);
-        sum += (uint64_t)answer_by_c[JAXHOPHASI_RECEIVED_COUNT] << 32;
-    }
-    emitted_by_c = sum;
+    emitted_by_c = one_after_another(ref_receive, state_by_c, answer_by_c);
 }
 
 static void events_by_c_early(void)
