@@ -2,7 +2,7 @@
 use mathlib.Core.Path.{refl}
 use Rattle.varint.specs.Varint.{groups, read, encode, bytes}
 use Rattle.text.specs.Decimal.{ascii, digit, digits, decimal}
-use Rattle.text.specs.Lines.{faultLine}
+use Rattle.lines.specs.Lines.{faultLine}
 use Rattle.notation.specs.Outcomes.{before}
 use Rattle.notation.specs.Tokens.{separator, ends, comment, newlines, beginning, run, tokenAt, bytesOf}
 use Rattle.notation.specs.Words.{isDigit, allDigits, valueFrom, wordFrom, wordOf}

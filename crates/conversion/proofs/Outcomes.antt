@@ -7,7 +7,7 @@ use lib.ListN.{length}
 use borrow.Author.Tests.{lt-ltb, le-ltb, le-leb}
 use Rattle.varint.specs.Claims.{AreBytes}
 use Rattle.text.specs.Decimal.{ascii, Appended}
-use Rattle.text.specs.Lines.{faultLine}
+use Rattle.lines.specs.Lines.{faultLine}
 use Rattle.notation.specs.declared.Packed.{Packed}
 use Rattle.notation.specs.Outcomes.{numbers}
 use Rattle.notation.specs.Packing.{reading, encoded, done, refused, packed, packedBuffer}

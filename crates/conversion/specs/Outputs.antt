@@ -5,7 +5,7 @@ use mathlib.Core.List.{List, []}
 use lib.ListN.{length}
 use lib.Dec.{ltb}
 use Rattle.text.specs.Decimal.{ascii}
-use Rattle.text.specs.Lines.{faultLine}
+use Rattle.lines.specs.Lines.{faultLine}
 use Rattle.notation.specs.Outcomes.{numbers, faulty}
 use Rattle.notation.specs.Packing.{Reading, reading, encoded, refused}
 use Rattle.listing.specs.Unpacking.{Decoded, decoded, lineOf}
