@@ -102,7 +102,7 @@ fn all_agree(a: Automaton, table: &[u32; 32], buffers: usize, first: u8, last: u
 
 // Whether the game agrees with the solver on a sheet.
 fn solver_agrees(s: &[u8], first: u8, last: u8) -> bool {
-    let a = encoding::read(s).automaton;
+    let a = decoder::read(s).automaton;
     let buffers = winning::buffers_count(a).count;
     let mut table = [0u32; 32];
     if winning::solve(a, &mut table).refusal != 0 {

@@ -29,7 +29,7 @@ pub extern "C" fn jaxhophasi_read(
     ensures { λ r. let x = parse (now (bytes .entry)) in
         ⌜ (r ≡ x .refusal) × (now (automaton .exit) ≡ automatonBytes (x .automaton)) × (now (place .exit) ≡ numberBytes 8 (x .place)) ⌝ }
 {
-    let parsed = encoding::read(bytes);
+    let parsed = decoder::read(bytes);
     let a = parsed.automaton;
     *automaton = automaton_bytes(a);
     *place = number_bytes(parsed.place);
@@ -46,7 +46,7 @@ pub extern "C" fn jaxhophasi_write(
     ensures { λ r. let a = automatonOf (now (automaton .entry)) in let x = writeAnswer a (now (out .entry)) in
         ⌜ (r ≡ x .refusal) × (now (out .exit) ≡ writeBuffer a (now (out .entry))) × (now (length .exit) ≡ numberBytes 8 (x .length)) ⌝ }
 {
-    let written = encoding::write(automaton_of(automaton), out);
+    let written = encoder::write(automaton_of(automaton), out);
     *length = number_bytes(written.length);
     written.refusal
 }

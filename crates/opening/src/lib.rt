@@ -81,7 +81,7 @@ pub fn begin(input: &[u8], table: &mut [u32; 16384]) -> Progress
         return without(Phase::Faulted(1, from));
     }
     let end = from + count;
-    let parsed = encoding::read(&input[from..end]);
+    let parsed = decoder::read(&input[from..end]);
     if parsed.refusal != 0 {
         return without(Phase::Faulted(parsed.refusal, from + parsed.place));
     }
