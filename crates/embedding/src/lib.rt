@@ -2,14 +2,14 @@
 // call that it names: it takes the record and the configuration out of their bytes, calls, and lays the answer into bytes. It
 // returns the number of refusal, 0 where there is none. `include/jaxhophasi.h` declares the functions for C.
 
-use layout::automaton_bytes;
-use layout::automaton_of;
-use layout::configuration_bytes;
-use layout::configuration_of;
-use layout::number_bytes;
-use layout::ran_bytes;
-use layout::received_bytes;
-use layout::status_bytes;
+use answer_layout::number_bytes;
+use answer_layout::ran_bytes;
+use answer_layout::received_bytes;
+use answer_layout::status_bytes;
+use automaton_layout::automaton_bytes;
+use automaton_layout::automaton_of;
+use configuration_layout::configuration_bytes;
+use configuration_layout::configuration_of;
 ghost use mathlib.Core.Path.{_≡_};
 ghost use Rattle.encoding.specs.Reading.{parse};
 ghost use Rattle.encoding.specs.Writing.{writeAnswer, writeBuffer};
