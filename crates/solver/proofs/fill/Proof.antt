@@ -7,8 +7,8 @@ use mathlib.Core.List.{_++_}
 use mathlib.Core.Path.{_∙_, ap}
 use native.Mathlib.Omega.{arith}
 use borrow.Author.Needs.{needs}
-use Rattle.winning.proofs.fill.Statement.{statement}
-use Rattle.winning.proofs.fill.Tie as tie
+use Rattle.solver.proofs.fill.Statement.{statement}
+use Rattle.solver.proofs.fill.Tie as tie
 
 abbrev Inv-loop : tie.InvT-loop
 Inv-loop table₀ a n m capacity k accepting free u rounds₀ from₀ count₀ length₀ table rounds from count length =
