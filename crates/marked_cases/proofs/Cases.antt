@@ -14,8 +14,8 @@ use Rattle.configuration.specs.Configuration.{heldEvents, controllableSymbol, p
 use Rattle.winning.specs.Solving.{countAnswer}
 use Rattle.releasing.specs.Step.{byTable, qualifies, qualifying, release, remaining, arrival, effect, eventRows}
 use Rattle.monitor.specs.Answers.{callRows, isWinning, callRefusal, status, receiveRefusal, received}
 use Rattle.claims.specs.Calls.{handedBack, reply, replies}
-use Rattle.claims.specs.Cases.{automatonV, automatonW, sized, MarkedCases}
+use Rattle.marked_cases.specs.Cases.{automatonV, automatonW, sized, MarkedCases}
 
 pub marked-cases : MarkedCases
 unfolding
