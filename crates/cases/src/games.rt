@@ -11,7 +11,7 @@ use automaton::Automaton;
 use configuration::Configuration;
 
 fn judged(label: &[u8], a: Automaton, c: Configuration) {
-    let v = game::judge(a, c);
+    let v = judge::judge(a, c);
     text(label);
     refusal(v.refusal);
     flag(b", may rest ", v.may_rest);
@@ -72,7 +72,7 @@ fn agrees(a: Automaton, set: u32, intermediate: u32, c: Configuration) -> bool {
         }
         let mut at = c;
         at.state = q as u8;
-        let v = game::judge(a, at);
+        let v = judge::judge(a, at);
         let rests = base::has(set, q);
         let comes = rests || base::has(intermediate, q);
         if v.refusal != 0 || v.may_rest != rests || v.can_rest != comes {

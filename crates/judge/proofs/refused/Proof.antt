@@ -1,6 +1,6 @@
 use mathlib.Core.Path.{refl}
-use Rattle.game.proofs.refused.Statement.{statement}
-use Rattle.game.proofs.refused.Tie as tie
+use Rattle.judge.proofs.refused.Statement.{statement}
+use Rattle.judge.proofs.refused.Tie as tie
 
 returns : tie.Need-returns
 returns c = refl

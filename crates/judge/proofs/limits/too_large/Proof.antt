@@ -1,8 +1,8 @@
 use Rattle.game.proofs.Small.{large-states, controllable-few, large-symbols, large-held}
 use native.Mathlib.Omega.{arith}
 use borrow.Author.Needs.{needs}
-use Rattle.game.proofs.limits.too_large.Statement.{statement}
-use Rattle.game.proofs.limits.too_large.Tie as tie
+use Rattle.judge.proofs.limits.too_large.Statement.{statement}
+use Rattle.judge.proofs.limits.too_large.Tie as tie
 
 returns : tie.Need-returns
 returns c = large-states _ _ _ _ (omega arith)

@@ -1,10 +1,10 @@
 use Rattle.game.proofs.Answers.{refused-11, refused-13, refused-17, played, can-play}
 use Rattle.automaton.proofs.Facts.{valid-facts}
 use borrow.Author.Tests.{not-true, not-false}
 use mathlib.Core.Path.{sym, _∙_}
 use borrow.Author.Needs.{needs}
-use Rattle.game.proofs.judge.Statement.{statement}
-use Rattle.game.proofs.judge.Tie as tie
+use Rattle.judge.proofs.judge.Statement.{statement}
+use Rattle.judge.proofs.judge.Tie as tie
 
 valid-requires : tie.Need-valid-requires
 valid-requires c κs = search needs
