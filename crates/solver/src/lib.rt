@@ -2,9 +2,9 @@
 use automaton::Automaton;
 use automaton::controllable_in;
 use base::size;
-use refinement::accepting_states;
 use refinement::settle;
-use refinement::uncontrollable;
+use state_sets::accepting_states;
+use state_sets::uncontrollable;
 use table::fill_level;
 use winning::Solution;
 use winning::buffers_count;

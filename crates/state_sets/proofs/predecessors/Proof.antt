@@ -1,14 +1,14 @@
 use Prim.Native.Nat.{_≤_, _-_, _+_, _*_}
 use Rattle.automaton.specs.Parts.{goes}
 use Rattle.refinement.specs.Parts.{predecessors}
 use Rattle.base.proofs.Masks.{mask-adds, mask-passes, mask-room}
 use Rattle.base.specs.Masks.{has, mask}
 use mathlib.Core.Path.{_≡_, refl, sym, _∙_, ap}
 use mathlib.Core.Logic.{⊎-elim}
 use native.Mathlib.Omega.{arith}
 use borrow.Author.Needs.{needs}
-use Rattle.refinement.proofs.predecessors.Statement.{statement}
-use Rattle.refinement.proofs.predecessors.Tie as tie
+use Rattle.state_sets.proofs.predecessors.Statement.{statement}
+use Rattle.state_sets.proofs.predecessors.Tie as tie
 
 abbrev Inv-loop : tie.InvT-loop
 Inv-loop next n symbol goal set₀ q₀ set q = (q ≤ n) × (set ≡ mask q (λ q. has goal (goes next q symbol)))

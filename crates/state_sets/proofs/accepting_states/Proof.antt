@@ -7,8 +7,8 @@ use mathlib.Core.Path.{_≡_, refl, _∙_}
 use mathlib.Core.Logic.{⊎-elim}
 use native.Mathlib.Omega.{arith}
 use borrow.Author.Needs.{needs}
-use Rattle.refinement.proofs.accepting_states.Statement.{statement}
-use Rattle.refinement.proofs.accepting_states.Tie as tie
+use Rattle.state_sets.proofs.accepting_states.Statement.{statement}
+use Rattle.state_sets.proofs.accepting_states.Tie as tie
 
 abbrev Inv-loop : tie.InvT-loop
 Inv-loop flags n set₀ q₀ set q = (q ≤ n) × (set ≡ mask q (acceptingAt flags))
