@@ -8,7 +8,7 @@ use Rattle.notation.specs.Tokens.{separator, ends, comment, newlines, beginning
 use Rattle.notation.specs.Words.{isDigit, allDigits, valueFrom, wordFrom, wordOf}
 use Rattle.notation.specs.Packing.{sound, readingFrom, reading, encoded, refused}
 use Rattle.listing.specs.Unpacking.{decodedFrom, decoded, mark, lineOf}
-use Rattle.conversion.specs.Messages.{visible, shown, tokenLine, said, message}
+use Rattle.messages.specs.Messages.{visible, shown, tokenLine, said, message}
 use Rattle.conversion.specs.Outputs.{packedBytes, packOutput, faultNote, packNote, lineText, unpackOutput, rowNote, unpackNote}
 use Rattle.conversion.specs.Claims.{CasesWritten}
 

@@ -1,7 +1,7 @@
 // The programs' work: all but reading and writing.
 use crate::Output;
-use crate::messages::message;
 use lines::fault_line;
+use messages::message;
 use text::word;
 ghost use lib.ListN.{length};
 ghost use Rattle.text.specs.Decimal.{Appended};

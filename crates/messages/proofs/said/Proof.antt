@@ -1,10 +1,10 @@
 use mathlib.Core.Path.{ap}
 use Rattle.text.specs.Decimal.{ascii}
-use Rattle.conversion.proofs.Outcomes.{nothing}
-use Rattle.conversion.specs.Messages.{said}
+use Rattle.text.proofs.Appending.{nothing}
+use Rattle.messages.specs.Messages.{said}
 use borrow.Author.Needs.{needs}
-use Rattle.conversion.proofs.messages.said.Statement.{statement}
-use Rattle.conversion.proofs.messages.said.Tie as tie
+use Rattle.messages.proofs.said.Statement.{statement}
+use Rattle.messages.proofs.said.Tie as tie
 
 enum-told : tie.Need-enum-told
 enum-told c = search needs

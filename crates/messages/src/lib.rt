@@ -1,4 +1,4 @@
-// What is said of a fault in a text.
+// What the program `pack` says of a fault in a text, stored in a lent buffer.
 use notation::Fault;
 use notation::Packed;
 use text::labelled;
@@ -7,7 +7,7 @@ ghost use mathlib.Core.Path.{_≡_};
 ghost use Prim.Native.Nat.{_+_, _≤_};
 ghost use lib.ListN.{length};
 ghost use Rattle.text.specs.Decimal.{Appended};
-ghost use Rattle.conversion.specs.Messages.{visible, shown, tokenLine, said, message};
+ghost use Rattle.messages.specs.Messages.{visible, shown, tokenLine, said, message};
 
 // A byte as it is shown: `?` where it is no printable ASCII.
 fn visible(b: u8) -> u8

@@ -1,7 +1,7 @@
-use Rattle.conversion.specs.Messages.{message}
+use Rattle.messages.specs.Messages.{message}
 use borrow.Author.Needs.{needs}
-use Rattle.conversion.proofs.messages.message.Statement.{statement}
-use Rattle.conversion.proofs.messages.message.Tie as tie
+use Rattle.messages.proofs.message.Statement.{statement}
+use Rattle.messages.proofs.message.Tie as tie
 
 sub-said : tie.Need-sub-said
 sub-said c = search needs

@@ -1,6 +1,6 @@
-use Rattle.conversion.proofs.Showing.{visible-low, visible-high, visible-itself}
-use Rattle.conversion.proofs.messages.visible.Statement.{statement}
-use Rattle.conversion.proofs.messages.visible.Tie as tie
+use Rattle.messages.proofs.Showing.{visible-low, visible-high, visible-itself}
+use Rattle.messages.proofs.visible.Statement.{statement}
+use Rattle.messages.proofs.visible.Tie as tie
 
 returns : tie.Need-returns
 returns c = visible-low _ (c .if1 .taken)

@@ -11,7 +11,7 @@ use borrow.Author.Tests.{le-leb, lt-leb}
 use Rattle.base.proofs.Bools.{and-right-false}
 use Rattle.text.specs.Decimal.{Appended}
 use Rattle.text.proofs.Appending.{behind, said, kept, one-byte}
-use Rattle.conversion.specs.Messages.{visible, shown}
+use Rattle.messages.specs.Messages.{visible, shown}
 
 module _ (b : ℕ) where
   pub visible-low : b < 32 → 63 ≡ visible b

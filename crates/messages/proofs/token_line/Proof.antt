@@ -1,11 +1,11 @@
-use Rattle.conversion.specs.Messages.{tokenLine}
+use Rattle.messages.specs.Messages.{tokenLine}
 use Rattle.text.specs.Decimal.{ascii}
 use Rattle.text.proofs.Digits.{word-length}
 use Rattle.text.proofs.Appending.{behind, kept}
 use native.Mathlib.Omega.{arith}
 use borrow.Author.Needs.{needs}
-use Rattle.conversion.proofs.messages.token_line.Statement.{statement}
-use Rattle.conversion.proofs.messages.token_line.Tie as tie
+use Rattle.messages.proofs.token_line.Statement.{statement}
+use Rattle.messages.proofs.token_line.Tie as tie
 
 slice-aggregate-labelled : tie.Need-slice-aggregate-labelled
 slice-aggregate-labelled c = search needs

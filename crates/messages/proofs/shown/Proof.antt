@@ -2,11 +2,11 @@ use mathlib.Core.Logic.{⊎-elim}
 use Prim.Native.Nat.{_-_}
 use lib.ListN.{length}
 use Rattle.text.proofs.Appending.{said}
-use Rattle.conversion.proofs.Showing.{Showing, showing-begins, showing-length, showing-done, showing-goes-on}
+use Rattle.messages.proofs.Showing.{Showing, showing-begins, showing-length, showing-done, showing-goes-on}
 use native.Mathlib.Omega.{arith}
 use borrow.Author.Needs.{needs}
-use Rattle.conversion.proofs.messages.shown.Statement.{statement}
-use Rattle.conversion.proofs.messages.shown.Tie as tie
+use Rattle.messages.proofs.shown.Statement.{statement}
+use Rattle.messages.proofs.shown.Tie as tie
 
 abbrev Inv-loop : tie.InvT-loop
 Inv-loop out₀ at token i₀ out i = Showing token out₀ at out i
