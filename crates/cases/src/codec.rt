@@ -49,7 +49,7 @@ fn show_automaton(a: Automaton) {
 // What reading a sheet gives.
 fn read_automaton(label: &[u8], s: &[u8]) -> Automaton {
     text(label);
-    let p = encoding::read(s);
+    let p = decoder::read(s);
     let a = p.automaton;
     if p.refusal != 0 {
         refused(p.refusal, p.place);
@@ -62,7 +62,7 @@ fn read_automaton(label: &[u8], s: &[u8]) -> Automaton {
 // What writing a record into a buffer gives, and the buffer afterwards.
 fn write_automaton(label: &[u8], a: Automaton, room: &mut [u8]) {
     text(label);
-    let w = encoding::write(a, room);
+    let w = encoder::write(a, room);
     refusal(w.refusal);
     field(b" length ", w.length);
     bytes(b", buffer", room);
@@ -109,7 +109,7 @@ pub fn case(word: u8, label: &[u8], values: &[u32], s: &[u8], a: Automaton) -> A
             a
         }
         b's' => read_automaton(label, s),
-        b'u' => encoding::read(s).automaton,
+        b'u' => decoder::read(s).automaton,
         b'o' => overwritten(a, nth(values, 0, 0) as usize, nth_byte(s, 1)),
         b'w' => {
             write_into(label, a, places(values));

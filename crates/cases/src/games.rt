@@ -11,7 +11,7 @@ use automaton::Automaton;
 use configuration::Configuration;
 
 fn judged(label: &[u8], a: Automaton, c: Configuration) {
-    let v = game::judge(a, c);
+    let v = judge::judge(a, c);
     text(label);
     refusal(v.refusal);
     flag(b", may rest ", v.may_rest);
@@ -72,7 +72,7 @@ fn agrees(a: Automaton, set: u32, intermediate: u32, c: Configuration) -> bool {
         }
         let mut at = c;
         at.state = q as u8;
-        let v = game::judge(a, at);
+        let v = judge::judge(a, at);
         let rests = base::has(set, q);
         let comes = rests || base::has(intermediate, q);
         if v.refusal != 0 || v.may_rest != rests || v.can_rest != comes {
@@ -102,10 +102,10 @@ fn all_agree(a: Automaton, table: &[u32; 32], buffers: usize, first: u8, last: u
 
 // Whether the game agrees with the solver on a sheet.
 fn solver_agrees(s: &[u8], first: u8, last: u8) -> bool {
-    let a = encoding::read(s).automaton;
+    let a = decoder::read(s).automaton;
     let buffers = winning::buffers_count(a).count;
     let mut table = [0u32; 32];
-    if winning::solve(a, &mut table).refusal != 0 {
+    if solver::solve(a, &mut table).refusal != 0 {
         return false;
     }
     all_agree(a, &table, buffers as usize, first, last)

@@ -88,7 +88,7 @@ fn line(text: &[u8], values: &mut [u32], bytes: &mut [u8], table: &mut [u32], le
 
 // What there is before the first line: an all-zero record.
 fn nothing() -> Left {
-    let automaton = encoding::read(&[]).automaton;
+    let automaton = decoder::read(&[]).automaton;
     Left {
         automaton,
         configuration: Configuration {

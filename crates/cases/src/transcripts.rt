@@ -11,10 +11,10 @@ fn put(s: &[u8], shown: bool) {
 
 // The transcript of an input in pieces of `out`, printed where it is to be shown; gives its length.
 fn transcript(input: &[u8], table: &mut [u32; 16384], out: &mut [u8], shown: bool) -> usize {
-    let mut progress = transcript::begin(input, table);
+    let mut progress = opening::begin(input, table);
     let mut total: usize = 0;
     loop {
-        let piece = transcript::next_piece(progress, input, table, out);
+        let piece = pieces::next_piece(progress, input, table, out);
         let length = piece.length;
         if length == 0 {
             break;

@@ -12,4 +12,3 @@ pub mod Demand3
 pub mod Answers
 pub mod Said
 pub mod Tables
-pub mod Cases

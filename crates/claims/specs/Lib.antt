@@ -4,4 +4,3 @@ pub mod Moments
 pub mod Rival
 pub mod Claims
 pub mod Answers
-pub mod Cases

@@ -2,13 +2,13 @@
 use mathlib.Core.Path.{refl}
 use Rattle.varint.specs.Varint.{groups, read, encode, bytes}
 use Rattle.text.specs.Decimal.{ascii, digit, digits, decimal}
-use Rattle.text.specs.Lines.{faultLine}
+use Rattle.lines.specs.Lines.{faultLine}
 use Rattle.notation.specs.Outcomes.{before}
 use Rattle.notation.specs.Tokens.{separator, ends, comment, newlines, beginning, run, tokenAt, bytesOf}
 use Rattle.notation.specs.Words.{isDigit, allDigits, valueFrom, wordFrom, wordOf}
 use Rattle.notation.specs.Packing.{sound, readingFrom, reading, encoded, refused}
 use Rattle.listing.specs.Unpacking.{decodedFrom, decoded, mark, lineOf}
-use Rattle.conversion.specs.Messages.{visible, shown, tokenLine, said, message}
+use Rattle.messages.specs.Messages.{visible, shown, tokenLine, said, message}
 use Rattle.conversion.specs.Outputs.{packedBytes, packOutput, faultNote, packNote, lineText, unpackOutput, rowNote, unpackNote}
 use Rattle.conversion.specs.Claims.{CasesWritten}
 

@@ -1,3 +1,2 @@
-pub mod Showing
 pub mod Outcomes
 pub mod Cases

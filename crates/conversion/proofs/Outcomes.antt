@@ -7,7 +7,8 @@ use lib.ListN.{length}
 use borrow.Author.Tests.{lt-ltb, le-ltb, le-leb}
 use Rattle.varint.specs.Claims.{AreBytes}
 use Rattle.text.specs.Decimal.{ascii, Appended}
-use Rattle.text.specs.Lines.{faultLine}
+use Rattle.text.proofs.Appending.{nothing}
+use Rattle.lines.specs.Lines.{faultLine}
 use Rattle.notation.specs.declared.Packed.{Packed}
 use Rattle.notation.specs.Outcomes.{numbers}
 use Rattle.notation.specs.Packing.{reading, encoded, done, refused, packed, packedBuffer}
@@ -18,12 +19,8 @@ use Rattle.listing.specs.declared.Unpacked.{Unpacked}
 use Rattle.listing.specs.Unpacking.{decoded, lineOf, unpacked, unpackedBuffer, done as written, refused as row-refused}
 use Rattle.listing.proofs.Decoding.{decoded-proper}
 use Rattle.listing.proofs.Trips.{line-bounded}
-use Rattle.conversion.specs.Messages.{message, said as saying}
+use Rattle.messages.specs.Messages.{message, said as saying}
 use Rattle.conversion.specs.Outputs.{packedBytes, packOutput, faultNote, packNote, lineText, unpackOutput, rowNote, unpackNote}
-
--- nothing was stored
-pub nothing : (out : List ℕ) → Appended out 0 [] out 0
-nothing out = record { content = refl; place = refl; inside = omega arith }
 
 -- a text that is too long
 module _ (s : List ℕ) (h : 262144 < length s) where

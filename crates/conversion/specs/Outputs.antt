@@ -5,11 +5,11 @@ use mathlib.Core.List.{List, []}
 use lib.ListN.{length}
 use lib.Dec.{ltb}
 use Rattle.text.specs.Decimal.{ascii}
-use Rattle.text.specs.Lines.{faultLine}
+use Rattle.lines.specs.Lines.{faultLine}
 use Rattle.notation.specs.Outcomes.{numbers, faulty}
 use Rattle.notation.specs.Packing.{Reading, reading, encoded, refused}
 use Rattle.listing.specs.Unpacking.{Decoded, decoded, lineOf}
-use Rattle.conversion.specs.Messages.{message}
+use Rattle.messages.specs.Messages.{message}
 
 -- the program `pack`: a text of at most so many bytes
 abbrev pub mostText : ℕ

@@ -1,5 +1,4 @@
 // What the programs `pack` and `unpack` write on an input.
-mod messages;
 mod programs;
 
 pub use programs::pack_input;

@@ -1,7 +1,7 @@
 // The programs' work: all but reading and writing.
 use crate::Output;
-use crate::messages::message;
-use text::fault_line;
+use lines::fault_line;
+use messages::message;
 use text::word;
 ghost use lib.ListN.{length};
 ghost use Rattle.text.specs.Decimal.{Appended};
@@ -19,7 +19,7 @@ pub fn pack_input(source: &[u8], out: &mut [u8; 262144], note: &mut [u8; 96]) ->
             note: long,
         };
     }
-    let packed = notation::pack(source, out);
+    let packed = packing::pack(source, out);
     let said = message(source, packed, note);
     Output {
         bytes: packed.length,

@@ -10,9 +10,9 @@ fn write(input: &[u8], table: &mut [u32; 16384]) -> Progress
     ensures { λ r. ⌜ now (table .exit) ≡ tableAfter (now (input .entry)) (now (table .entry)) ⌝ }
 {
     let mut out = [0u8; 32768];
-    let mut progress = transcript::begin(input, table);
+    let mut progress = opening::begin(input, table);
     loop {
-        let piece = transcript::next_piece(progress, input, table, &mut out);
+        let piece = pieces::next_piece(progress, input, table, &mut out);
         let length = piece.length;
         if length == 0 {
             break;

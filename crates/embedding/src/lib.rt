@@ -2,14 +2,14 @@
 // call that it names: it takes the record and the configuration out of their bytes, calls, and lays the answer into bytes. It
 // returns the number of refusal, 0 where there is none. `include/jaxhophasi.h` declares the functions for C.
 
-use layout::automaton_bytes;
-use layout::automaton_of;
-use layout::configuration_bytes;
-use layout::configuration_of;
-use layout::number_bytes;
-use layout::ran_bytes;
-use layout::received_bytes;
-use layout::status_bytes;
+use answer_layout::number_bytes;
+use answer_layout::ran_bytes;
+use answer_layout::received_bytes;
+use answer_layout::status_bytes;
+use automaton_layout::automaton_bytes;
+use automaton_layout::automaton_of;
+use configuration_layout::configuration_bytes;
+use configuration_layout::configuration_of;
 ghost use mathlib.Core.Path.{_≡_};
 ghost use Rattle.encoding.specs.Reading.{parse};
 ghost use Rattle.encoding.specs.Writing.{writeAnswer, writeBuffer};
@@ -29,7 +29,7 @@ pub extern "C" fn jaxhophasi_read(
     ensures { λ r. let x = parse (now (bytes .entry)) in
         ⌜ (r ≡ x .refusal) × (now (automaton .exit) ≡ automatonBytes (x .automaton)) × (now (place .exit) ≡ numberBytes 8 (x .place)) ⌝ }
 {
-    let parsed = encoding::read(bytes);
+    let parsed = decoder::read(bytes);
     let a = parsed.automaton;
     *automaton = automaton_bytes(a);
     *place = number_bytes(parsed.place);
@@ -46,7 +46,7 @@ pub extern "C" fn jaxhophasi_write(
     ensures { λ r. let a = automatonOf (now (automaton .entry)) in let x = writeAnswer a (now (out .entry)) in
         ⌜ (r ≡ x .refusal) × (now (out .exit) ≡ writeBuffer a (now (out .entry))) × (now (length .exit) ≡ numberBytes 8 (x .length)) ⌝ }
 {
-    let written = encoding::write(automaton_of(automaton), out);
+    let written = encoder::write(automaton_of(automaton), out);
     *length = number_bytes(written.length);
     written.refusal
 }
@@ -72,7 +72,7 @@ pub extern "C" fn jaxhophasi_solve(
     ensures { λ r. let a = automatonOf (now (automaton .entry)) in let x = solution a (now (table .entry)) in
         ⌜ (r ≡ x .refusal) × (now (table .exit) ≡ solvedTable a (now (table .entry))) × (now (rounds .exit) ≡ numberBytes 8 (x .rounds)) ⌝ }
 {
-    let solution = winning::solve(automaton_of(automaton), table);
+    let solution = solver::solve(automaton_of(automaton), table);
     *rounds = number_bytes(solution.rounds as usize);
     solution.refusal
 }

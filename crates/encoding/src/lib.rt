@@ -1,10 +1,6 @@
-// The automaton as bytes (document 01's sheet): reading and writing it.
-mod reading;
-mod writing;
-
+// The automaton as bytes (document 01's sheet): the format is defined in specs/, and what holds of it is proved here. The crate
+// `decoder` reads it, `encoder` writes it.
 use automaton::Automaton;
-pub use reading::read;
-pub use writing::write;
 
 // What reading gives: the record (refusal 0, place 0), or the first fault's row and place with an all-zero record.
 pub struct Parsed {

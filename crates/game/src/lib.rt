@@ -1,57 +1,13 @@
-// The game (document 01's second judge) for small automata: may we rest here, and can we come to rest?
-use automaton::Automaton;
-use configuration::Configuration;
-
-mod limits;
+// The game (document 01's second judge): may we rest here, and can we come to rest? The two questions are put here; the crate `judge`
+// answers both for small automata.
 mod play;
 
-use limits::too_large;
-use play::can_rest;
-use play::may_rest;
-ghost use mathlib.Core.Path.{_≡_};
-ghost use Rattle.game.specs.Game.{refused, verdict};
+pub use play::can_rest;
+pub use play::may_rest;
 
 // Both answers (refusal 0), or the refusing row with no and no.
 pub struct Verdict {
     pub refusal: u8,
     pub may_rest: bool,
     pub can_rest: bool,
-}
-
-fn refused(row: u8) -> Verdict
-    ensures { λ r. ⌜ r ≡ refused row ⌝ }
-{
-    Verdict {
-        refusal: row,
-        may_rest: false,
-        can_rest: false,
-    }
-}
-
-// Both questions, asked with as many rounds as there are states.
-pub fn judge(a: Automaton, c: Configuration) -> Verdict
-    ensures { λ r. ⌜ r ≡ verdict a c ⌝ }
-{
-    if !automaton::valid(a) {
-        return refused(11);
-    }
-    if !configuration::consistent(a.states, a.symbols, a.capacity, &a.classes, c) {
-        return refused(13);
-    }
-    if too_large(a.states, a.symbols, &a.classes, c.held) {
-        return refused(17);
-    }
-    let n = base::size(a.states);
-    let m = base::size(a.symbols);
-    let held = base::size(c.held);
-    let q = base::size(c.state);
-    let next = &a.next;
-    let classes = &a.classes;
-    let accepting = &a.accepting;
-    let buffer = &c.buffer;
-    Verdict {
-        refusal: 0,
-        may_rest: may_rest(next, classes, accepting, buffer, n, m, held, 0, q, n),
-        can_rest: can_rest(next, classes, accepting, buffer, n, m, held, 0, q, n),
-    }
 }

@@ -25,8 +25,8 @@ use Rattle.sets.proofs.Paper.{satisfy-definition6, only-definition6}
 use Rattle.sets.proofs.Largest.{is-resting, is-largest, rounds-bounded}
 use Rattle.winning.specs.Solving.{solveRefusal, solvedTable}
 use Rattle.winning.proofs.Answers.{leaves-solved, solves-definition6}
-use Rattle.claims.specs.Cases.{bytesV, bytesW, automatonV, automatonW}
-use Rattle.claims.proofs.Cases.{marked-cases}
+use Rattle.marked_cases.specs.Cases.{bytesV, bytesW, automatonV, automatonW}
+use Rattle.marked_cases.proofs.Cases.{marked-cases}
 use Rattle.game.specs.Game.{tooLargeIn, gameRefusal}
 use Rattle.game.proofs.Worded.{as-worded}
 use Rattle.game.proofs.Agreement.{agrees, verdict-agrees}

@@ -24,7 +24,7 @@ use Rattle.claims.specs.Moments.{Moment, moments}
 use Rattle.claims.specs.Rival.{Lost, lostBound}
 use Rattle.claims.specs.Claims.{Enforced, Stays, rivalOutput, rivalBuffer}
 use Rattle.claims.specs.Answers.{SaysWinning, SameAnswers}
-use Rattle.claims.specs.Cases.{bytesV, automatonV, automatonW}
+use Rattle.marked_cases.specs.Cases.{bytesV, automatonV, automatonW}
 use Rattle.layout.specs.Layout.{automatonBytes, automatonOf, configurationBytes, configurationOf, numberBytes, numberOf}
 use Rattle.text.specs.Decimal.{ascii}
 use Rattle.notation.specs.Outcomes.{numbers}

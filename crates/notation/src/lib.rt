@@ -1,9 +1,5 @@
-// Numbers as text: decimal numbers with separators and comments between them, and the same numbers in seven-bit groups.
-mod packing;
-mod scanning;
-mod words;
-
-pub use packing::pack;
+// Numbers as text: decimal numbers with separators and comments between them, and the same numbers in seven-bit groups. The
+// notation is defined in specs/, and what holds of it is proved here. The crate `tokens` reads a text, `packing` packs it.
 
 // A place of a text, and how many lines end before it.
 pub struct Place {

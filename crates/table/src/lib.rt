@@ -1,9 +1,9 @@
 // The table from one length of buffers to the next. The buffers of one length stand side by side, two places each, and a symbol put in
 // front of each of them gives a row of the next length. `next`, `free`, n and u are as in crate refinement; 262,144 is 8 to the power
 // of 6, the most buffers of one length.
-use refinement::predecessors;
 use refinement::settle;
 use sets::Sets;
+use state_sets::predecessors;
 ghost use mathlib.Core.Path.{_≡_};
 ghost use Prim.Native.Nat.{_+_, _*_, _^_, _<_, _≤_};
 ghost use lib.ListN.{length};

@@ -27,6 +27,10 @@ behind {out₀} {at} {p} {out₁} {n₁} {q} {out₂} {n₂} x y =
 pub said : {out₀ : List ℕ} {at : ℕ} {p q out₁ : List ℕ} {n : ℕ} → p ≡ q → Appended out₀ at p out₁ n → Appended out₀ at q out₁ n
 said e x = rw e at x
 
+-- nothing
+pub nothing : (out : List ℕ) → Appended out 0 [] out 0
+nothing out = record { content = refl; place = refl; inside = omega arith }
+
 -- one byte
 pub one-byte : (out : List ℕ) (at b : ℕ) → at < length out → Appended out at (b ∷ []) (set out at b) (at + 1)
 one-byte out at b h = record { content = refl; place = refl; inside = omega arith }

@@ -57,3 +57,9 @@ byte-length n h = decimal-length 2 n (omega arith)
 
 pub word-length : (n : ℕ) → n < 2 ^ 64 → length (decimal n) ≤ 20
 word-length n h = decimal-length 19 n (omega arith)
+
+-- a word and a number, twice
+pub pair-length : (p q : List ℕ) (n m : ℕ)
+    → length ((p ++ decimal n) ++ (q ++ decimal m)) ≡ length p + length q + (length (decimal n) + length (decimal m))
+pair-length p q n m =
+    rw (length-append (p ++ decimal n) (q ++ decimal m), length-append p (decimal n), length-append q (decimal m)) (omega arith)

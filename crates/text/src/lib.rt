@@ -1,20 +1,9 @@
-// Text as bytes: words, decimal numbers and the lines that a program prints, stored in a lent buffer from a place on. Each
-// function answers the place after what it stored, and asks for the room that its text takes.
-mod lines;
-
-pub use lines::automaton_line;
-pub use lines::end_line;
-pub use lines::event_line;
-pub use lines::fault_line;
-pub use lines::refusal_line;
-pub use lines::refused_event_line;
+// Text as bytes: words and decimal numbers, stored in a lent buffer from a place on. Each function answers the place after what it
+// stored, and asks for the room that its text takes.
 ghost use mathlib.Core.List.{_++_};
 ghost use Prim.Native.Nat.{_+_, _≤_};
 ghost use lib.ListN.{length};
 ghost use Rattle.text.specs.Decimal.{decimal, Appended};
-
-// The room that a line can take.
-pub const LINE_ROOM: usize = 96;
 
 pub fn word(out: &mut [u8], at: usize, text: &[u8]) -> usize
     requires { ⌜ at + length (now text) ≤ length (now out) ⌝ }
@@ -45,4 +34,13 @@ pub fn labelled(out: &mut [u8], at: usize, text: &[u8], n: usize) -> usize
 {
     let next = word(out, at, text);
     number(out, next, n)
+}
+
+// A word and a number, and another word and number.
+pub fn pair(out: &mut [u8], at: usize, first: &[u8], n: usize, second: &[u8], m: usize) -> usize
+    requires { ⌜ at + length ((now first ++ decimal n) ++ (now second ++ decimal m)) ≤ length (now out) ⌝ }
+    ensures { λ r. ⌜ Appended (now (out .entry)) at ((now (first .entry) ++ decimal n) ++ (now (second .entry) ++ decimal m)) (now (out .exit)) r ⌝ }
+{
+    let next = labelled(out, at, first, n);
+    labelled(out, next, second, m)
 }

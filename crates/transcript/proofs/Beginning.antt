@@ -22,7 +22,7 @@ use Rattle.winning.specs.declared.Solution.{Solution}
 use Rattle.winning.specs.Solving.{solveRefusal, solution, solvedTable}
 use Rattle.configuration.specs.declared.Start.{Start}
 use Rattle.configuration.specs.Configuration.{initialAnswer}
-use Rattle.text.specs.Lines.{faultLine, refusalLine}
+use Rattle.lines.specs.Lines.{faultLine, refusalLine}
 use Rattle.transcript.specs.Transcript.{Run, automatonAt, opening, runFrom, runLines, tooLong, tooLarge, transcript}
 use Rattle.transcript.specs.Pieces.{Progress, belongs, at, inPhase, toCome, tableAfter, without, opened}
 use Rattle.transcript.specs.declared.Phase.the-variants.{Ended, Refused, Faulted, Opening, Running}

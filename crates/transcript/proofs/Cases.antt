@@ -17,7 +17,8 @@ use Rattle.configuration.specs.Configuration.{heldEvents, controllableSymbol, p
 use Rattle.releasing.specs.Step.{byTable, qualifies, qualifying, release, remaining, arrival, effect, eventRows}
 use Rattle.monitor.specs.Answers.{callRows, isWinning, callRefusal, status, receiveRefusal, received}
 use Rattle.text.specs.Decimal.{ascii, digit, digits, decimal}
-use Rattle.text.specs.Lines.{winningEnd, automatonLine, spaced, emission, eventLine, refusedEventLine, endLine, faultLine, refusalLine}
+use Rattle.lines.specs.Lines.{refusedEventLine, endLine, faultLine, refusalLine}
+use Rattle.status_lines.specs.StatusLines.{winningEnd, automatonLine, spaced, emission, eventLine}
 use Rattle.transcript.specs.Transcript.{automatonAt, opening, runFrom, firstLine, answerLine, after, eventLines, runLines, tooLong, tooLarge, transcript}
 use Rattle.transcript.specs.Claims.{v, large, lines, CasesPrinted, LongRefused}
 

@@ -16,7 +16,7 @@ use Rattle.automaton.specs.Automaton.{valid}
 use Rattle.sets.specs.Table.{Solved}
 use Rattle.monitor.specs.declared.Received.{Received}
 use Rattle.monitor.specs.Answers.{received}
-use Rattle.text.specs.Lines.{endLine, faultLine}
+use Rattle.lines.specs.Lines.{endLine, faultLine}
 use Rattle.transcript.specs.Transcript.{Run, answerLine, after, eventLines, firstLine, runLines}
 use Rattle.transcript.proofs.Answers.{received-same, status-same}
 

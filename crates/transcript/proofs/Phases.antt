@@ -12,7 +12,8 @@ use Rattle.varint.specs.Varint.{read}
 use Rattle.monitor.specs.declared.Received.{Received}
 use Rattle.monitor.specs.Answers.{received}
 use Rattle.text.specs.Decimal.{ascii}
-use Rattle.text.specs.Lines.{automatonLine, eventLine, refusedEventLine, endLine, faultLine, refusalLine}
+use Rattle.lines.specs.Lines.{refusedEventLine, endLine, faultLine, refusalLine}
+use Rattle.status_lines.specs.StatusLines.{automatonLine, eventLine}
 use Rattle.transcript.specs.Transcript.{Run, firstLine, answerLine, after, eventLines, runLines}
 use Rattle.transcript.specs.Pieces.{belongs, at, toCome, inPhase}
 use Rattle.transcript.specs.declared.Phase.the-variants.{Ended, Refused, Faulted, Opening, Running}

@@ -9,7 +9,8 @@ use lib.Dec.{eqb, leb}
 use borrow.Author.Tests.{le-leb, lt-leb, leb-true, eq-eqb, ne-eqb}
 use Rattle.base.proofs.Bools.{and-left, and-right, and-both, and-left-false}
 use Rattle.monitor.specs.declared.Received.{Received}
-use Rattle.text.specs.Lines.{eventLine, refusedEventLine}
+use Rattle.lines.specs.Lines.{refusedEventLine}
+use Rattle.status_lines.specs.StatusLines.{eventLine}
 use Rattle.transcript.specs.Transcript.{Run, after, answerLine}
 use Rattle.transcript.specs.Pieces.{belongs}
 

@@ -9,7 +9,7 @@ use Rattle.automaton.specs.declared.Automaton.{Automaton}
 use Rattle.encoding.specs.Reading.{blank}
 use Rattle.winning.specs.Solving.{solvedTable}
 use Rattle.text.specs.Decimal.{Appended}
-use Rattle.text.specs.Lines.{faultLine, refusalLine}
+use Rattle.lines.specs.Lines.{faultLine, refusalLine}
 use Rattle.transcript.specs.Transcript.{Run, opening, eventLines, runLines, tooLong, tooLarge, runFrom}
 pub use Rattle.transcript.specs.declared.Progress.{Progress}
 pub use Rattle.transcript.specs.declared.Phase.{Phase}

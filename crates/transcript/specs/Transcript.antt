@@ -13,7 +13,8 @@ use Rattle.sets.specs.Table.{buffersCount, table}
 use Rattle.configuration.specs.Configuration.{initialOf}
 use Rattle.monitor.specs.declared.Received.{Received}
 use Rattle.monitor.specs.Answers.{status, received}
-use Rattle.text.specs.Lines.{automatonLine, eventLine, refusedEventLine, endLine, faultLine, refusalLine}
+use Rattle.lines.specs.Lines.{refusedEventLine, endLine, faultLine, refusalLine}
+use Rattle.status_lines.specs.StatusLines.{automatonLine, eventLine}
 pub use Rattle.transcript.specs.declared.Run.{Run}
 
 -- the sheet after L, at a place: the place after it, or its first fault, both from the input's first byte

@@ -1,17 +1,7 @@
-// What the day program prints, piece by piece: `begin` reads the sheet and solves it, `next_piece` writes lines.
-mod lines;
-mod opening;
-
+// What the day program prints: the transcript of an input is defined in specs/ and what holds of it is proved here. The crate
+// `opening` reads the sheet and solves it, `pieces` writes the lines.
 use automaton::Automaton;
 use configuration::Configuration;
-use lines::line;
-pub use opening::begin;
-ghost use mathlib.Core.Path.{_≡_};
-ghost use mathlib.Core.List.{[]};
-ghost use Prim.Native.Nat.{_≤_};
-ghost use lib.ListN.{length};
-ghost use Rattle.text.specs.Lines.{lineRoom};
-ghost use Rattle.transcript.specs.Pieces.{toCome, Continued};
 
 // A run of the monitor on an input: the automaton, the configuration, the place of the next event in the input, and how many events were accepted and
 // refused so far.
@@ -42,30 +32,4 @@ pub struct Progress {
 pub struct Piece {
     pub progress: Progress,
     pub length: usize,
-}
-
-// Writes as many lines as have room at the front of `out`. With room for one line, nothing is written only where nothing is to
-// come.
-pub fn next_piece(progress: Progress, input: &[u8], table: &[u32], out: &mut [u8]) -> Piece
-    ensures { λ r. ⌜ Continued (now (table .entry)) (now (input .entry)) progress (now (out .entry)) 0 (now (out .exit)) (r .progress) (r .length) ⌝ }
-    ensures { λ r. ⌜ (lineRoom ≤ length (now (out .entry)) → r .length ≡ 0 → toCome (now (table .entry)) (now (input .entry)) progress ≡ []) ⌝ }
-{
-    let mut rest = progress;
-    let mut at: usize = 0;
-    loop {
-        if out.len() - at < text::LINE_ROOM {
-            break;
-        }
-        let step = line(rest, input, table, out, at);
-        if step.length == at {
-            break;
-        }
-        let left = step.progress;
-        rest = left;
-        at = step.length;
-    }
-    Piece {
-        progress: rest,
-        length: at,
-    }
 }

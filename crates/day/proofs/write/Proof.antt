@@ -10,8 +10,8 @@ use Rattle.day.proofs.write.Tie as tie
 use Rattle.day.proofs.write.Reads as reads
 use Rattle.day.proofs.write.Lts as lts
 use Rattle.io.proofs.write_all.Reads as write-all-reads
-use Rattle.transcript.proofs.next_piece.Reads as next-piece-reads
-use Rattle.transcript.proofs.begin.Reads as begin-reads
+use Rattle.pieces.proofs.next_piece.Reads as next-piece-reads
+use Rattle.opening.proofs.begin.Reads as begin-reads
 
 abbrev Inv-loop : tie.InvT-loop
 Inv-loop input table out₀ progress₀ out progress = length out ≡ 32768

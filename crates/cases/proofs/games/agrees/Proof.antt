@@ -7,7 +7,7 @@ use Rattle.cases.proofs.games.agrees.Reads as reads
 use Rattle.cases.proofs.games.agrees.Lts as lts
 use Rattle.base.proofs.has.Reads as has-reads
 use Rattle.base.proofs.size.Reads as size-reads
-use Rattle.game.proofs.judge.Reads as judge-reads
+use Rattle.judge.proofs.judge.Reads as judge-reads
 
 abbrev Inv-loop : tie.InvT-loop
 Inv-loop a set intermediate c n q₀ q = q ≤ n

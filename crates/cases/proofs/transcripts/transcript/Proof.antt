@@ -11,8 +11,8 @@ use Rattle.cases.proofs.transcripts.transcript.Reads as reads
 use Rattle.cases.proofs.transcripts.transcript.Lts as lts
 use Rattle.cases.proofs.transcripts.put.Reads as put-reads
 use Rattle.std.proofs.num.wrapping_add_usize.Reads as wrapping-add-usize-reads
-use Rattle.transcript.proofs.next_piece.Reads as next-piece-reads
-use Rattle.transcript.proofs.begin.Reads as begin-reads
+use Rattle.pieces.proofs.next_piece.Reads as next-piece-reads
+use Rattle.opening.proofs.begin.Reads as begin-reads
 
 abbrev Inv-loop : tie.InvT-loop
 Inv-loop input table out₀ shown progress₀ total₀ out progress total = length out ≡ length out₀

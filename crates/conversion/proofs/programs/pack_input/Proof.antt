@@ -1,8 +1,8 @@
 use lib.ListN.{length}
 use mathlib.Core.Path.{_≡_, sym}
 use Rattle.text.specs.Decimal.{ascii}
-use Rattle.text.proofs.Appending.{said}
-use Rattle.conversion.proofs.Outcomes.{nothing, pack-long-output, pack-long-note, pack-part, pack-note, pack-stored}
+use Rattle.text.proofs.Appending.{nothing, said}
+use Rattle.conversion.proofs.Outcomes.{pack-long-output, pack-long-note, pack-part, pack-note, pack-stored}
 use borrow.Author.Needs.{needs}
 use Rattle.conversion.proofs.programs.pack_input.Statement.{statement}
 use Rattle.conversion.proofs.programs.pack_input.Tie as tie

@@ -1,8 +1,8 @@
 use lib.ListN.{length}
 use mathlib.Core.Path.{_≡_, sym}
 use Rattle.text.specs.Decimal.{ascii}
-use Rattle.text.proofs.Appending.{said}
-use Rattle.conversion.proofs.Outcomes.{nothing, unpack-long-output, unpack-long-note, unpack-note, unpack-no-note, unpack-stored}
+use Rattle.text.proofs.Appending.{nothing, said}
+use Rattle.conversion.proofs.Outcomes.{unpack-long-output, unpack-long-note, unpack-note, unpack-no-note, unpack-stored}
 use borrow.Author.Needs.{needs}
 use Rattle.conversion.proofs.programs.unpack_input.Statement.{statement}
 use Rattle.conversion.proofs.programs.unpack_input.Tie as tie

@@ -1,0 +1,33 @@
+-- The marked cases compute.
+use mathlib.Core.Path.{refl}
+use Rattle.base.specs.Each.{each, count, those, lastOr}
+use Rattle.base.specs.Rows.{first}
+use Rattle.base.specs.Pad.{pad}
+use Rattle.base.specs.Masks.{has, mask}
+use Rattle.varint.specs.Varint.{groups, read, encode, bytes}
+use Rattle.automaton.specs.Parts.{controllableIn, stands, placesStand}
+use Rattle.automaton.specs.Automaton.{controllable, controllables, accepts, step, run, shaped, ranged, classesStand, flagsStand, nextStand, valid}
+use Rattle.encoding.specs.Reading.{checked, between, itemRow, numbers, runs, one, many, tables, automatonFrom, parse}
+use Rattle.sets.specs.Sets.{acceptingSet, admits, stays, refine, settle, settled, setsOf, emptySets, into, sets}
+use Rattle.sets.specs.Table.{rank, value, shorter, index, buffersCount, short, controllableTo, extended, buffersAt, buffersTo, pairs, roundsSum, table, rounds}
+use Rattle.configuration.specs.Configuration.{heldEvents, controllableSymbol, placeStands, bufferStands, consistentIn, initialOf}
+use Rattle.winning.specs.Solving.{countAnswer}
+use Rattle.releasing.specs.Step.{byTable, qualifies, qualifying, release, remaining, arrival, effect, eventRows}
+use Rattle.monitor.specs.Answers.{callRows, isWinning, callRefusal, status, receiveRefusal, received}
+use Rattle.claims.specs.Calls.{handedBack, reply, replies}
+use Rattle.marked_cases.specs.Cases.{automatonV, automatonW, sized, MarkedCases}
+
+pub marked-cases : MarkedCases
+unfolding
+    each count those lastOr first pad has mask
+    groups read encode bytes
+    controllableIn stands placesStand controllable controllables accepts step run shaped ranged classesStand flagsStand nextStand valid
+    checked between itemRow numbers runs one many tables automatonFrom parse
+    acceptingSet admits stays refine settle settled setsOf emptySets into sets
+    rank value shorter index buffersCount short extended buffersAt buffersTo pairs roundsSum table rounds
+    heldEvents controllableSymbol placeStands bufferStands consistentIn initialOf countAnswer
+    byTable qualifies qualifying release remaining arrival effect eventRows
+    callRows isWinning callRefusal status receiveRefusal received handedBack reply replies
+    automatonV automatonW sized
+marked-cases =
+    (refl, (refl, ((refl, refl), ((refl, refl), (refl, (refl, (refl, (refl, (refl, (refl, (refl, ((refl, refl), ((refl, refl), ((refl, refl), (refl, ((refl, refl), ((refl, refl), ((refl, refl), tt))))))))))))))))))

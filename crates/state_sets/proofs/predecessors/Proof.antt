@@ -1,0 +1,74 @@
+use Prim.Native.Nat.{_≤_, _-_, _+_, _*_}
+use Rattle.automaton.specs.Parts.{goes}
+use Rattle.refinement.specs.Parts.{predecessors}
+use Rattle.base.proofs.Masks.{mask-adds, mask-passes, mask-room}
+use Rattle.base.specs.Masks.{has, mask}
+use mathlib.Core.Path.{_≡_, refl, sym, _∙_, ap}
+use mathlib.Core.Logic.{⊎-elim}
+use native.Mathlib.Omega.{arith}
+use borrow.Author.Needs.{needs}
+use Rattle.state_sets.proofs.predecessors.Statement.{statement}
+use Rattle.state_sets.proofs.predecessors.Tie as tie
+
+abbrev Inv-loop : tie.InvT-loop
+Inv-loop next n symbol goal set₀ q₀ set q = (q ≤ n) × (set ≡ mask q (λ q. has goal (goes next q symbol)))
+
+abbrev μ-loop : tie.MeasureT-loop
+μ-loop next n symbol goal set₀ q₀ set q = n - q
+
+loop-holds : tie.Need-loop-holds Inv-loop μ-loop
+unfolding mask
+loop-holds c = (omega arith, refl)
+
+mul-size : tie.Need-mul-size Inv-loop μ-loop
+mul-size c = search needs
+
+add-size : tie.Need-add-size Inv-loop μ-loop
+add-size c = search needs
+
+element-copy-out-size : tie.Need-element-copy-out-size Inv-loop μ-loop
+element-copy-out-size c = search needs
+
+size-requires : tie.Need-size-requires Inv-loop μ-loop
+size-requires c κs = search needs
+
+has-requires : tie.Need-has-requires Inv-loop μ-loop
+has-requires c κs = omega (arith, c .size .ensures .0, c .before .before .before .before .pre .1 (c .before .before .before .loop .q * 16 + c .before .before .before .before .args .symbol))
+
+bit-requires : tie.Need-bit-requires Inv-loop μ-loop
+bit-requires c κs = search needs
+
+add-set : tie.Need-add-set Inv-loop μ-loop
+add-set c = omega (arith, mask-room _ _ _ (c .before .before .before .before .before .before .loop .inv .1) 32 (omega arith) (c .bit .ensures))
+
+add-q : tie.Need-add-q Inv-loop μ-loop
+add-q c = search needs
+
+loop-less : tie.Need-loop-less Inv-loop μ-loop
+loop-less c = search needs
+
+loop-again : tie.Need-loop-again Inv-loop μ-loop
+loop-again c = let leads = c .before .has .ensures ∙ ap (has _) (c .before .before .size .ensures .0) in (omega arith, ⊎-elim (λ w. w .2 ∙ mask-adds _ _ _ (c .before .before .before .before .before .loop .inv .1) (w .1 .ensures) (sym leads ∙ w .0 .taken)) (λ w. w .1 ∙ mask-passes _ _ _ (c .before .before .before .before .before .loop .inv .1) (sym leads ∙ w .0 .left)) (c .if1 .came))
+
+returns : tie.Need-returns Inv-loop μ-loop
+unfolding predecessors
+returns c = let e : c .before .loop .q ≡ c .before .before .args .n = omega arith in rw e at (c .before .loop .inv .1)
+
+pub predecessors-spec : {M : Type 1} → statement M
+predecessors-spec =
+    tie.close
+    (tie.spec
+    Inv-loop
+    μ-loop
+    loop-holds
+    mul-size
+    add-size
+    element-copy-out-size
+    size-requires
+    has-requires
+    bit-requires
+    add-set
+    add-q
+    loop-less
+    loop-again
+    returns)

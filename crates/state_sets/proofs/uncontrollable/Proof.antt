@@ -1,0 +1,66 @@
+use lib.ListN.{getD}
+use Rattle.refinement.proofs.Free.{listed-all}
+use Rattle.refinement.proofs.Free.{Listed, listed-room, listed-more, listed-same}
+use Rattle.base.specs.Each.{those}
+use Rattle.base.specs.Pad.{pad}
+use Prim.Native.Nat.{_≤_, _-_}
+use mathlib.Core.Path.{refl, sym, _∙_, ap}
+use mathlib.Core.Logic.{⊎-elim}
+use native.Mathlib.Omega.{arith}
+use borrow.Author.Needs.{needs}
+use Rattle.state_sets.proofs.uncontrollable.Statement.{statement}
+use Rattle.state_sets.proofs.uncontrollable.Tie as tie
+
+abbrev Inv-loop : tie.InvT-loop
+Inv-loop classes m list₀ count₀ e₀ list count e = (e ≤ m) × Listed classes e list count
+
+abbrev μ-loop : tie.MeasureT-loop
+μ-loop classes m list₀ count₀ e₀ list count e = m - e
+
+loop-holds : tie.Need-loop-holds Inv-loop μ-loop
+unfolding those pad
+loop-holds c = (omega arith, record { stored = refl; counted = refl })
+
+size-requires : tie.Need-size-requires Inv-loop μ-loop
+size-requires c κs = search needs
+
+size-requires-2 : tie.Need-size-requires-2 Inv-loop μ-loop
+size-requires-2 c κs = search needs
+
+element-copy-out-if2 : tie.Need-element-copy-out-if2 Inv-loop μ-loop
+element-copy-out-if2 c = search needs
+
+array-write-list : tie.Need-array-write-list Inv-loop μ-loop
+array-write-list c = omega (arith, listed-room _ _ _ _ (c .before .before .before .before .before .loop .inv .1))
+
+add-count : tie.Need-add-count Inv-loop μ-loop
+add-count c = omega (arith, listed-room _ _ _ _ (c .before .before .before .before .before .loop .inv .1))
+
+add-e : tie.Need-add-e Inv-loop μ-loop
+add-e c = search needs
+
+loop-less : tie.Need-loop-less Inv-loop μ-loop
+loop-less c = search needs
+
+loop-again : tie.Need-loop-again Inv-loop μ-loop
+loop-again c = let class = ap (λ i. getD (c .before .before .before .before .before .before .args .classes .now) i 0) (c .before .before .size2 .ensures .0) in (omega arith, ⊎-elim (λ w. rw (w .1, w .2) (listed-more _ _ _ _ (c .before .before .before .before .before .loop .inv .1) (omega arith) (λ h. w .0 .taken (class ∙ h)))) (λ w. rw (w .1, w .2) (listed-same _ _ _ _ (c .before .before .before .before .before .loop .inv .1) (sym class ∙ w .0 .left))) (c .if2 .came))
+
+returns : tie.Need-returns Inv-loop μ-loop
+returns c = listed-all _ _ _ _ (c .before .before .loop .inv .1) _ (omega arith)
+
+pub uncontrollable-spec : {M : Type 1} → statement M
+uncontrollable-spec =
+    tie.close
+    (tie.spec
+    Inv-loop
+    μ-loop
+    loop-holds
+    size-requires
+    size-requires-2
+    element-copy-out-if2
+    array-write-list
+    add-count
+    add-e
+    loop-less
+    loop-again
+    returns)

@@ -1,0 +1,45 @@
+use Rattle.status_lines.proofs.Spacing.{emission-none, emission-some}
+use Rattle.text.proofs.Appending.{said}
+use Rattle.text.specs.Decimal.{ascii}
+use lib.ListN.{length}
+use mathlib.Core.Path.{sym}
+use native.Mathlib.Omega.{arith}
+use Prim.Native.Nat.{_≤_}
+use borrow.Author.Needs.{needs}
+use Rattle.status_lines.proofs.emission.Statement.{statement}
+use Rattle.status_lines.proofs.emission.Tie as tie
+
+slice-aggregate-word : tie.Need-slice-aggregate-word
+slice-aggregate-word c = search needs
+
+word-requires : tie.Need-word-requires
+unfolding ascii
+word-requires c κs = omega arith
+
+same-length : tie.Need-same-length
+same-length c = search needs
+
+returns : tie.Need-returns
+unfolding ascii
+returns c = (said (sym (emission-none (c .before .before .before .before .before .before .before .args .list) _ (c .before .before .before .before .before .if1 .taken))) (c .before .before .word .ensures), omega (arith, c .before .before .word .ensures .place))
+
+spaced-requires : tie.Need-spaced-requires
+spaced-requires c κs = omega arith
+
+same-length-2 : tie.Need-same-length-2
+same-length-2 c = search needs
+
+returns-2 : tie.Need-returns-2
+returns-2 c = let long : c .before .before .before .before .before .before .args .count ≤ length (c .before .before .before .before .before .before .args .list) = search needs in (said (sym (emission-some (c .before .before .before .before .before .before .args .list) _ (c .before .before .before .before .if1 .left) long)) (c .before .before .spaced .ensures .0), omega (arith, c .before .before .spaced .ensures .1))
+
+pub emission-spec : {M : Type 1} → statement M
+emission-spec =
+    tie.close
+    (tie.spec
+    slice-aggregate-word
+    word-requires
+    same-length
+    returns
+    spaced-requires
+    same-length-2
+    returns-2)

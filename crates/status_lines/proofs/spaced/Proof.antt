@@ -1,0 +1,64 @@
+use Rattle.text.proofs.Appending.{kept}
+use mathlib.Core.Path.{refl}
+use lib.ListN.{length}
+use Prim.Native.Nat.{_≤_}
+use Rattle.status_lines.proofs.Spacing.{Spacing, spacing-begins, spacing-goes-on, spacing-done}
+use Rattle.text.proofs.Digits.{byte-length}
+use Prim.Native.Nat.{_-_}
+use borrow.Author.Needs.{needs}
+use native.Mathlib.Omega.{arith}
+use Rattle.status_lines.proofs.spaced.Statement.{statement}
+use Rattle.status_lines.proofs.spaced.Tie as tie
+
+abbrev Inv-loop : tie.InvT-loop
+Inv-loop out₀ at count list place₀ i₀ t8 out place i = Spacing list out₀ at count out place i
+
+abbrev μ-loop : tie.MeasureT-loop
+μ-loop out₀ at count list place₀ i₀ t8 out place i = count - i
+
+loop-holds : tie.Need-loop-holds Inv-loop μ-loop
+loop-holds c = spacing-begins _ _ _ _ (omega arith)
+
+slice-aggregate-labelled : tie.Need-slice-aggregate-labelled Inv-loop μ-loop
+slice-aggregate-labelled c = refl
+
+array-read-size : tie.Need-array-read-size Inv-loop μ-loop
+array-read-size c = search needs
+
+size-requires : tie.Need-size-requires Inv-loop μ-loop
+size-requires c κs = search needs
+
+labelled-requires : tie.Need-labelled-requires Inv-loop μ-loop
+labelled-requires c κs = omega (arith, c .before .before .before .before .loop .inv .near, kept (c .before .before .before .before .loop .inv .so-far), byte-length (c .size .result) (c .size .ensures .1), c .before .before .before .before .before .before .pre .1)
+
+add-i : tie.Need-add-i Inv-loop μ-loop
+add-i c = search needs
+
+loop-less : tie.Need-loop-less Inv-loop μ-loop
+loop-less c = search needs
+
+loop-again : tie.Need-loop-again Inv-loop μ-loop
+loop-again c = let long : c .before .before .before .before .before .before .before .before .before .args .count ≤ length (c .before .before .before .before .before .before .before .before .before .args .t3) = search needs in spacing-goes-on (c .before .before .before .before .before .before .before .loop .inv) (c .before .before .before .before .before .before .loop-test .taken) long (rw (c .before .before .before .size .ensures .0) at (c .before .before .before .size .ensures .1)) (rw (c .before .before .before .size .ensures .0) at (c .before .before .labelled .ensures))
+
+same-length : tie.Need-same-length Inv-loop μ-loop
+same-length c = kept (c .before .loop .inv .so-far)
+
+returns : tie.Need-returns Inv-loop μ-loop
+returns c = spacing-done (c .before .loop .inv) (omega arith)
+
+pub spaced-spec : {M : Type 1} → statement M
+spaced-spec =
+    tie.close
+    (tie.spec
+    Inv-loop
+    μ-loop
+    loop-holds
+    slice-aggregate-labelled
+    array-read-size
+    size-requires
+    labelled-requires
+    add-i
+    loop-less
+    loop-again
+    same-length
+    returns)

@@ -1,0 +1,67 @@
+use lib.ListN.{getD}
+use Rattle.notation.proofs.Finding.{Beginning, beginning-begins, beginning-ended, beginning-found, beginning-goes-on, newlines-most}
+use borrow.Author.Tests.{not-true, not-false}
+use mathlib.Core.Path.{sym, _∙_}
+use lib.ListN.{length}
+use Prim.Native.Nat.{_-_}
+use native.Mathlib.Omega.{arith}
+use borrow.Author.Needs.{needs}
+use Rattle.tokens.proofs.scanning.beginning.Statement.{statement}
+use Rattle.tokens.proofs.scanning.beginning.Tie as tie
+
+abbrev Inv-loop : tie.InvT-loop
+Inv-loop source lines from ended₀ at₀ c₀ ended at c = Beginning source lines from ended at c
+
+abbrev μ-loop : tie.MeasureT-loop
+μ-loop source lines from ended₀ at₀ c₀ ended at c = length source - at
+
+loop-holds : tie.Need-loop-holds Inv-loop μ-loop
+loop-holds c = beginning-begins _ _ _ (search needs) (search needs)
+
+shared-slice-read-b : tie.Need-shared-slice-read-b Inv-loop μ-loop
+shared-slice-read-b c = search needs
+
+between-requires : tie.Need-between-requires Inv-loop μ-loop
+between-requires c κs = search needs
+
+comment-requires : tie.Need-comment-requires Inv-loop μ-loop
+comment-requires c κs = search needs
+
+newlines-requires : tie.Need-newlines-requires Inv-loop μ-loop
+newlines-requires c κs = search needs
+
+add-ended : tie.Need-add-ended Inv-loop μ-loop
+add-ended c = record { fits = omega (arith, newlines-most (getD (c .before .before .before .before .before .before .before .before .args .source .now) (c .before .before .before .before .before .before .loop .at) 0), c .newlines .ensures, c .before .before .before .before .before .before .loop .inv .counted, c .before .before .before .before .before .loop-test .taken) }
+
+add-at : tie.Need-add-at Inv-loop μ-loop
+add-at c = search needs
+
+loop-less : tie.Need-loop-less Inv-loop μ-loop
+loop-less c = search needs
+
+loop-again : tie.Need-loop-again Inv-loop μ-loop
+loop-again c = rw (c .newlines .ensures, c .before .comment .ensures) (beginning-goes-on (c .before .before .before .before .before .before .loop .inv) (c .before .before .before .before .before .loop-test .taken) (sym (c .before .before .before .between .ensures) ∙ not-false _ (c .before .before .if1 .left)))
+
+returns : tie.Need-returns Inv-loop μ-loop
+returns c = beginning-ended (c .before .loop .inv) (omega arith)
+
+returns-2 : tie.Need-returns-2 Inv-loop μ-loop
+returns-2 c = beginning-found (c .before .before .before .before .loop .inv) (c .before .before .before .loop-test .taken) (sym (c .before .between .ensures) ∙ not-true _ (c .if1 .taken))
+
+pub beginning-spec : {M : Type 1} → statement M
+beginning-spec =
+    tie.close
+    (tie.spec
+    Inv-loop
+    μ-loop
+    loop-holds
+    shared-slice-read-b
+    between-requires
+    comment-requires
+    newlines-requires
+    add-ended
+    add-at
+    loop-less
+    loop-again
+    returns
+    returns-2)
