@@ -17,7 +17,7 @@ use Rattle.releasing.specs.Step.{bySets, byTable, eventRefusal}
 use Rattle.releasing.proofs.Effects.{effect-same}
 use Rattle.releasing.proofs.Solved.{solved-agree}
 use Rattle.claims.specs.Store.{Store, empty, stateOf, store, storeAll, lacksRoom, feed, feedAll, acceptedOf, acceptedBy, acceptedAll}
-use Rattle.claims.specs.Calls.{Call, one, many, fedBy, configurationOf}
+use Rattle.claims.specs.Calls.{Call, one, many, fedBy, configurationAt}
 use Rattle.claims.specs.Moments.{Moment, effectAt, emittedAt, within, broughtBy, broughtAll, moments}
 use Rattle.claims.specs.Claims.{MomentsAccounted}
 use Rattle.claims.proofs.Stores.{Sound, grown, initially, initial-sound, byStore, store-accepts, store-refuses, store-state, store-sound}
@@ -102,7 +102,7 @@ module _ (a : Automaton) (t : List ℕ) (v : valid a ≡ true) (sv : Solved a t)
       fed : feed a s (fedBy x) ≡ storeAll a s es
       accepted : acceptedBy a s (fedBy x) ≡ acceptedOf a s es
 
-    brought-is : (x : Call) → Brought x (broughtBy a t (configurationOf a s) x)
+    brought-is : (x : Call) → Brought x (broughtBy a t (configurationAt a s) x)
     unfolding broughtBy feed fedBy storeAll acceptedBy acceptedOf
     brought-is (one e) =
         let n = eventRefusal a (s .buffer) e in
@@ -119,14 +119,14 @@ module _ (a : Automaton) (t : List ℕ) (v : valid a ≡ true) (sv : Solved a t)
     fed : feedAll a s (map fedBy xs) ≡ storeAll a s es
     accepted : acceptedAll a s (map fedBy xs) ≡ acceptedOf a s es
 
-  brought-all : (xs : List Call) (s : Store) → Sound a s → BroughtAll s xs (broughtAll a t (configurationOf a s) xs)
+  brought-all : (xs : List Call) (s : Store) → Sound a s → BroughtAll s xs (broughtAll a t (configurationAt a s) xs)
   unfolding broughtAll feedAll acceptedAll storeAll acceptedOf
   brought-all [] s o = record { fed = refl; accepted = refl }
   brought-all (x ∷ xs) s o =
       let z = feed a s (fedBy x) in
       let b = brought-is s o x in
-      let es = broughtBy a t (configurationOf a s) x in
-      let fs = broughtAll a t (configurationOf a z) xs in
+      let es = broughtBy a t (configurationAt a s) x in
+      let fs = broughtAll a t (configurationAt a z) xs in
       let k = brought-all xs z (feed-sound a t v sv s o x) in
       rw (reply-hands a t v sv s o x)
       (record {
@@ -135,10 +135,10 @@ module _ (a : Automaton) (t : List ℕ) (v : valid a ≡ true) (sv : Solved a t)
       })
 
 pub moments-accounted : MomentsAccounted
-unfolding moments configurationOf storeAll
+unfolding moments configurationAt storeAll
 moments-accounted a t v sv calls =
     let b = brought-all a t v sv calls empty (initial-sound a v) in
-    let es = broughtAll a t (configurationOf a empty) calls in
+    let es = broughtAll a t (configurationAt a empty) calls in
     let w = within-is a t v sv es [] empty (initial-sound a v) in
     let go : moments a t (initialOf a) calls ≡ within a t [] [] (stateOf a empty) [] es = rw (initially a, held a empty) in
     record {

@@ -9,7 +9,7 @@ use Rattle.sets.specs.Table.{Solved}
 use Rattle.winning.specs.Solving.{solvedTable}
 use Rattle.winning.proofs.Answers.{solved-valid, leaves-solved}
 use Rattle.claims.specs.Store.{empty, storeAll, feedAll}
-use Rattle.claims.specs.Calls.{Call, fedBy, configurationOf}
+use Rattle.claims.specs.Calls.{Call, fedBy, configurationAt}
 use Rattle.claims.specs.Claims.{acceptedEvents, Demand3, Demand3Solved}
 use Rattle.claims.proofs.Alone.{accepted-alone}
 use Rattle.claims.proofs.Replies.{each-reply}
@@ -29,7 +29,7 @@ demand3 a t v s calls =
     record {
       enforces = r;
       alone-emitted = r .all-emitted ∙ ap (λ z. z .output) f;
-      alone-configuration = r .last-configuration ∙ ap (configurationOf a) f;
+      alone-configuration = r .last-configuration ∙ ap (configurationAt a) f;
       accounted = moments-accounted a t v s calls;
       once-winning = winning-stays a t v s calls;
       rivals = rivals-lose a t v s calls;

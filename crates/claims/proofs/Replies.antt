@@ -27,12 +27,12 @@ use Rattle.releasing.proofs.Runs.{run-same}
 use Rattle.monitor.proofs.Refusals.{rows-pass}
 use Rattle.releasing.proofs.Solved.{solved-agree}
 use Rattle.claims.specs.Store.{Store, empty, stateOf, store, storeAll, lacksRoom, feed, feedAll}
-use Rattle.claims.specs.Calls.{Call, one, many, handedBack, emittedBy, reply, replies, configurationAfter, emittedAll, fedBy, configurationOf, since, expected, expectedAll}
+use Rattle.claims.specs.Calls.{Call, one, many, handedBack, emittedBy, reply, replies, configurationAfter, emittedAll, fedBy, configurationAt, since, expected, expectedAll}
 use Rattle.claims.specs.Claims.{EachReply}
 use Rattle.claims.proofs.Stores.{Sound, initially, initial-sound, store-since, store-sound, since-grown, since-same, byStore, runStore, store-accepts, store-refuses, store-state, runs-state, store-runs}
 
-pub held : (a : Automaton) (s : Store) → heldEvents (configurationOf a s) ≡ s .buffer
-unfolding heldEvents configurationOf
+pub held : (a : Automaton) (s : Store) → heldEvents (configurationAt a s) ≡ s .buffer
+unfolding heldEvents configurationAt
 held a s = take-pad 6 (s .buffer)
 
 module _ (a : Automaton) (t : List ℕ) (v : valid a ≡ true) (sv : Solved a t) where
@@ -40,31 +40,31 @@ module _ (a : Automaton) (t : List ℕ) (v : valid a ≡ true) (sv : Solved a t)
   unfolding short
   not-short = le-ltb (length t) _ (sv .long)
 
-  pub consistent-at : (s : Store) → Sound a s → consistent a (configurationOf a s) ≡ true
-  unfolding configurationOf
+  pub consistent-at : (s : Store) → Sound a s → consistent a (configurationAt a s) ≡ true
+  unfolding configurationAt
   consistent-at s o =
-      consistent-of a (configurationOf a s) (configuration-consistent a (valid-facts a v) (stateOf a s) (s .buffer) (o .state-below) (o .buffer))
+      consistent-of a (configurationAt a s) (configuration-consistent a (valid-facts a v) (stateOf a s) (s .buffer) (o .state-below) (o .buffer))
 
   module _ (s : Store) (o : Sound a s) where
     abbrev c : Configuration
-    c = configurationOf a s
+    c = configurationAt a s
 
     pub one-refusal : (e : ℕ) → receiveRefusal a t c e ≡ eventRefusal a (s .buffer) e
     unfolding receiveRefusal eventRefusal
     one-refusal e = rows-pass a t c v not-short (consistent-at s o) (eventRows a (heldEvents c) e) ∙ ap (λ w. first (eventRows a w e)) (held a s)
 
     pub many-refusal : (es out : List ℕ) → runRefusal a t c es out ≡ cond (lacksRoom s es (length out)) 16 0
-    unfolding runRefusal lacksRoom configurationOf first
+    unfolding runRefusal lacksRoom configurationAt first
     many-refusal es out = rows-pass a t c v not-short (consistent-at s o) ((16, ltb (length out) (room es (c .held))) ∷ [])
 
     one-effect : (e : ℕ) → eventRefusal a (s .buffer) e ≡ 0 → effect (byTable a t) a (c .state) (heldEvents c) e ≡ byStore a s e
-    unfolding configurationOf
+    unfolding configurationAt
     one-effect e h =
         ap (λ w. effect (byTable a t) a (stateOf a s) w e) (held a s) ∙
         effect-same (byTable a t) a (stateOf a s) (s .buffer) e (bySets a) (solved-agree a t sv) (total a v) o h
 
     many-run : (es : List ℕ) → runOf (byTable a t) a (c .state) (heldEvents c) es ≡ runStore a s es
-    unfolding configurationOf
+    unfolding configurationAt
     many-run es =
         ap (λ w. runOf (byTable a t) a (stateOf a s) w es) (held a s) ∙
         run-same (byTable a t) (bySets a) a (solved-agree a t sv) (total a v) es (stateOf a s) (s .buffer) o
@@ -81,11 +81,11 @@ module _ (a : Automaton) (t : List ℕ) (v : valid a ≡ true) (sv : Solved a t)
         rw (one-refusal e ∙ h, one-effect e h, b)
 
     one-refused : (e : ℕ) → eqb (eventRefusal a (s .buffer) e) 0 ≡ false → received a t c e ≡ answer (eventRefusal a (s .buffer) e) (stateOf a s) (s .buffer) [] false
-    unfolding received configurationOf pad
+    unfolding received configurationAt pad
     one-refused e h = rw (one-refusal e, h)
 
     one-reply : (e : ℕ) → reply a t c (one e) ≡ expected a s (one e)
-    unfolding reply expected configurationOf
+    unfolding reply expected configurationAt
     one-reply e =
         let n = eventRefusal a (s .buffer) e in
         let f = byStore a s e in
@@ -96,7 +96,7 @@ module _ (a : Automaton) (t : List ℕ) (v : valid a ≡ true) (sv : Solved a t)
         (λ h. rw (one-refused e h, store-refuses a s e (eqb-false n 0 h), since-same s, h))
 
     many-reply : (es out : List ℕ) → reply a t c (many es out) ≡ expected a s (many es out)
-    unfolding reply expected ran ranBuffer configurationOf
+    unfolding reply expected ran ranBuffer configurationAt
     many-reply es out =
         let k = store-runs a es s in
         let r = runStore a s es in
@@ -110,7 +110,7 @@ module _ (a : Automaton) (t : List ℕ) (v : valid a ≡ true) (sv : Solved a t)
     reply-is (many es out) = many-reply es out
 
     -- .. which hands back the configuration of the function fed the call, and emits what it put out then
-    feed-hands : (x : Call) → handedBack (expected a s x) ≡ configurationOf a (feed a s (fedBy x))
+    feed-hands : (x : Call) → handedBack (expected a s x) ≡ configurationAt a (feed a s (fedBy x))
     unfolding expected handedBack feed fedBy
     feed-hands (one e) = refl
     feed-hands (many es out) = by (lacksRoom s es (length out)) (λ h. rw h) (λ h. rw h)
@@ -124,7 +124,7 @@ module _ (a : Automaton) (t : List ℕ) (v : valid a ≡ true) (sv : Solved a t)
         (λ h. rw h (sym (append-nil (s .output))))
         (λ h. rw (h, take-append-seam put (drop (length put) out)) (store-since a es s))
 
-    pub reply-hands : (x : Call) → handedBack (reply a t c x) ≡ configurationOf a (feed a s (fedBy x))
+    pub reply-hands : (x : Call) → handedBack (reply a t c x) ≡ configurationAt a (feed a s (fedBy x))
     reply-hands x = ap handedBack (reply-is x) ∙ feed-hands x
 
     pub feed-sound : (x : Call) → Sound a (feed a s (fedBy x))
@@ -134,9 +134,9 @@ module _ (a : Automaton) (t : List ℕ) (v : valid a ≡ true) (sv : Solved a t)
 
   -- all calls
   record Together (s : Store) (xs : List Call) : Type 0 where
-    each-reply : replies a t (configurationOf a s) xs ≡ expectedAll a s xs
-    all-emitted : feedAll a s (map fedBy xs) .output ≡ s .output ++ emittedAll (replies a t (configurationOf a s) xs)
-    last-configuration : configurationAfter a t (configurationOf a s) xs ≡ configurationOf a (feedAll a s (map fedBy xs))
+    each-reply : replies a t (configurationAt a s) xs ≡ expectedAll a s xs
+    all-emitted : feedAll a s (map fedBy xs) .output ≡ s .output ++ emittedAll (replies a t (configurationAt a s) xs)
+    last-configuration : configurationAfter a t (configurationAt a s) xs ≡ configurationAt a (feedAll a s (map fedBy xs))
     last-sound : Sound a (feedAll a s (map fedBy xs))
 
   together : (xs : List Call) (s : Store) → Sound a s → Together s xs
@@ -151,8 +151,8 @@ module _ (a : Automaton) (t : List ℕ) (v : valid a ≡ true) (sv : Solved a t)
         each-reply = ap₂ _∷_ r (ap (λ c. replies a t c xs) next ∙ k .each-reply);
         all-emitted = rw (next, r)
             (k .all-emitted ∙
-            ap (λ out. out ++ emittedAll (replies a t (configurationOf a z) xs)) (feed-emits s o x) ∙
-            append-assoc (s .output) (emittedBy (expected a s x)) (emittedAll (replies a t (configurationOf a z) xs)));
+            ap (λ out. out ++ emittedAll (replies a t (configurationAt a z) xs)) (feed-emits s o x) ∙
+            append-assoc (s .output) (emittedBy (expected a s x)) (emittedAll (replies a t (configurationAt a z) xs)));
         last-configuration = ap (λ c. configurationAfter a t c xs) next ∙ k .last-configuration;
         last-sound = k .last-sound;
       }

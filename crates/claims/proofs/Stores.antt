@@ -18,7 +18,7 @@ use Rattle.releasing.specs.Step.{bySets, Effect, arrival, effect, eventRefusal,
 use Rattle.releasing.proofs.Effects.{Occurs, initial-occurs, arrival-leads, effect-leads}
 use Rattle.releasing.proofs.Runs.{after, run-accepts, run-refuses, run-occurs, run-leads}
 use Rattle.claims.specs.Store.{Store, empty, stateOf, added, moved, store, storeAll, refusedOf}
-use Rattle.claims.specs.Calls.{configurationOf, since}
+use Rattle.claims.specs.Calls.{configurationAt, since}
 
 -- the state and buffer of the function can occur
 abbrev pub Sound : Automaton → Store → Type 0
@@ -26,8 +26,8 @@ Sound a s = Occurs a (stateOf a s) (s .buffer)
 
 -- at first
 module _ (a : Automaton) where
-  pub initially : initialOf a ≡ configurationOf a empty
-  unfolding initialOf configurationOf stateOf run
+  pub initially : initialOf a ≡ configurationAt a empty
+  unfolding initialOf configurationAt stateOf run
   initially = refl
 
   pub initial-sound : valid a ≡ true → Sound a empty

@@ -60,8 +60,8 @@ fedBy (one e) = event e
 fedBy (many es out) = events es (length out)
 
 -- the configuration that it stands for
-unfoldable pub configurationOf : Automaton → Store → Configuration
-configurationOf a s = configuration (stateOf a s) (s .buffer)
+unfoldable pub configurationAt : Automaton → Store → Configuration
+configurationAt a s = configuration (stateOf a s) (s .buffer)
 
 -- what it has put out since it was s
 unfoldable pub since : Store → Store → List ℕ
@@ -75,7 +75,7 @@ expected a s (one e) =
     let n = eventRefusal a (s .buffer) e in
     receive (record {
       refusal = n;
-      configuration = configurationOf a z;
+      configuration = configurationAt a z;
       emitted = pad 7 (since s z);
       count = length (since s z);
       winning = eqb n 0 && bySets a (z .buffer) (stateOf a z);
@@ -83,9 +83,9 @@ expected a s (one e) =
 expected a s (many es out) =
     let z = storeAll a s es in
     cond (lacksRoom s es (length out))
-    (run (record { refusal = 16; configuration = configurationOf a s; length = 0; refused = 0 }) out)
+    (run (record { refusal = 16; configuration = configurationAt a s; length = 0; refused = 0 }) out)
     (run
-    (record { refusal = 0; configuration = configurationOf a z; length = length (since s z); refused = refusedOf a s es })
+    (record { refusal = 0; configuration = configurationAt a z; length = length (since s z); refused = refusedOf a s es })
     (since s z ++ drop (length (since s z)) out))
 
 unfoldable pub expectedAll : Automaton → Store → List Call → List Reply

@@ -15,7 +15,7 @@ use Rattle.configuration.specs.Configuration.{consistent, initialOf}
 use Rattle.releasing.specs.Step.{byTable, Effect, release, arrival}
 use Rattle.monitor.specs.Answers.{isWinning}
 use Rattle.claims.specs.Store.{empty, storeAll, feedAll, acceptedAll}
-use Rattle.claims.specs.Calls.{Call, replies, configurationAfter, emittedAll, fedBy, configurationOf, expectedAll}
+use Rattle.claims.specs.Calls.{Call, replies, configurationAfter, emittedAll, fedBy, configurationAt, expectedAll}
 use Rattle.claims.specs.Moments.{Moment, effectAt, emittedAt, moments}
 use Rattle.claims.specs.Rival.{Strategy, Lost, lostBound}
 
@@ -24,7 +24,7 @@ use Rattle.claims.specs.Rival.{Strategy, Lost, lostBound}
 pub record Enforces (a : Automaton) (t : List ℕ) (calls : List Call) : Type 0 where
   pub each-reply : replies a t (initialOf a) calls ≡ expectedAll a empty calls
   pub all-emitted : emittedAll (replies a t (initialOf a) calls) ≡ feedAll a empty (map fedBy calls) .output
-  pub last-configuration : configurationAfter a t (initialOf a) calls ≡ configurationOf a (feedAll a empty (map fedBy calls))
+  pub last-configuration : configurationAfter a t (initialOf a) calls ≡ configurationAt a (feedAll a empty (map fedBy calls))
   pub last-consistent : consistent a (configurationAfter a t (initialOf a) calls) ≡ true
 
 abbrev pub EachReply : Type 0
@@ -116,7 +116,7 @@ DrivenOut =
 pub record Enforced (a : Automaton) (t : List ℕ) (calls : List Call) : Type 0 where
   pub enforces : Enforces a t calls
   pub alone-emitted : emittedAll (replies a t (initialOf a) calls) ≡ storeAll a empty (acceptedEvents a t calls) .output
-  pub alone-configuration : configurationAfter a t (initialOf a) calls ≡ configurationOf a (storeAll a empty (acceptedEvents a t calls))
+  pub alone-configuration : configurationAfter a t (initialOf a) calls ≡ configurationAt a (storeAll a empty (acceptedEvents a t calls))
   pub accounted : Accounted a t calls
   pub once-winning : OnceWinning a t calls
   pub rivals : AllOf (LongerLoses a t) (moments a t (initialOf a) calls)

@@ -5,7 +5,8 @@ use mathlib.Core.Bool.{Bool, true, false, cond, not}
 use mathlib.Core.List.{List, [], _∷_, _++_, append-nil}
 use mathlib.Core.Logic.{inl}
 use native.Mathlib.Omega.{arith}
-use lib.ListN.{length, length-replicate, List·getD-append}
+use lib.ListN.{length, getD, length-replicate, List·getD-append}
+use Rattle.base.proofs.Bools.{clash}
 use Rattle.base.specs.Each.{each, count, those, lastOr}
 use Rattle.base.specs.Rows.{first}
 use Rattle.base.specs.Pad.{pad}
@@ -42,13 +43,14 @@ use Rattle.claims.proofs.Driven.{driven-out}
 use Rattle.claims.proofs.Said.{once-winning-said}
 use Rattle.claims.proofs.Answers.{flag-is-status, flag-stays, others-ignored}
 use Rattle.layout.proofs.Trips.{automaton-kept, automaton-bytes-kept, configuration-kept, configuration-bytes-kept, number-kept, refused-event-keeps, refused-run-keeps}
-use Rattle.layout.proofs.Handing.{event-handed-on, run-handed-on}
-use Rattle.layout.specs.Layout.{part, configurationOf}
+use Rattle.layout.proofs.Handing.{initial-handed-on, event-handed-on, run-handed-on}
+use Rattle.byte_calls.proofs.ByteCalls.{bytes-enforced}
+use Rattle.layout.specs.Layout.{part, automatonBytes, configurationOf}
 use Rattle.text.specs.Decimal.{ascii}
 use Rattle.notation.proofs.Laws.{never-longer, room-in-text, read-small, cases-read}
 use Rattle.listing.proofs.Trips.{line-reads-back, packs-shortest, line-bounded, packed-reads-back, cases-unpacked}
 use Rattle.transcript.proofs.Cases.{long-refused}
-use Rattle.instances.specs.Instances.{filled, paddedV, bytesPadded, tableW, calls, second, eager, Encodings, Solving, Judging, Enforcing, Layouts, textV, Texts}
+use Rattle.instances.proofs.Statements.{filled, paddedV, bytesPadded, tableW, calls, second, eager, Encodings, Solving, Judging, Enforcing, Layouts, textV, Texts}
 
 valid-w : valid automatonW ≡ true
 valid-w = read-is-valid bytesW automatonW (marked-cases .1 .0)
@@ -126,6 +128,14 @@ inside-w : has (sets automatonW (2 ∷ 3 ∷ []) .winning) 0 ≡ true
 unfolding each count has mask acceptingSet admits stays refine settle settled setsOf emptySets into sets accepts step controllable automatonW pad
 inside-w = refl
 
+in-table : has (getD (solvedTable automatonW (filled 16 9)) (2 * index automatonW (2 ∷ 3 ∷ [])) 0) 0 ≡ true
+unfolding has index value rank shorter controllables controllableIn controllable count automatonW pad
+in-table = rw table-w refl
+
+not-in-table : has (getD (solvedTable automatonW (filled 16 9)) (2 * index automatonW (2 ∷ 3 ∷ [])) 0) 2 ≡ false
+unfolding has index value rank shorter controllables controllableIn controllable count automatonW pad
+not-in-table = rw table-w refl
+
 pub solving : Solving
 unfolding automatonV automatonW
 solving =
@@ -145,10 +155,10 @@ solving =
           (table-is-solved automatonW valid-w .0, table-is-solved automatonW valid-w .1 (9 ∷ 9 ∷ []));
       left = table-w;
       leaves-solved = solved-w;
-      solves-definition6 =
-          rw table-w at (solves-definition6 automatonW (filled 16 9) solves-w
-          (Rattle.sets.specs.Claims.Winning automatonW) (Rattle.sets.specs.Claims.Intermediate automatonW) (satisfy-definition6 automatonW valid-w)
-          (2 ∷ 3 ∷ []) buffer-w 0 (omega arith) .0 .0);
+      solves-definition6 = λ S I d. (
+        solves-definition6 automatonW (filled 16 9) solves-w S I d (2 ∷ 3 ∷ []) buffer-w 0 (omega arith) .0 .1 in-table,
+        λ x. clash (solves-definition6 automatonW (filled 16 9) solves-w S I d (2 ∷ 3 ∷ []) buffer-w 2 (omega arith) .0 .0 x) not-in-table,
+      );
     }
 
 allowed : gameRefusal automatonW (configuration 1 (2 ∷ [])) ≡ 0
@@ -293,8 +303,12 @@ layouts =
       configuration-bytes-kept = configuration-bytes-kept (filled 8 7) refl;
       number-kept = number-kept 8 60001 (omega arith);
       refused-event-keeps = refused-event-keeps automatonW tableW (filled 8 0) 4 refl (λ h. omega (arith, refused-14));
+      initial-handed-on = initial-handed-on automatonW;
       event-handed-on = event-handed-on automatonW tableW (filled 8 0) 0 refl;
       run-handed-on = run-handed-on automatonW tableW (filled 8 0) (0 ∷ 2 ∷ []) (filled 2 9) refl;
+      bytes-enforced = λ xs.
+          bytes-enforced (automatonBytes automatonW) tableW (rw (automaton-kept automatonW shaped-w) valid-w) (rw (automaton-kept automatonW shaped-w) solved-w)
+          xs .1;
       refused-run-keeps = refused-run-keeps automatonW tableW (filled 8 0) (0 ∷ []) [] refl (λ h. omega (arith, refused-16));
     }
 

@@ -28,7 +28,7 @@ use Rattle.layout.specs.Claims.{InitialHandedOn, EventHandedOn, RunHande
 use Rattle.layout.proofs.Trips.{configuration-kept}
 
 -- a configuration that was taken out of bytes has six places
-six-places : (bytes : List ℕ) → length bytes ≡ 8 → length (configurationOf bytes .buffer) ≡ 6
+pub six-places : (bytes : List ℕ) → length bytes ≡ 8 → length (configurationOf bytes .buffer) ≡ 6
 unfolding configurationOf part
 six-places bytes long = length-take-le 6 (drop 2 bytes) (rw (length-drop 2 bytes) (omega arith))
 
@@ -46,7 +46,7 @@ module _ (a : Automaton) (t : List ℕ) (c : Configuration) where
       record { state-below = p .state-below; buffer = held-buffer a c p }
 
   -- the buffer of what is handed back
-  event-places : (e : ℕ) → length (c .buffer) ≡ 6 → length (received a t c e .configuration .buffer) ≡ 6
+  pub event-places : (e : ℕ) → length (c .buffer) ≡ 6 → length (received a t c e .configuration .buffer) ≡ 6
   unfolding received receiveRefusal eventRefusal
   event-places e long =
       by (eqb (receiveRefusal a t c e) 0)
@@ -59,7 +59,7 @@ module _ (a : Automaton) (t : List ℕ) (c : Configuration) where
       rw h (configuration-consistent a (valid-facts a v) _ _ (o .state-below) (o .buffer) .buffer-length))
       (λ h. rw h long)
 
-  run-places : (events out : List ℕ) → length (c .buffer) ≡ 6 → length (ran a t c events out .configuration .buffer) ≡ 6
+  pub run-places : (events out : List ℕ) → length (c .buffer) ≡ 6 → length (ran a t c events out .configuration .buffer) ≡ 6
   unfolding ran runRefusal
   run-places events out long =
       by (eqb (runRefusal a t c events out) 0)

@@ -14,7 +14,7 @@ use Rattle.sets.specs.Sets.{sets}
 use Rattle.sets.specs.Definition6.{States, Definition6}
 use Rattle.sets.specs.Table.{index, buffersCount, Buffer, table, Solved}
 use Rattle.sets.specs.Claims.{Winning, Intermediate, Resting}
-use Rattle.configuration.specs.Configuration.{configuration, initialOf}
+use Rattle.configuration.specs.Configuration.{configuration, initialOf, initialAnswer}
 use Rattle.winning.specs.Solving.{solvedTable}
 use Rattle.game.specs.Game.{mayRest, canRest, verdict}
 use Rattle.game.specs.Claims.{Questions}
@@ -68,8 +68,8 @@ pub record Solving : Type 1 where
   pub table-is-solved : (length (table automatonW) ≡ 2 * buffersCount automatonW) × Solved automatonW (table automatonW ++ 9 ∷ 9 ∷ [])
   pub left : solvedTable automatonW (filled 16 9) ≡ tableW
   pub leaves-solved : Solved automatonW tableW
-  -- by Definition 6 itself the bit of state 0 is set where Page and Receipt are held
-  pub solves-definition6 : Winning automatonW (2 ∷ 3 ∷ []) 0 → has (getD tableW (2 * index automatonW (2 ∷ 3 ∷ [])) 0) 0 ≡ true
+  -- by Definition 6 itself: with Page and Receipt held W may rest in state 0, and not in state 2
+  pub solves-definition6 : (S I : List ℕ → States) → Definition6 automatonW S I → S (2 ∷ 3 ∷ []) 0 × (S (2 ∷ 3 ∷ []) 2 → ⊥)
 
 -- the second judge
 pub record Judging : Type 0 where
@@ -117,10 +117,13 @@ pub record Layouts : Type 0 where
   pub refused-event-keeps : configurationBytes (received automatonW tableW (configurationOf (filled 8 0)) 4 .configuration) ≡ filled 8 0
   -- a day of one event with no room
   pub refused-run-keeps : configurationBytes (ran automatonW tableW (configurationOf (filled 8 0)) (0 ∷ []) [] .configuration) ≡ filled 8 0
+  pub initial-handed-on : configurationOf (configurationBytes (initialAnswer automatonW .configuration)) ≡ initialAnswer automatonW .configuration
   pub event-handed-on : configurationOf (configurationBytes (received automatonW tableW (configurationOf (filled 8 0)) 0 .configuration))
       ≡ received automatonW tableW (configurationOf (filled 8 0)) 0 .configuration
   pub run-handed-on : configurationOf (configurationBytes (ran automatonW tableW (configurationOf (filled 8 0)) (0 ∷ 2 ∷ []) (filled 2 9) .configuration))
       ≡ ran automatonW tableW (configurationOf (filled 8 0)) (0 ∷ 2 ∷ []) (filled 2 9) .configuration
+  -- W's record in its bytes, and any calls through the interface
+  pub bytes-enforced : (xs : List Call) → Enforced (automatonOf (automatonBytes automatonW)) tableW xs
 
 -- V as text
 abbrev pub textV : List ℕ
