@@ -89,7 +89,8 @@ enum {
     JAXHOPHASI_BYTES_LEFT = 10,          /* read: bytes after the sheet */
     JAXHOPHASI_BAD_AUTOMATON = 11,       /* a record that breaks 3 to 9, or a nonzero unused place */
     JAXHOPHASI_SHORT_TABLE = 12,         /* solve, winning, receive, run: table shorter than 2 T */
-    JAXHOPHASI_BAD_CONFIGURATION = 13,   /* winning, receive, run: no state of this sheet, or a nonzero unused place */
+    JAXHOPHASI_BAD_CONFIGURATION = 13,   /* winning, receive, run: state not below n, over B held, a held event that is
+                                            no controllable kind, or a nonzero unused place */
     JAXHOPHASI_BAD_EVENT = 14,           /* receive: event not below m (a day passes over it and counts it) */
     JAXHOPHASI_BUFFER_FULL = 15,         /* receive: controllable event, hold full (a day passes over it and counts it) */
     JAXHOPHASI_SHORT_OUTPUT = 16         /* write: buffer too short; run: output shorter than events plus held */

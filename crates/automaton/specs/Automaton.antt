@@ -1,4 +1,4 @@
--- The property automaton (document 01's sheet) as its record has it, and row 11.
+-- The property automaton (document 01, "The sheet") as its record has it, and row 11 ("Numbers of refusal").
 use Prim.Native.Nat.{ℕ, _+_}
 use mathlib.Core.Bool.{Bool, not, _&&_}
 use mathlib.Core.List.{List, [], _∷_}

@@ -105,7 +105,7 @@ fn solver_agrees(s: &[u8], first: u8, last: u8) -> bool {
     let a = decoder::read(s).automaton;
     let buffers = winning::buffers_count(a).count;
     let mut table = [0u32; 32];
-    if solver::solve(a, &mut table).refusal != 0 {
+    if solving::solve(a, &mut table).refusal != 0 {
         return false;
     }
     all_agree(a, &table, buffers as usize, first, last)

@@ -25,7 +25,7 @@ fn show_solution(s: Solution) {
 // What solving into a lent table gives, and the table afterwards.
 fn solved(label: &[u8], a: Automaton, table: &mut [u32]) {
     let c = winning::buffers_count(a);
-    let s = solver::solve(a, table);
+    let s = solving::solve(a, table);
     text(label);
     field(b": ", c.count as usize);
     show_solution(s);
@@ -50,7 +50,7 @@ fn solve(label: &[u8], a: Automaton, table: &mut [u32], places: usize, shown: bo
     if shown {
         solved(label, a, &mut table[..places]);
     } else {
-        solver::solve(a, &mut table[..places]);
+        solving::solve(a, &mut table[..places]);
     }
     places
 }

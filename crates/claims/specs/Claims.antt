@@ -1,4 +1,4 @@
--- Demand 3.
+-- Demand 3, as document 01 has it under "One event".
 use Prim.Native.Nat.{ℕ, _<_}
 use mathlib.Core.Path.{_≡_}
 use mathlib.Core.Bool.{Bool, true, false}

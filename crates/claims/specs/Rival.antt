@@ -1,4 +1,4 @@
--- A rival (document 01): another monitor with the same past that goes on by a rule of its own.
+-- A rival (document 01, "One event"): another monitor with the same past that goes on by a rule of its own.
 use Prim.Native.Nat.{ℕ, suc, _*_, _≤_}
 use mathlib.Core.Path.{_≡_}
 use mathlib.Core.Bool.{Bool, false}

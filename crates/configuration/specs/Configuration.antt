@@ -1,4 +1,4 @@
--- The configuration (document 01's carried state): a state and the buffer of held events; and row 13.
+-- The configuration (document 01, "One event": the carried state): a state and the buffer of held events; and row 13.
 use Prim.Native.Nat.{ℕ}
 use mathlib.Core.Bool.{Bool, cond, _&&_}
 use mathlib.Core.List.{List, []}

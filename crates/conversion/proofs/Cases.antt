@@ -18,8 +18,4 @@ cases-written =
     record {
       packs = (refl, refl);
       no-number = (refl, refl);
-      too-large = (refl, refl);
-      long-token = (refl, refl);
-      unpacks = (refl, refl);
-      unfinished = (refl, refl);
     }

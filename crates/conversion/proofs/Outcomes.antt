@@ -8,7 +8,7 @@ use borrow.Author.Tests.{lt-ltb, le-ltb, le-leb}
 use Rattle.varint.specs.Claims.{AreBytes}
 use Rattle.text.specs.Decimal.{ascii, Appended}
 use Rattle.text.proofs.Appending.{nothing}
-use Rattle.lines.specs.Lines.{faultLine}
+use Rattle.lines.specs.Lines.{faultLine, refusalLine}
 use Rattle.notation.specs.declared.Packed.{Packed}
 use Rattle.notation.specs.Outcomes.{numbers}
 use Rattle.notation.specs.Packing.{reading, encoded, done, refused, packed, packedBuffer}
@@ -66,7 +66,7 @@ module _ (s : List ℕ) (h : 60000 < length s) where
   unfolding unpackOutput
   unpack-long-output = rw (lt-ltb 60000 (length s) h)
 
-  pub unpack-long-note : ascii "more than 60000 bytes\n" ≡ unpackNote s
+  pub unpack-long-note : refusalLine 18 ≡ unpackNote s
   unfolding unpackNote
   unpack-long-note = rw (lt-ltb 60000 (length s) h)
 

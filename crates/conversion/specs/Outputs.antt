@@ -5,7 +5,7 @@ use mathlib.Core.List.{List, []}
 use lib.ListN.{length}
 use lib.Dec.{ltb}
 use Rattle.text.specs.Decimal.{ascii}
-use Rattle.lines.specs.Lines.{faultLine}
+use Rattle.lines.specs.Lines.{faultLine, refusalLine}
 use Rattle.notation.specs.Outcomes.{numbers, faulty}
 use Rattle.notation.specs.Packing.{Reading, reading, encoded, refused}
 use Rattle.listing.specs.Unpacking.{Decoded, decoded, lineOf}
@@ -31,7 +31,7 @@ faultNote s (faulty x) = message s (refused (x .0) (x .1))
 unfoldable pub packNote : List ℕ → List ℕ
 packNote s = cond (ltb mostText (length s)) (ascii "more than 262144 bytes of text\n") (faultNote s (reading s))
 
--- the program `unpack`: at most so many bytes, as the day program takes
+-- the program `unpack`: at most so many bytes, as the day program takes (row 18)
 abbrev pub mostBytes : ℕ
 mostBytes = 60000
 
@@ -49,4 +49,4 @@ rowNote (numbers vs) = []
 rowNote (faulty x) = faultLine (x .0) (x .1)
 
 unfoldable pub unpackNote : List ℕ → List ℕ
-unpackNote s = cond (ltb mostBytes (length s)) (ascii "more than 60000 bytes\n") (rowNote (decoded s))
+unpackNote s = cond (ltb mostBytes (length s)) (refusalLine 18) (rowNote (decoded s))

@@ -1,6 +1,7 @@
 // The programs' work: all but reading and writing.
 use crate::Output;
 use lines::fault_line;
+use lines::refusal_line;
 use messages::message;
 use text::word;
 ghost use lib.ListN.{length};
@@ -33,7 +34,7 @@ pub fn unpack_input(bytes: &[u8], out: &mut [u8; 240000], note: &mut [u8; 96]) -
     ensures { λ r. ⌜ Appended (now (note .entry)) 0 (unpackNote (now (bytes .entry))) (now (note .exit)) (r .note) ⌝ }
 {
     if 60000 < bytes.len() {
-        let long = word(note, 0, b"more than 60000 bytes\n");
+        let long = refusal_line(note, 0, 18);
         return Output {
             bytes: 0,
             note: long,

@@ -72,7 +72,7 @@ pub extern "C" fn jaxhophasi_solve(
     ensures { λ r. let a = automatonOf (now (automaton .entry)) in let x = solution a (now (table .entry)) in
         ⌜ (r ≡ x .refusal) × (now (table .exit) ≡ solvedTable a (now (table .entry))) × (now (rounds .exit) ≡ numberBytes 8 (x .rounds)) ⌝ }
 {
-    let solution = solver::solve(automaton_of(automaton), table);
+    let solution = solving::solve(automaton_of(automaton), table);
     *rounds = number_bytes(solution.rounds as usize);
     solution.refusal
 }

@@ -1,11 +1,11 @@
--- Writing a sheet: its numbers in their order, each in the fewest bytes.
+-- Writing a sheet: its numbers in their order, each in the fewest bytes (document 01, "The sheet"; rows 11 and 16).
 use Prim.Native.Nat.{ℕ, zero, suc, _*_}
 use mathlib.Core.Bool.{cond, not}
 use mathlib.Core.List.{List, [], _∷_, _++_}
 use lib.ListN.{length, take, drop}
 use lib.Dec.{eqb, ltb}
 use Rattle.base.specs.Rows.{first}
-use Rattle.varint.specs.Varint.{bytes}
+unfoldable pub use Rattle.varint.specs.Varint.{encoded}
 use Rattle.automaton.specs.declared.Automaton.{Automaton}
 use Rattle.automaton.specs.Automaton.{valid}
 pub use Rattle.encoding.specs.declared.Written.{Written}
@@ -22,11 +22,6 @@ recordNumbers a =
     (take (a .symbols) (a .classes) ++
     (take (a .states) (a .accepting) ++
     nextNumbers (a .next) (a .symbols) (a .states)))
-
--- numbers as bytes
-unfoldable pub encoded : List ℕ → List ℕ
-encoded [] = []
-encoded (v ∷ vs) = bytes v ++ encoded vs
 
 unfoldable pub recordBytes : Automaton → List ℕ
 recordBytes a = encoded (recordNumbers a)

@@ -1,4 +1,4 @@
--- The game (document 01's second judge): two questions that put each other.
+-- The game (document 01, "Where it may rest": the second judge): two questions that put each other.
 use Prim.Native.Nat.{ℕ, zero, suc}
 use mathlib.Core.Bool.{Bool, false, cond, not, _&&_, _||_}
 use mathlib.Core.List.{List, [], _∷_}

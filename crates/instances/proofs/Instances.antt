@@ -327,7 +327,7 @@ zeros = rw (length-replicate {A = ℕ} 60001 0) (omega arith)
 
 pub texts : Texts
 texts =
-    let said = cases-read .sheet in
+    let said = cases-read .automaton in
     let read = cases-unpacked .padded in
     record {
       never-longer = never-longer textV bytesV said;

@@ -1,4 +1,4 @@
--- Each claim at document 01's sheet V or W, or on bytes of theirs, with no hypothesis left.
+-- Each claim at document 01's sheet V or W, or on bytes of theirs, with its hypotheses met.
 use Prim.Native.Nat.{ℕ, _+_, _*_, _<_, _≤_, _^_}
 use mathlib.Core.Path.{_≡_}
 use mathlib.Core.Bool.{Bool, true, false, _||_}

@@ -272,4 +272,4 @@ packed-reads-back t vs h =
 
 pub cases-unpacked : CasesUnpacked
 unfolding ascii decimal digits digit mark lineOf groups read before decodedFrom decoded
-cases-unpacked = record { line = refl; none = refl; padded = refl; unfinished = refl; four-groups = refl }
+cases-unpacked = record { line = refl; padded = refl }

@@ -27,7 +27,4 @@ LineBounded = (s vs : List ℕ) → AreBytes s → decoded s ≡ numbers vs → 
 
 pub record CasesUnpacked : Type 0 where
   pub line : lineOf (3 ∷ 0 ∷ 128 ∷ []) ≡ ascii "3 0 128\n"
-  pub none : lineOf [] ≡ []
   pub padded : decoded (128 ∷ 0 ∷ 7 ∷ []) ≡ numbers (0 ∷ 7 ∷ [])
-  pub unfinished : decoded (1 ∷ 128 ∷ []) ≡ faulty (1, 1)
-  pub four-groups : decoded (1 ∷ 2 ∷ 128 ∷ 128 ∷ 128 ∷ []) ≡ faulty (2, 2)

@@ -1,4 +1,5 @@
--- What the monitor's calls answer, for any record, table and configuration, and what a run leaves in its lent output.
+-- What the monitor's calls answer, for any record, table and configuration, and what a run leaves in its lent output (document 01,
+-- "One event" and "Numbers of refusal").
 use Prim.Native.Nat.{ℕ, _+_}
 use mathlib.Core.Bool.{Bool, false, cond, not}
 use mathlib.Core.List.{List, [], _∷_, _++_}

@@ -74,13 +74,7 @@ pub cases-read : CasesRead
 unfolding ascii separator ends comment newlines beginning run tokenAt bytesOf isDigit allDigits valueFrom wordFrom wordOf sound before readingFrom reading packed refused
 cases-read =
     record {
-      sheet = refl;
-      nothing = refl;
-      only-comment = refl;
+      automaton = refl;
       comments = refl;
-      leading-zeros = refl;
-      largest-number = refl;
-      one-more = refl;
-      no-number = refl;
       first-stands = refl;
     }

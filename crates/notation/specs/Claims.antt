@@ -33,12 +33,6 @@ Refused text f line from to = packed (reading (ascii text)) [] ≡ record { faul
 
 pub record CasesRead : Type 0 where
   -- document 01's sheet V
-  pub sheet : Says "3 2 1 0, 0 1, 1 0 1, 1 0, 1 2, 2 2" (3 ∷ 2 ∷ 1 ∷ 0 ∷ 0 ∷ 1 ∷ 1 ∷ 0 ∷ 1 ∷ 1 ∷ 0 ∷ 1 ∷ 2 ∷ 2 ∷ 2 ∷ [])
-  pub nothing : Says "" []
-  pub only-comment : Says "  # 1 2" []
+  pub automaton : Says "3 2 1 0, 0 1, 1 0 1, 1 0, 1 2, 2 2" (3 ∷ 2 ∷ 1 ∷ 0 ∷ 0 ∷ 1 ∷ 1 ∷ 0 ∷ 1 ∷ 1 ∷ 0 ∷ 1 ∷ 2 ∷ 2 ∷ 2 ∷ [])
   pub comments : Says "# 7\n1# 2, 3\r\n\t4 #\n" (1 ∷ 4 ∷ [])
-  pub leading-zeros : Says "007" (7 ∷ [])
-  pub largest-number : Says "2097151" (2097151 ∷ [])
-  pub one-more : Refused "2097152" TooLarge 1 0 7
-  pub no-number : Refused "1 2\n# x\n3 x7, 4" NotNumber 3 10 12
   pub first-stands : Refused "1,-2\n99999999999" NotNumber 1 2 4

@@ -4,7 +4,7 @@ use mathlib.Core.Bool.{Bool, true, false, cond}
 use mathlib.Core.List.{List, [], _∷_, _++_}
 use lib.ListN.{length}
 use lib.Dec.{ltb, leb}
-use Rattle.varint.specs.Varint.{bytes}
+unfoldable pub use Rattle.varint.specs.Varint.{encoded}
 use Rattle.notation.specs.Outcomes.{Outcome, numbers, faulty, before, placed}
 use Rattle.notation.specs.Tokens.{Token, tokenAt, bytesOf}
 use Rattle.notation.specs.Words.{Fault, wordOf}
@@ -36,11 +36,6 @@ readingFrom (suc k) s lines at =
 -- what a text says
 unfoldable pub reading : List ℕ → Reading
 reading s = readingFrom (suc (length s)) s 0 0
-
--- numbers in seven-bit groups
-unfoldable pub encoded : List ℕ → List ℕ
-encoded [] = []
-encoded (v ∷ vs) = bytes v ++ encoded vs
 
 -- answers: so many bytes; no room; a fault at a token, whose line is counted from 1
 unfoldable pub done : ℕ → Packed

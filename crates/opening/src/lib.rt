@@ -46,7 +46,7 @@ fn opened(a: Automaton, place: usize, table: &mut [u32; 16384]) -> Progress
     ensures { λ r. ⌜ (r ≡ opened a place) × (now (table .exit) ≡ solvedTable a (now (table .entry))) ⌝ }
     ensures { λ _. ⌜ length (now (table .entry)) ≡ 16384 ⌝ }
 {
-    let solution = solver::solve(a, table);
+    let solution = solving::solve(a, table);
     if solution.refusal != 0 {
         return without(Phase::Refused(12));
     }

@@ -23,7 +23,7 @@ use Rattle.winning.specs.Solving.{solveRefusal, solution, solvedTable}
 use Rattle.configuration.specs.declared.Start.{Start}
 use Rattle.configuration.specs.Configuration.{initialAnswer}
 use Rattle.lines.specs.Lines.{faultLine, refusalLine}
-use Rattle.transcript.specs.Transcript.{Run, automatonAt, opening, runFrom, runLines, tooLong, tooLarge, transcript}
+use Rattle.transcript.specs.Transcript.{Run, automatonAt, opening, runFrom, runLines, tooLong, overPlaces, transcript}
 use Rattle.transcript.specs.Pieces.{Progress, belongs, at, inPhase, toCome, tableAfter, without, opened}
 use Rattle.transcript.specs.declared.Phase.the-variants.{Ended, Refused, Faulted, Opening, Running}
 use Rattle.transcript.proofs.Runs.{belongs-of}
@@ -32,18 +32,18 @@ use Rattle.transcript.proofs.Parsing.{Sound, parse-sound}
 
 -- solving into a table of 16,384 places
 module _ (a : Automaton) (v : valid a ≡ true) (t : List ℕ) (long : length t ≡ 16384) where
-  large : short a t ≡ tooLarge a
-  unfolding short tooLarge
+  large : short a t ≡ overPlaces a
+  unfolding short overPlaces
   large = rw long
 
-  refusal : solveRefusal a t ≡ cond (tooLarge a) 12 0
+  refusal : solveRefusal a t ≡ cond (overPlaces a) 12 0
   unfolding solveRefusal first
   refusal = rw (v, large)
 
-  solution-refusal : (r : Solution) → r ≡ solution a t → r .refusal ≡ cond (tooLarge a) 12 0
+  solution-refusal : (r : Solution) → r ≡ solution a t → r .refusal ≡ cond (overPlaces a) 12 0
   unfolding solution
   solution-refusal r e =
-      by (tooLarge a)
+      by (overPlaces a)
       (λ l. let n : solveRefusal a t ≡ 12 = refusal ∙ rw l in rw (l, e, n))
       (λ l. let n : solveRefusal a t ≡ 0 = refusal ∙ rw l in rw (l, e, n))
 
@@ -51,22 +51,22 @@ module _ (a : Automaton) (v : valid a ≡ true) (t : List ℕ) (long : length t 
     pub open-refused : (r .refusal ≡ 0 → ⊥) → without (Refused 12) ≡ opened a place
     unfolding opened
     open-refused z =
-        by (tooLarge a) (λ l. rw l) (λ l. absurd (z (solution-refusal r e ∙ rw l)))
+        by (overPlaces a) (λ l. rw l) (λ l. absurd (z (solution-refusal r e ∙ rw l)))
 
     pub open-solved : r .refusal ≡ 0 → (start : Start) → start ≡ initialAnswer a
         → at Opening (record { automaton = a; configuration = start .configuration; place = place; accepted = 0; refused = 0 }) ≡ opened a place
     unfolding opened runFrom initialAnswer
     open-solved z start f =
-        by (tooLarge a)
+        by (overPlaces a)
         (λ l. absurd (let n : r .refusal ≡ 12 = solution-refusal r e ∙ rw l in omega arith))
         (λ l. rw (l, f, v))
 
   -- what is to come then, over the solved table
   pub opened-comes : (s : List ℕ) (place : ℕ) → place ≤ length s
-      → toCome (solvedTable a t) s (opened a place) ≡ cond (tooLarge a) (refusalLine 12) (runLines (table a) s (runFrom a place))
+      → toCome (solvedTable a t) s (opened a place) ≡ cond (overPlaces a) (refusalLine 12) (runLines (table a) s (runFrom a place))
   unfolding opened without toCome inPhase solvedTable runFrom
   opened-comes s place h =
-      by (tooLarge a)
+      by (overPlaces a)
       (λ l. rw l)
       (λ l.
       let n : solveRefusal a t ≡ 0 = refusal ∙ rw l in

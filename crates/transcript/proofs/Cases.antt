@@ -19,12 +19,12 @@ use Rattle.monitor.specs.Answers.{callRows, isWinning, callRefusal, status, rec
 use Rattle.text.specs.Decimal.{ascii, digit, digits, decimal}
 use Rattle.lines.specs.Lines.{refusedEventLine, endLine, faultLine, refusalLine}
 use Rattle.status_lines.specs.StatusLines.{winningEnd, automatonLine, spaced, emission, eventLine}
-use Rattle.transcript.specs.Transcript.{automatonAt, opening, runFrom, firstLine, answerLine, after, eventLines, runLines, tooLong, tooLarge, transcript}
+use Rattle.transcript.specs.Transcript.{automatonAt, opening, runFrom, firstLine, answerLine, after, eventLines, runLines, tooLong, overPlaces, transcript}
 use Rattle.transcript.specs.Claims.{v, large, lines, CasesPrinted, LongRefused}
 
 -- every definition that the transcript rests on
 unfoldable all : ℕ
-unfolding each count those lastOr has mask pad first groups read controllableIn stands placesStand controllable controllables accepts step run shaped ranged classesStand flagsStand nextStand valid checked between itemRow numbers runs one many tables automatonFrom parse acceptingSet admits stays refine settle settled setsOf emptySets into sets rank value shorter index buffersCount short extended buffersAt buffersTo pairs table heldEvents controllableSymbol placeStands bufferStands consistentIn initialOf byTable qualifies qualifying release remaining arrival effect eventRows callRows isWinning callRefusal status receiveRefusal received ascii digit digits decimal spaced emission eventLine refusedEventLine endLine faultLine refusalLine opening runFrom firstLine answerLine after eventLines runLines tooLong tooLarge transcript v large lines winningEnd automatonLine automatonAt
+unfolding each count those lastOr has mask pad first groups read controllableIn stands placesStand controllable controllables accepts step run shaped ranged classesStand flagsStand nextStand valid checked between itemRow numbers runs one many tables automatonFrom parse acceptingSet admits stays refine settle settled setsOf emptySets into sets rank value shorter index buffersCount short extended buffersAt buffersTo pairs table heldEvents controllableSymbol placeStands bufferStands consistentIn initialOf byTable qualifies qualifying release remaining arrival effect eventRows callRows isWinning callRefusal status receiveRefusal received ascii digit digits decimal spaced emission eventLine refusedEventLine endLine faultLine refusalLine opening runFrom firstLine answerLine after eventLines runLines tooLong overPlaces transcript v large lines winningEnd automatonLine automatonAt
 all = 0
 
 pub cases-printed : CasesPrinted
@@ -34,12 +34,7 @@ cases-printed =
       sample = refl;
       row-15 = refl;
       event-unfinished = refl;
-      no-bytes = refl;
-      length-too-long = refl;
-      empty-automaton = refl;
       padded-length = refl;
-      fewer-than-length = refl;
-      automaton-unfinished = refl;
       too-large = refl;
     }
 

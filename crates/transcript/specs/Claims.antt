@@ -35,12 +35,7 @@ pub record CasesPrinted : Type 0 where
   pub sample : Prints (v ++ 1 ∷ 0 ∷ []) (vLine ∷ answerHeld ∷ "in 0 out 0 1 state 2 held 0 guarded yes" ∷ "end 2 0" ∷ [])
   pub row-15 : Prints (v ++ 1 ∷ 1 ∷ []) (vLine ∷ answerHeld ∷ "in 1 refused 15" ∷ "end 1 1" ∷ [])
   pub event-unfinished : Prints (v ++ 2 ∷ 128 ∷ []) (vLine ∷ "in 2 refused 14" ∷ "refused 1 at 17" ∷ [])
-  pub no-bytes : Prints [] ("refused 1 at 0" ∷ [])
-  pub length-too-long : Prints (128 ∷ 128 ∷ 128 ∷ []) ("refused 2 at 0" ∷ [])
-  pub empty-automaton : Prints (0 ∷ []) ("refused 1 at 1" ∷ [])
   pub padded-length : Prints (129 ∷ 0 ∷ 33 ∷ []) ("refused 3 at 2" ∷ [])
-  pub fewer-than-length : Prints (100 ∷ 33 ∷ []) ("refused 1 at 1" ∷ [])
-  pub automaton-unfinished : Prints (2 ∷ 3 ∷ 2 ∷ 1 ∷ []) ("refused 1 at 3" ∷ [])
   pub too-large : Prints (large ++ 128 ∷ []) ("refused 12" ∷ [])
 
 -- an input of more than 60,000 bytes

@@ -10,7 +10,7 @@ use Rattle.encoding.specs.Reading.{blank}
 use Rattle.winning.specs.Solving.{solvedTable}
 use Rattle.text.specs.Decimal.{Appended}
 use Rattle.lines.specs.Lines.{faultLine, refusalLine}
-use Rattle.transcript.specs.Transcript.{Run, opening, eventLines, runLines, tooLong, tooLarge, runFrom}
+use Rattle.transcript.specs.Transcript.{Run, opening, eventLines, runLines, tooLong, overPlaces, runFrom}
 pub use Rattle.transcript.specs.declared.Progress.{Progress}
 pub use Rattle.transcript.specs.declared.Phase.{Phase}
 use Rattle.transcript.specs.declared.Phase.the-variants.{Ended, Refused, Faulted, Opening, Running}
@@ -45,7 +45,7 @@ without phase = at phase (runFrom blank 0)
 
 -- what comes after a sheet whose events begin at a place
 unfoldable pub opened : Automaton → ℕ → Progress
-opened a place = cond (tooLarge a) (without (Refused 12)) (at Opening (runFrom a place))
+opened a place = cond (overPlaces a) (without (Refused 12)) (at Opening (runFrom a place))
 
 -- what was written in a lent buffer from a place on, followed by what is still to come, is what was to come before
 pub record Continued (t s : List ℕ) (before : Progress) (out : List ℕ) (from : ℕ) (out′ : List ℕ) (after : Progress) (next : ℕ) : Type 0 where

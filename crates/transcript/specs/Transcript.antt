@@ -84,8 +84,8 @@ unfoldable pub tooLong : List ℕ → Bool
 tooLong s = ltb 60000 (length s)
 
 -- row 12: 2T is over the number of places that the program has
-unfoldable pub tooLarge : Automaton → Bool
-tooLarge a = ltb 16384 (2 * buffersCount a)
+unfoldable pub overPlaces : Automaton → Bool
+overPlaces a = ltb 16384 (2 * buffersCount a)
 
 unfoldable pub transcript : List ℕ → List ℕ
 transcript s =
@@ -93,7 +93,7 @@ transcript s =
     cond (tooLong s)
     (refusalLine 18)
     (cond (eqb (p .refusal) 0)
-    (cond (tooLarge (p .automaton))
+    (cond (overPlaces (p .automaton))
     (refusalLine 12)
     (runLines (table (p .automaton)) s (runFrom (p .automaton) (p .place))))
     (faultLine (p .refusal) (p .place)))

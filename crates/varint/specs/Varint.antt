@@ -1,4 +1,5 @@
--- Numbers in one to three groups of seven bits, the low group first, the top bit set on all bytes but the last.
+-- Numbers in one to three groups of seven bits, the low group first, the top bit set on all bytes but the last (document 01, "The
+-- sheet").
 use Prim.Native.Nat.{ℕ, zero, suc, _+_, _-_, _*_, _/_, _%_}
 use mathlib.Core.Bool.{Bool, cond, _&&_}
 use mathlib.Core.List.{List, [], _∷_, _++_}
@@ -36,6 +37,11 @@ encode (suc k) v = cond (ltb v 128) (v ∷ []) ((v % 128 + 128) ∷ encode k (v 
 
 unfoldable pub bytes : ℕ → List ℕ
 bytes v = encode 3 v
+
+-- numbers one after the other
+unfoldable pub encoded : List ℕ → List ℕ
+encoded [] = []
+encoded (v ∷ vs) = bytes v ++ encoded vs
 
 -- v is a number of three groups at most, and there is room for its bytes
 unfoldable pub fits : List ℕ → ℕ → Bool

@@ -1,5 +1,5 @@
 // The winning sets: what solving and counting answer is defined in specs/, and what holds of it is proved here. The buffers are
-// counted here; the crate `solver` writes the sets into a lent table.
+// counted here; the crate `solving` writes the sets into a lent table.
 use automaton::Automaton;
 use automaton::controllable_in;
 use automaton::valid;

@@ -7,7 +7,7 @@ use Rattle.cases.proofs.solver.solve.Tie as tie
 use Rattle.cases.proofs.solver.solve.Reads as reads
 use Rattle.cases.proofs.solver.solve.Lts as lts
 use Rattle.cases.proofs.solver.solved.Reads as solved-reads
-use Rattle.solver.proofs.solve.Reads as solve-reads
+use Rattle.solving.proofs.solve.Reads as solve-reads
 
 -- src/solver.rt:43:9
 returns : tie.Need-returns

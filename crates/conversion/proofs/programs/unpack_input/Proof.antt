@@ -1,21 +1,16 @@
 use lib.ListN.{length}
 use mathlib.Core.Path.{_≡_, sym}
-use Rattle.text.specs.Decimal.{ascii}
 use Rattle.text.proofs.Appending.{nothing, said}
 use Rattle.conversion.proofs.Outcomes.{unpack-long-output, unpack-long-note, unpack-note, unpack-no-note, unpack-stored}
 use borrow.Author.Needs.{needs}
 use Rattle.conversion.proofs.programs.unpack_input.Statement.{statement}
 use Rattle.conversion.proofs.programs.unpack_input.Tie as tie
 
-slice-aggregate-word : tie.Need-slice-aggregate-word
-slice-aggregate-word c = search needs
-
-word-requires : tie.Need-word-requires
-word-requires c κs = search needs
+refusal-line-requires : tie.Need-refusal-line-requires
+refusal-line-requires c κs = search needs
 
 returns : tie.Need-returns
-unfolding ascii
-returns c = (said (sym (unpack-long-output _ (c .before .before .before .if1 .taken))) (nothing _), said (unpack-long-note _ (c .before .before .before .if1 .taken)) (c .word .ensures))
+returns c = (said (sym (unpack-long-output _ (c .before .before .if1 .taken))) (nothing _), said (unpack-long-note _ (c .before .before .if1 .taken)) (c .refusal-line .ensures))
 
 unpack-requires : tie.Need-unpack-requires
 unpack-requires c κs = search needs
@@ -33,8 +28,7 @@ pub unpack-input-spec : {M : Type 1} → statement M
 unpack-input-spec =
     tie.close
     (tie.spec
-    slice-aggregate-word
-    word-requires
+    refusal-line-requires
     returns
     unpack-requires
     fault-line-requires

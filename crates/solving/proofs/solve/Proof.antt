@@ -1,8 +1,8 @@
 use Rattle.winning.proofs.Answers.{refused-count, given-count, solve-invalid, solve-short, solve-done}
 use native.Mathlib.Omega.{arith}
 use borrow.Author.Needs.{needs}
-use Rattle.solver.proofs.solve.Statement.{statement}
-use Rattle.solver.proofs.solve.Tie as tie
+use Rattle.solving.proofs.solve.Statement.{statement}
+use Rattle.solving.proofs.solve.Tie as tie
 
 buffers-count-requires : tie.Need-buffers-count-requires
 buffers-count-requires c κs = search needs
