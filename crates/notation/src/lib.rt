@@ -1,5 +1,6 @@
 // Numbers as text: decimal numbers with separators and comments between them, and the same numbers in seven-bit groups. The
-// notation is defined in specs/, and what holds of it is proved here. The crate `tokens` reads a text, `packing` packs it.
+// notation is defined in specs/, and what holds of it is proved here. The crate `tokens` finds the tokens of a text, `words` reads
+// one, `packing` packs the text.
 
 // A place of a text, and how many lines end before it.
 pub struct Place {

@@ -4,7 +4,7 @@ use notation::Item;
 use notation::Packed;
 use notation::Token;
 use tokens::next_token;
-use tokens::read_word;
+use words::read_word;
 ghost use mathlib.Core.Path.{_≡_};
 ghost use Prim.Native.Nat.{_+_, _<_, _≤_};
 ghost use lib.ListN.{length};

@@ -48,19 +48,19 @@ loop-holds : tie.Need-loop-holds Inv-loop μ-loop
 loop-holds c = let s = c .before .before .before .before .before .before .before .before .before .before .before .before .before .before .before .before .before .before in let lent = lent-of _ _ _ _ _ _ _ (s .pre .0) (c .before .before .before .before .before .before .before .before .before .before .before .before .before .before .before .before .size .ensures .0) (c .before .before .before .before .before .before .before .before .before .before .before .before .before .before .before .size2 .ensures .0) (c .before .before .before .before .before .before .before .before .before .before .before .before .before .before .size3 .ensures .0) (c .before .before .before .before .before .before .before .before .before .before .before .controllable-in .ensures) (c .before .before .before .before .before .before .before .before .accepting-states .ensures) (c .before .before .before .before .before .uncontrollable .ensures) in (omega arith, rw (begun-length (s .args .t1) (s .args .table .now) (c .settle .result)) (s .pre .1), lent, length-none (s .args .t1) (s .args .table .now) (c .settle .result) (c .settle .ensures ∙ lent-settled _ _ _ _ _ _ _ lent))
 
 fill-level-requires : tie.Need-fill-level-requires Inv-loop μ-loop
-fill-level-requires c κs = let v = c .before .before .before .before .before .before .before .loop .inv in (v .2 .fits, lent-small _ _ _ _ _ _ _ (v .2), omega (arith, v .2 .symbols, v .2 .facts .symbols-high), length-small _ _ _ _ _ _ _ (v .2) _ (v .1) _ _ _ _ _ (v .3) (omega arith), length-room _ _ _ _ _ _ _ (v .2) _ (v .1) _ _ _ _ _ (v .3) (omega arith))
+fill-level-requires c κs = let h = c .before .before .before .before .before .before .loop-test .taken in let v = c .before .before .before .before .before .before .before .loop .inv in (v .2 .fits, lent-small _ _ _ _ _ _ _ (v .2), omega (arith, v .2 .symbols, v .2 .facts .symbols-high), length-small _ _ _ _ _ _ _ (v .2) _ (v .1) _ _ _ _ _ (v .3) h, length-room _ _ _ _ _ _ _ (v .2) _ (v .1) _ _ _ _ _ (v .3) h)
 
 add-rounds : tie.Need-add-rounds Inv-loop μ-loop
-add-rounds c = let v = c .before .before .before .before .before .before .before .before .before .before .loop .inv in let r = c .before .before .fill-level in let next = length-more _ _ _ _ _ _ _ (v .2) _ (v .1) _ _ _ _ _ (v .3) (omega arith) _ _ (search needs) (r .ensures .0) (r .ensures .1) in omega (arith, length-fits _ _ _ _ _ _ _ (v .2) _ (v .1) _ _ _ _ _ next (omega arith))
+add-rounds c = let h = c .before .before .before .before .before .before .before .before .before .loop-test .taken in let v = c .before .before .before .before .before .before .before .before .before .before .loop .inv in let r = c .before .before .fill-level in let next = length-more _ _ _ _ _ _ _ (v .2) _ (v .1) _ _ _ _ _ (v .3) h _ _ (search needs) (r .ensures .0) (r .ensures .1) in omega (arith, length-fits _ _ _ _ _ _ _ (v .2) _ (v .1) _ _ _ _ _ next (omega arith))
 
 mul-from : tie.Need-mul-from Inv-loop μ-loop
-mul-from c = let v = c .before .before .before .before .before .before .before .before .before .before .loop .inv in omega (arith, length-small _ _ _ _ _ _ _ (v .2) _ (v .1) _ _ _ _ _ (v .3) (omega arith))
+mul-from c = let h = c .before .before .before .before .before .before .before .before .before .loop-test .taken in let v = c .before .before .before .before .before .before .before .before .before .before .loop .inv in omega (arith, length-small _ _ _ _ _ _ _ (v .2) _ (v .1) _ _ _ _ _ (v .3) h)
 
 add-from : tie.Need-add-from Inv-loop μ-loop
-add-from c = let v = c .before .before .before .before .before .before .before .before .before .before .loop .inv in omega (arith, length-place _ _ _ _ _ _ _ (v .2) _ (v .1) _ _ _ _ _ (v .3) (omega arith))
+add-from c = let h = c .before .before .before .before .before .before .before .before .before .loop-test .taken in let v = c .before .before .before .before .before .before .before .before .before .before .loop .inv in omega (arith, length-place _ _ _ _ _ _ _ (v .2) _ (v .1) _ _ _ _ _ (v .3) h)
 
 mul-count : tie.Need-mul-count Inv-loop μ-loop
-mul-count c = let v = c .before .before .before .before .before .before .before .before .before .before .loop .inv in omega (arith, length-next _ _ _ _ _ _ _ (v .2) _ (v .1) _ _ _ _ _ (v .3) (omega arith))
+mul-count c = let h = c .before .before .before .before .before .before .before .before .before .loop-test .taken in let v = c .before .before .before .before .before .before .before .before .before .before .loop .inv in omega (arith, length-next _ _ _ _ _ _ _ (v .2) _ (v .1) _ _ _ _ _ (v .3) h)
 
 add-length : tie.Need-add-length Inv-loop μ-loop
 add-length c = search needs
@@ -69,7 +69,7 @@ loop-less : tie.Need-loop-less Inv-loop μ-loop
 loop-less c = search needs
 
 loop-again : tie.Need-loop-again Inv-loop μ-loop
-loop-again c = let v = c .before .before .before .before .before .before .before .before .before .before .loop .inv in let r = c .before .before .fill-level in (omega arith, v .1, v .2, length-more _ _ _ _ _ _ _ (v .2) _ (v .1) _ _ _ _ _ (v .3) (omega arith) _ _ (search needs) (r .ensures .0) (r .ensures .1))
+loop-again c = let h = c .before .before .before .before .before .before .before .before .before .loop-test .taken in let v = c .before .before .before .before .before .before .before .before .before .before .loop .inv in let r = c .before .before .fill-level in (omega arith, v .1, v .2, length-more _ _ _ _ _ _ _ (v .2) _ (v .1) _ _ _ _ _ (v .3) h _ _ (search needs) (r .ensures .0) (r .ensures .1))
 
 same-length : tie.Need-same-length Inv-loop μ-loop
 same-length c = c .before .loop .inv .3 .same ∙ begun-length (c .before .before .before .before .before .before .before .before .before .before .before .before .before .before .before .before .before .before .before .before .args .t1) (c .before .before .before .before .before .before .before .before .before .before .before .before .before .before .before .before .before .before .before .before .args .table .now) (c .before .before .settle .result)

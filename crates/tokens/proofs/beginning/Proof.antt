@@ -6,8 +6,8 @@ use lib.ListN.{length}
 use Prim.Native.Nat.{_-_}
 use native.Mathlib.Omega.{arith}
 use borrow.Author.Needs.{needs}
-use Rattle.tokens.proofs.scanning.beginning.Statement.{statement}
-use Rattle.tokens.proofs.scanning.beginning.Tie as tie
+use Rattle.tokens.proofs.beginning.Statement.{statement}
+use Rattle.tokens.proofs.beginning.Tie as tie
 
 abbrev Inv-loop : tie.InvT-loop
 Inv-loop source lines from ended₀ at₀ c₀ ended at c = Beginning source lines from ended at c

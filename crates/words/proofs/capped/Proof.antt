@@ -2,8 +2,8 @@ use Rattle.notation.specs.Parts.{capped}
 use borrow.Author.Tests.{lt-ltb, le-ltb}
 use native.Mathlib.Omega.{arith}
 use borrow.Author.Needs.{needs}
-use Rattle.tokens.proofs.words.capped.Statement.{statement}
-use Rattle.tokens.proofs.words.capped.Tie as tie
+use Rattle.words.proofs.capped.Statement.{statement}
+use Rattle.words.proofs.capped.Tie as tie
 
 add-result : tie.Need-add-result
 add-result c = search needs

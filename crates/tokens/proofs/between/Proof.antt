@@ -1,6 +1,6 @@
 use borrow.Author.Needs.{needs}
-use Rattle.tokens.proofs.scanning.between.Statement.{statement}
-use Rattle.tokens.proofs.scanning.between.Tie as tie
+use Rattle.tokens.proofs.between.Statement.{statement}
+use Rattle.tokens.proofs.between.Tie as tie
 
 returns : tie.Need-returns
 returns c = search needs

@@ -1,6 +1,6 @@
 use Rattle.notation.proofs.Finding.{comment-ends, comment-begins, comment-stays}
-use Rattle.tokens.proofs.scanning.comment.Statement.{statement}
-use Rattle.tokens.proofs.scanning.comment.Tie as tie
+use Rattle.tokens.proofs.comment.Statement.{statement}
+use Rattle.tokens.proofs.comment.Tie as tie
 
 returns : tie.Need-returns
 returns c = comment-ends _ _ (c .if1 .taken)

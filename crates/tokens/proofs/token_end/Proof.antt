@@ -4,8 +4,8 @@ use lib.ListN.{length}
 use Prim.Native.Nat.{_-_}
 use native.Mathlib.Omega.{arith}
 use borrow.Author.Needs.{needs}
-use Rattle.tokens.proofs.scanning.token_end.Statement.{statement}
-use Rattle.tokens.proofs.scanning.token_end.Tie as tie
+use Rattle.tokens.proofs.token_end.Statement.{statement}
+use Rattle.tokens.proofs.token_end.Tie as tie
 
 abbrev Inv-loop : tie.InvT-loop
 Inv-loop source from at₀ at = Running source from at

@@ -1,8 +1,8 @@
 use Rattle.notation.proofs.Finding.{begun-inside}
 use Rattle.notation.specs.Tokens.{tokenAt}
 use borrow.Author.Needs.{needs}
-use Rattle.tokens.proofs.scanning.next_token.Statement.{statement}
-use Rattle.tokens.proofs.scanning.next_token.Tie as tie
+use Rattle.tokens.proofs.next_token.Statement.{statement}
+use Rattle.tokens.proofs.next_token.Tie as tie
 
 beginning-requires : tie.Need-beginning-requires
 beginning-requires c κs = search needs

@@ -4,8 +4,8 @@ use lib.ListN.{length}
 use Prim.Native.Nat.{_-_}
 use native.Mathlib.Omega.{arith}
 use borrow.Author.Needs.{needs}
-use Rattle.tokens.proofs.words.read_word.Statement.{statement}
-use Rattle.tokens.proofs.words.read_word.Tie as tie
+use Rattle.words.proofs.read_word.Statement.{statement}
+use Rattle.words.proofs.read_word.Tie as tie
 
 abbrev Inv-loop : tie.InvT-loop
 Inv-loop bytes value₀ i₀ value i = Reads bytes value i

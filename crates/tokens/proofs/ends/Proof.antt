@@ -1,7 +1,7 @@
 use Rattle.notation.proofs.Finding.{no-separator}
 use Rattle.notation.specs.Tokens.{ends, separator}
-use Rattle.tokens.proofs.scanning.ends.Statement.{statement}
-use Rattle.tokens.proofs.scanning.ends.Tie as tie
+use Rattle.tokens.proofs.ends.Statement.{statement}
+use Rattle.tokens.proofs.ends.Tie as tie
 
 returns : tie.Need-returns
 unfolding ends separator

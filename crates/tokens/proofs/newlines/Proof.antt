@@ -1,7 +1,7 @@
 use Rattle.notation.specs.Tokens.{newlines}
 use borrow.Author.Tests.{ne-eqb}
-use Rattle.tokens.proofs.scanning.newlines.Statement.{statement}
-use Rattle.tokens.proofs.scanning.newlines.Tie as tie
+use Rattle.tokens.proofs.newlines.Statement.{statement}
+use Rattle.tokens.proofs.newlines.Tie as tie
 
 returns : tie.Need-returns
 unfolding newlines
