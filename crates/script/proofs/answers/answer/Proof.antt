@@ -1,0 +1,54 @@
+use Rattle.text.specs.Decimal.{ascii}
+use Rattle.script.specs.Answers.{answer}
+use Rattle.script.proofs.Answering.{after-head}
+use Rattle.text.proofs.Appending.{behind, kept}
+use native.Mathlib.Omega.{arith}
+use borrow.Author.Needs.{needs}
+use Rattle.script.proofs.answers.answer.Statement.{statement}
+use Rattle.script.proofs.answers.answer.Tie as tie
+use Rattle.script.proofs.answers.answer.Reads as reads
+use Rattle.script.proofs.answers.answer.Lts as lts
+use Rattle.script.proofs.answers.head.Reads as head-reads
+use Rattle.script.proofs.answers.spaced_bytes.Reads as spaced-bytes-reads
+use Rattle.text.proofs.word.Reads as word-reads
+
+-- src/answers.rt:71:9
+head-requires : tie.Need-head-requires
+head-requires c κs = search needs
+
+-- src/answers.rt:72:9
+spaced-bytes-requires : tie.Need-spaced-bytes-requires
+spaced-bytes-requires c κs = search needs
+
+-- src/answers.rt:73:9
+spaced-bytes-requires-2 : tie.Need-spaced-bytes-requires-2
+spaced-bytes-requires-2 c κs = search needs
+
+-- src/answers.rt:74:22
+slice-aggregate-word : tie.Need-slice-aggregate-word
+slice-aggregate-word c = search needs
+
+-- src/answers.rt:74:5
+word-requires : tie.Need-word-requires
+word-requires c κs = search needs
+
+-- src/answers.rt:61:1
+same-length : tie.Need-same-length
+same-length c = search needs
+
+-- src/answers.rt:61:1
+returns : tie.Need-returns
+unfolding answer ascii
+returns c = after-head (c .before .before .before .before .before .before .before .before .before .before .before .before .before .before .before .before .before .before .before .before .before .before .args .line .now) (c .before .before .before .before .before .before .before .before .before .before .before .before .before .before .before .before .before .before .before .before .before .before .args .numbers .now) (c .before .before .before .before .before .before .before .before .before .before .before .before .before .before .before .head .ensures .0) (behind (c .before .before .before .before .before .before .before .before .before .before .before .spaced-bytes .ensures .0) (behind (c .before .before .before .before .before .before .before .spaced-bytes2 .ensures .0) (c .before .before .word .ensures)))
+
+pub answer-spec : {M : Type 1} → statement M
+answer-spec =
+    tie.close
+    (tie.spec
+    head-requires
+    spaced-bytes-requires
+    spaced-bytes-requires-2
+    slice-aggregate-word
+    word-requires
+    same-length
+    returns)
