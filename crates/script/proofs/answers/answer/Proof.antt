@@ -1,7 +1,7 @@
-use Rattle.text.specs.Decimal.{ascii}
-use Rattle.script.specs.Answers.{answer}
 use Rattle.script.proofs.Answering.{after-head}
+use Rattle.script.specs.Answers.{answer}
 use Rattle.text.proofs.Appending.{behind, kept}
+use Rattle.text.specs.Decimal.{ascii}
 use native.Mathlib.Omega.{arith}
 use borrow.Author.Needs.{needs}
 use Rattle.script.proofs.answers.answer.Statement.{statement}
@@ -12,34 +12,34 @@ use Rattle.script.proofs.answers.head.Reads as head-reads
 use Rattle.script.proofs.answers.spaced_bytes.Reads as spaced-bytes-reads
 use Rattle.text.proofs.word.Reads as word-reads
 
--- src/answers.rt:71:9
+-- src/answers.rt:70:9
 head-requires : tie.Need-head-requires
 head-requires c κs = search needs
 
--- src/answers.rt:72:9
+-- src/answers.rt:71:9
 spaced-bytes-requires : tie.Need-spaced-bytes-requires
 spaced-bytes-requires c κs = search needs
 
--- src/answers.rt:73:9
+-- src/answers.rt:72:9
 spaced-bytes-requires-2 : tie.Need-spaced-bytes-requires-2
 spaced-bytes-requires-2 c κs = search needs
 
--- src/answers.rt:74:22
+-- src/answers.rt:73:22
 slice-aggregate-word : tie.Need-slice-aggregate-word
 slice-aggregate-word c = search needs
 
--- src/answers.rt:74:5
+-- src/answers.rt:73:5
 word-requires : tie.Need-word-requires
 word-requires c κs = search needs
 
--- src/answers.rt:61:1
+-- src/answers.rt:60:1
 same-length : tie.Need-same-length
 same-length c = search needs
 
--- src/answers.rt:61:1
+-- src/answers.rt:60:1
 returns : tie.Need-returns
 unfolding answer ascii
-returns c = after-head (c .before .before .before .before .before .before .before .before .before .before .before .before .before .before .before .before .before .before .before .before .before .before .args .line .now) (c .before .before .before .before .before .before .before .before .before .before .before .before .before .before .before .before .before .before .before .before .before .before .args .numbers .now) (c .before .before .before .before .before .before .before .before .before .before .before .before .before .before .before .head .ensures .0) (behind (c .before .before .before .before .before .before .before .before .before .before .before .spaced-bytes .ensures .0) (behind (c .before .before .before .before .before .before .before .spaced-bytes2 .ensures .0) (c .before .before .word .ensures)))
+returns c = (after-head (c .before .before .before .before .before .before .before .before .before .before .before .before .before .before .before .before .before .before .before .before .before .args .numbers .now) (c .before .before .before .before .before .before .before .before .before .before .before .before .before .before .before .head .ensures .0) (behind (c .before .before .before .before .before .before .before .before .before .before .before .spaced-bytes .ensures .0) (behind (c .before .before .before .before .before .before .before .spaced-bytes2 .ensures .0) (c .before .before .word .ensures))), omega (arith, c .before .before .before .before .before .before .before .before .before .before .before .before .before .before .before .head .ensures .1, c .before .before .before .before .before .before .before .before .before .before .before .spaced-bytes .ensures .1, c .before .before .before .before .before .before .before .spaced-bytes2 .ensures .1, c .before .before .word .ensures .place, c .before .before .before .before .before .before .before .before .before .before .before .before .before .before .before .before .before .before .before .before .before .pre))
 
 pub answer-spec : {M : Type 1} → statement M
 answer-spec =
