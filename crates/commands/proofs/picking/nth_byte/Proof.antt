@@ -1,0 +1,23 @@
+use mathlib.Core.Path.{sym}
+use lib.ListN.{List·getD-eq-default}
+use native.Mathlib.Omega.{arith}
+use borrow.Author.Needs.{needs}
+use Rattle.commands.proofs.picking.nth_byte.Statement.{statement}
+use Rattle.commands.proofs.picking.nth_byte.Tie as tie
+use Rattle.commands.proofs.picking.nth_byte.Reads as reads
+use Rattle.commands.proofs.picking.nth_byte.Lts as lts
+
+-- src/picking.rt:21:9
+returns : tie.Need-returns
+returns c = sym (List·getD-eq-default (c .before .args .bytes .now) 0 (omega arith))
+
+-- src/picking.rt:23:5
+shared-slice-read-result : tie.Need-shared-slice-read-result
+shared-slice-read-result c = search needs
+
+-- src/picking.rt:17:1
+returns-2 : tie.Need-returns-2
+returns-2 c = search needs
+
+pub nth-byte-spec : {M : Type 1} → statement M
+nth-byte-spec = tie.close (tie.spec returns shared-slice-read-result returns-2)
