@@ -93,7 +93,7 @@ module _ (length′ n k : ℕ) where
       (leb-true (length′ + (n + k)) 32 (p .1), ltb-true 0 n (p .0))
 
 -- what was stored at the front
-front : {out₀ bytes out : List ℕ} {n : ℕ} → Appended out₀ 0 bytes out n → take n out ≡ bytes
+pub front : {out₀ bytes out : List ℕ} {n : ℕ} → Appended out₀ 0 bytes out n → take n out ≡ bytes
 front {out₀} {bytes} {out} {n} x =
     let e : n ≡ length bytes = x .place ∙ omega arith in
     let room : 0 + length bytes ≤ length out₀ = omega (arith, x .place, x .inside) in
