@@ -57,7 +57,7 @@ pub fn days(text: &[u8], out: &mut [u8]) -> usize
     requires { ⌜ (length (now text) ≤ 4096) × (answerRoom ≤ length (now out)) ⌝ }
     ensures { λ r. ⌜ Appended (now (out .entry)) 0 (daysText (now (text .entry))) (now (out .exit)) r ⌝ }
 {
-    let word = commands::nth_byte(text, 0);
+    let word = storing::nth_byte(text, 0);
     if !is_day(word) {
         return 0;
     }

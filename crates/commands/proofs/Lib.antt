@@ -1,3 +1,1 @@
-pub mod Least
-pub mod Words
 pub mod Running

@@ -11,9 +11,11 @@ use Rattle.automaton.specs.declared.Automaton.{Automaton}
 use Rattle.configuration.specs.declared.Configuration.{Configuration}
 use Rattle.text.specs.Decimal.{Appended}
 use Rattle.text.proofs.Appending.{behind}
-use Rattle.commands.specs.Commands.{least, recordAfter, recordText, tableAfter, tableText, moveAfter, moveText, codeText, askText}
+use Rattle.storing.specs.Storing.{least, recordAfter, recordText, tableAfter, tableText}
+use Rattle.moving.specs.Moving.{moveAfter, moveText}
+use Rattle.asking.specs.Asking.{codeText, askText}
 use Rattle.commands.specs.Lines.{lineText, dayInput}
-use Rattle.commands.proofs.Least.{part-is}
+use Rattle.storing.proofs.Lesser.{part-is}
 
 -- the parts, each over what the parts before it left
 module _ (line values bytes : List ℕ) (a b : Automaton) (c d : Configuration) (t u : List ℕ) (w : ℕ) (ew : w ≡ getD line 0 0) (eb : b ≡ recordAfter w values bytes a) (eu : u ≡ tableAfter w values b t) (ed : d ≡ moveAfter w values bytes b u c) where

@@ -5,7 +5,9 @@ use lib.ListN.{length, getD, drop, replicate}
 use Rattle.automaton.specs.declared.Automaton.{Automaton}
 use Rattle.configuration.specs.declared.Configuration.{Configuration}
 use Rattle.script.specs.Numbers.{numbers, lowBytes}
-use Rattle.commands.specs.Commands.{least, recordAfter, recordText, tableAfter, tableText, moveAfter, moveText, codeText, askText}
+use Rattle.storing.specs.Storing.{least, recordAfter, recordText, tableAfter, tableText}
+use Rattle.moving.specs.Moving.{moveAfter, moveText}
+use Rattle.asking.specs.Asking.{codeText, askText}
 
 -- the line, and below it what the parts print: only one of them has a text for the line's word
 unfoldable pub lineText : List ℕ → List ℕ → List ℕ → Automaton → Configuration → List ℕ → List ℕ

@@ -1,7 +1,7 @@
 // The input of a `day` line: bytes, and then one byte so many times.
-use crate::picking::least;
-use crate::picking::nth;
-use crate::picking::nth_byte;
+use storing::least;
+use storing::nth;
+use storing::nth_byte;
 ghost use mathlib.Core.List.{_++_};
 ghost use Prim.Native.Nat.{_+_, _≤_};
 ghost use lib.ListN.{length, replicate};

@@ -17,22 +17,18 @@
 //   many COUNT PLACE N K NUMBERS    the game against the solver with this buffer, on so many sheets of a shape: on how many they agree
 //   day COUNT BYTE BYTES            what the day program prints on the bytes and, behind them, COUNT times the byte
 // A line that begins otherwise is printed and no more.
-mod asking;
 mod filling;
-mod moving;
-mod picking;
-mod recording;
-mod tabling;
 
 use automaton::Automaton;
 use configuration::Configuration;
 pub use filling::day_input;
-pub use picking::nth_byte;
+use storing::nth_byte;
 ghost use mathlib.Core.Path.{_≡_};
 ghost use Prim.Native.Nat.{_+_, _≤_};
 ghost use lib.ListN.{length, getD};
 ghost use Rattle.text.specs.Decimal.{Appended};
-ghost use Rattle.commands.specs.Commands.{recordAfter, tableAfter, moveAfter};
+ghost use Rattle.storing.specs.Storing.{recordAfter, tableAfter};
+ghost use Rattle.moving.specs.Moving.{moveAfter};
 ghost use Rattle.commands.specs.Lines.{lineRoom, lineText, recordLeft, tableLeft, configurationLeft, printed};
 
 // What a line leaves, and the length of what is printed.
@@ -60,9 +56,9 @@ fn line(
 {
     let word = nth_byte(line, 0);
     let asked = text::word(out, 0, line);
-    let recorded = recording::record(word, values, bytes, a, out, asked);
+    let recorded = storing::record(word, values, bytes, a, out, asked);
     let b = recorded.automaton;
-    let tabled = tabling::tabled(word, values, b, table, out, recorded.next);
+    let tabled = storing::tabled(word, values, b, table, out, recorded.next);
     let moved = moving::move_on(word, values, bytes, b, table, c, out, tabled);
     let d = moved.configuration;
     let coded = asking::coded(word, values, bytes, b, out, moved.next);

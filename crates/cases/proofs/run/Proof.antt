@@ -9,14 +9,6 @@ use native.Mathlib.Omega.{arith}
 use borrow.Author.Needs.{needs}
 use Rattle.cases.proofs.run.Statement.{statement}
 use Rattle.cases.proofs.run.Tie as tie
-use Rattle.cases.proofs.run.Reads as reads
-use Rattle.cases.proofs.run.Lts as lts
-use Rattle.cases.proofs.days.days.Reads as days-reads
-use Rattle.commands.proofs.run_line.Reads as run-line-reads
-use Rattle.configuration.proofs.initial.Reads as initial-reads
-use Rattle.encoding.proofs.read.Reads as read-reads
-use Rattle.io.proofs.write_all.Reads as write-all-reads
-use Rattle.script.proofs.next_line.Reads as next-line-reads
 
 abbrev Inv-loop : tie.InvT-loop
 Inv-loop text table₀ out₀ a₀ c₀ at₀ table out a c at = (length table ≡ 64) × (length out ≡ 9216) × (at ≤ length text)
@@ -24,111 +16,84 @@ Inv-loop text table₀ out₀ a₀ c₀ at₀ table out a c at = (length table �
 abbrev μ-loop : tie.MeasureT-loop
 μ-loop text table₀ out₀ a₀ c₀ at₀ table out a c at = length text - at
 
--- src/main.rt:15:32
 slice-aggregate-read : tie.Need-slice-aggregate-read Inv-loop μ-loop
 slice-aggregate-read c = search needs
 
--- src/main.rt:15:17
 read-requires : tie.Need-read-requires Inv-loop μ-loop
 read-requires c κs = search needs
 
--- src/main.rt:16:17
 initial-requires : tie.Need-initial-requires Inv-loop μ-loop
 initial-requires c κs = search needs
 
--- src/main.rt:18:5
 loop-holds : tie.Need-loop-holds Inv-loop μ-loop
 loop-holds c = (search needs, search needs, omega arith)
 
--- src/main.rt:19:13
 next-line-requires : tie.Need-next-line-requires Inv-loop μ-loop
 next-line-requires c κs = search needs
 
--- src/main.rt:20:19
 sub-if1 : tie.Need-sub-if1 Inv-loop μ-loop
 sub-if1 c = omega (arith, c .next-line .ensures)
 
--- src/main.rt:23:39
 sub-run-line : tie.Need-sub-run-line Inv-loop μ-loop
 sub-run-line c = omega (arith, c .before .next-line .ensures)
 
--- src/main.rt:23:39
 part-run-line-start : tie.Need-part-run-line-start Inv-loop μ-loop
 part-run-line-start c = let e = line-inside _ _ _ (c .before .before .loop-test .taken) (c .before .next-line .ensures) in omega (arith, e .0, e .1)
 
--- src/main.rt:23:39
 part-run-line-end : tie.Need-part-run-line-end Inv-loop μ-loop
 part-run-line-end c = let e = line-inside _ _ _ (c .before .before .loop-test .taken) (c .before .next-line .ensures) in omega (arith, e .0, e .1)
 
--- src/main.rt:23:61
 slice-aggregate-run-line : tie.Need-slice-aggregate-run-line Inv-loop μ-loop
 slice-aggregate-run-line c = sym (c .before .before .before .before .before .loop .inv .0)
 
--- src/main.rt:23:73
 slice-aggregate-run-line-2 : tie.Need-slice-aggregate-run-line-2 Inv-loop μ-loop
 slice-aggregate-run-line-2 c = sym (c .before .before .before .before .before .before .loop .inv .1)
 
--- src/main.rt:23:13
 run-line-requires : tie.Need-run-line-requires Inv-loop μ-loop
 run-line-requires c κs = let e = line-inside _ _ _ (c .before .before .before .before .before .loop-test .taken) (c .before .before .before .before .next-line .ensures) in let p = part-length (c .before .before .before .before .before .before .before .before .before .before .before .before .before .args .text .now) (c .before .before .before .before .before .before .loop .at) (c .before .before .before .before .next-line .result) (omega (arith, e .0)) (e .1) in (omega (arith, p, c .before .before .before .if1 .left), omega (arith, p, c .before .before .before .if1 .left, c .before .before .before .before .before .before .loop .inv .1), omega (arith, c .before .before .before .before .before .before .loop .inv .0))
 
--- src/main.rt:25:26
 array-share-prefix-out : tie.Need-array-share-prefix-out Inv-loop μ-loop
 array-share-prefix-out c = omega (arith, kept (c .before .before .run-line .ensures .3), c .before .before .run-line .ensures .3 .inside)
 
--- src/main.rt:25:26
 slice-aggregate-write-all : tie.Need-slice-aggregate-write-all Inv-loop μ-loop
 slice-aggregate-write-all c = sym (length-take-le _ _ (omega (arith, kept (c .before .before .before .run-line .ensures .3), c .before .before .before .run-line .ensures .3 .inside)))
 
--- src/main.rt:25:9
 write-all-requires : tie.Need-write-all-requires Inv-loop μ-loop
 write-all-requires c κs = search needs
 
--- src/main.rt:26:31
 sub-days : tie.Need-sub-days Inv-loop μ-loop
 sub-days c = omega (arith, c .before .before .before .before .before .before .before .before .before .next-line .ensures)
 
--- src/main.rt:26:31
 part-days-start : tie.Need-part-days-start Inv-loop μ-loop
 part-days-start c = let e = line-inside _ _ _ (c .before .before .before .before .before .before .before .before .before .before .loop-test .taken) (c .before .before .before .before .before .before .before .before .before .next-line .ensures) in omega (arith, e .0, e .1)
 
--- src/main.rt:26:31
 part-days-end : tie.Need-part-days-end Inv-loop μ-loop
 part-days-end c = let e = line-inside _ _ _ (c .before .before .before .before .before .before .before .before .before .before .loop-test .taken) (c .before .before .before .before .before .before .before .before .before .next-line .ensures) in omega (arith, e .0, e .1)
 
--- src/main.rt:26:47
 slice-aggregate-days : tie.Need-slice-aggregate-days Inv-loop μ-loop
 slice-aggregate-days c = sym (kept (c .before .before .before .before .before .before .run-line .ensures .3) ∙ c .before .before .before .before .before .before .before .before .before .before .before .before .before .loop .inv .1)
 
--- src/main.rt:26:13
 days-requires : tie.Need-days-requires Inv-loop μ-loop
 days-requires c κs = let e = line-inside _ _ _ (c .before .before .before .before .before .before .before .before .before .before .before .before .loop-test .taken) (c .before .before .before .before .before .before .before .before .before .before .before .next-line .ensures) in let p = part-length (c .before .before .before .before .before .before .before .before .before .before .before .before .before .before .before .before .before .before .before .before .args .text .now) (c .before .before .before .before .before .before .before .before .before .before .before .before .before .loop .at) (c .before .before .before .before .before .before .before .before .before .before .before .next-line .result) (omega (arith, e .0)) (e .1) in (omega (arith, p, c .before .before .before .before .before .before .before .before .before .before .if1 .left), omega (arith, kept (c .before .before .before .before .before .before .run-line .ensures .3), c .before .before .before .before .before .before .before .before .before .before .before .before .before .loop .inv .1))
 
--- src/main.rt:27:26
 array-share-prefix-out-2 : tie.Need-array-share-prefix-out-2 Inv-loop μ-loop
 array-share-prefix-out-2 c = omega (arith, kept (c .before .days .ensures), c .before .days .ensures .inside)
 
--- src/main.rt:27:26
 slice-aggregate-write-all-2 : tie.Need-slice-aggregate-write-all-2 Inv-loop μ-loop
 slice-aggregate-write-all-2 c = sym (length-take-le _ _ (omega (arith, kept (c .before .before .days .ensures), c .before .before .days .ensures .inside)))
 
--- src/main.rt:27:9
 write-all-requires-2 : tie.Need-write-all-requires-2 Inv-loop μ-loop
 write-all-requires-2 c κs = search needs
 
--- src/main.rt:18:5
 loop-less : tie.Need-loop-less Inv-loop μ-loop
 loop-less c = let e = line-inside _ _ _ (c .before .before .before .before .before .before .before .before .before .before .before .before .before .before .before .before .before .before .loop-test .taken) (c .before .before .before .before .before .before .before .before .before .before .before .before .before .before .before .before .before .next-line .ensures) in omega (arith, e .0, e .1)
 
--- src/main.rt:18:5
 loop-again : tie.Need-loop-again Inv-loop μ-loop
 loop-again c = let e = line-inside _ _ _ (c .before .before .before .before .before .before .before .before .before .before .before .before .before .before .before .before .before .before .loop-test .taken) (c .before .before .before .before .before .before .before .before .before .before .before .before .before .before .before .before .before .next-line .ensures) in (c .before .before .before .before .before .before .before .before .before .before .before .before .run-line .kept .1 .1 .1 .0 ∙ c .before .before .before .before .before .before .before .before .before .before .before .before .before .before .before .before .before .before .before .loop .inv .0, kept (c .before .before .before .before .before .days .ensures) ∙ kept (c .before .before .before .before .before .before .before .before .before .before .before .before .run-line .ensures .3) ∙ c .before .before .before .before .before .before .before .before .before .before .before .before .before .before .before .before .before .before .before .loop .inv .1, e .1)
 
--- src/main.rt:12:1
 returns : tie.Need-returns Inv-loop μ-loop
 returns c = search needs
 
--- src/main.rt:12:1
 returns-2 : tie.Need-returns-2 Inv-loop μ-loop
 returns-2 c = search needs
 

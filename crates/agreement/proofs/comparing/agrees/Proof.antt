@@ -9,13 +9,6 @@ use native.Mathlib.Omega.{arith}
 use borrow.Author.Needs.{needs}
 use Rattle.agreement.proofs.comparing.agrees.Statement.{statement}
 use Rattle.agreement.proofs.comparing.agrees.Tie as tie
-use Rattle.agreement.proofs.comparing.agrees.Reads as reads
-use Rattle.agreement.proofs.comparing.agrees.Lts as lts
-use Rattle.agreement.proofs.comparing.agrees_at.Reads as agrees-at-reads
-use Rattle.agreement.proofs.comparing.both.Reads as both-reads
-use Rattle.agreement.proofs.comparing.in_state.Reads as in-state-reads
-use Rattle.base.proofs.size.Reads as size-reads
-use Rattle.game.proofs.judge.Reads as judge-reads
 
 abbrev Inv-loop : tie.InvT-loop
 Inv-loop a set intermediate c n fine₀ q₀ fine q = (q ≤ n) × (n ≡ a .states) × (fine ≡ each q (λ k. agreesAt set intermediate (verdict a (inState c k)) k))
@@ -23,44 +16,34 @@ Inv-loop a set intermediate c n fine₀ q₀ fine q = (q ≤ n) × (n ≡ a .sta
 abbrev μ-loop : tie.MeasureT-loop
 μ-loop a set intermediate c n fine₀ q₀ fine q = n - q
 
--- src/comparing.rt:62:5
 loop-holds : tie.Need-loop-holds Inv-loop μ-loop
 unfolding each
 loop-holds c = (omega arith, refl, refl)
 
--- src/comparing.rt:63:32
 in-state-requires : tie.Need-in-state-requires Inv-loop μ-loop
 in-state-requires c κs = search needs
 
--- src/comparing.rt:63:13
 judge-requires : tie.Need-judge-requires Inv-loop μ-loop
 judge-requires c κs = search needs
 
--- src/comparing.rt:64:59
 size-requires : tie.Need-size-requires Inv-loop μ-loop
 size-requires c κs = search needs
 
--- src/comparing.rt:64:27
 agrees-at-requires : tie.Need-agrees-at-requires Inv-loop μ-loop
 agrees-at-requires c κs = search needs
 
--- src/comparing.rt:64:9
 both-requires : tie.Need-both-requires Inv-loop μ-loop
 both-requires c κs = search needs
 
--- src/comparing.rt:65:13
 add-q : tie.Need-add-q Inv-loop μ-loop
 add-q c = search needs
 
--- src/comparing.rt:62:5
 loop-less : tie.Need-loop-less Inv-loop μ-loop
 loop-less c = search needs
 
--- src/comparing.rt:62:5
 loop-again : tie.Need-loop-again Inv-loop μ-loop
 loop-again c = (omega arith, refl, agrees-more _ _ _ (c .before .before .before .before .before .before .before .args .c) (c .before .before .before .before .in-state .result) (c .before .before .before .judge .result) (c .before .before .before .before .before .before .loop .q) (c .before .before .size .result) _ _ _ (c .before .before .before .before .before .before .loop .inv .2) (c .before .before .before .before .in-state .ensures) (c .before .before .before .judge .ensures) (c .before .before .size .ensures .0) (c .before .agrees-at .ensures) (c .both .ensures))
 
--- src/comparing.rt:56:1
 returns : tie.Need-returns Inv-loop μ-loop
 returns c = agrees-all _ _ _ _ (c .before .loop .q) _ (omega arith) (c .before .loop .inv .2)
 

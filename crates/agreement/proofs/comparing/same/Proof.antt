@@ -3,14 +3,10 @@ use native.Mathlib.Omega.{arith}
 use borrow.Author.Needs.{needs}
 use Rattle.agreement.proofs.comparing.same.Statement.{statement}
 use Rattle.agreement.proofs.comparing.same.Tie as tie
-use Rattle.agreement.proofs.comparing.same.Reads as reads
-use Rattle.agreement.proofs.comparing.same.Lts as lts
 
--- src/comparing.rt:13:9
 returns : tie.Need-returns
 returns c = same-yes _ _ (c .if1 .taken)
 
--- src/comparing.rt:9:1
 returns-2 : tie.Need-returns-2
 returns-2 c = same-no _ _ (c .if1 .left)
 

@@ -4,60 +4,43 @@ use native.Mathlib.Omega.{arith}
 use borrow.Author.Needs.{needs}
 use Rattle.agreement.proofs.comparing.solved_agrees.Statement.{statement}
 use Rattle.agreement.proofs.comparing.solved_agrees.Tie as tie
-use Rattle.agreement.proofs.comparing.solved_agrees.Reads as reads
-use Rattle.agreement.proofs.comparing.solved_agrees.Lts as lts
-use Rattle.agreement.proofs.comparing.agrees.Reads as agrees-reads
-use Rattle.winning.proofs.solve.Reads as solve-reads
 
--- src/comparing.rt:75:9
 returns : tie.Need-returns
 returns c = solved-outside _ _ _ (c .if1 .taken)
 
--- src/comparing.rt:78:26
 slice-aggregate-solve : tie.Need-slice-aggregate-solve
 slice-aggregate-solve c = search needs
 
--- src/comparing.rt:78:8
 solve-requires : tie.Need-solve-requires
 solve-requires c κs = search needs
 
--- src/comparing.rt:79:9
 returns-2 : tie.Need-returns-2
 returns-2 c = solved-refused _ _ _ (omega arith) (rw (c .before .before .before .solve .ensures .0) at (c .if2 .taken))
 
--- src/comparing.rt:81:21
 mul-agrees : tie.Need-mul-agrees
 mul-agrees c = search needs
 
--- src/comparing.rt:81:15
 mul-agrees-2 : tie.Need-mul-agrees-2
 mul-agrees-2 c = search needs
 
--- src/comparing.rt:81:15
 array-read-agrees : tie.Need-array-read-agrees
 array-read-agrees c = search needs
 
--- src/comparing.rt:81:39
 mul-agrees-3 : tie.Need-mul-agrees-3
 mul-agrees-3 c = search needs
 
--- src/comparing.rt:81:39
 add-agrees : tie.Need-add-agrees
 add-agrees c = search needs
 
--- src/comparing.rt:81:33
 mul-agrees-4 : tie.Need-mul-agrees-4
 mul-agrees-4 c = search needs
 
--- src/comparing.rt:81:33
 array-read-agrees-2 : tie.Need-array-read-agrees-2
 array-read-agrees-2 c = search needs
 
--- src/comparing.rt:81:5
 agrees-requires : tie.Need-agrees-requires
 agrees-requires c κs = search needs
 
--- src/comparing.rt:71:1
 returns-3 : tie.Need-returns-3
 returns-3 c = c .agrees .ensures ∙ rw (c .before .before .before .before .solve .ensures .1) (solved-all _ _ _ (omega arith) (rw (c .before .before .before .before .solve .ensures .0) at (c .before .if2 .left)))
 

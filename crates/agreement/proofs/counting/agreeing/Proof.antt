@@ -9,10 +9,6 @@ use native.Mathlib.Omega.{arith}
 use borrow.Author.Needs.{needs}
 use Rattle.agreement.proofs.counting.agreeing.Statement.{statement}
 use Rattle.agreement.proofs.counting.agreeing.Tie as tie
-use Rattle.agreement.proofs.counting.agreeing.Reads as reads
-use Rattle.agreement.proofs.counting.agreeing.Lts as lts
-use Rattle.agreement.proofs.counting.fits.Reads as fits-reads
-use Rattle.agreement.proofs.counting.nth_agrees.Reads as nth-agrees-reads
 
 abbrev Inv-loop : tie.InvT-loop
 Inv-loop head states steps total place c count₀ i₀ count i = (i ≤ total) × (count ≤ i) × (count ≡ each.count i (λ j. nthAgrees head states steps j place c))
@@ -20,48 +16,37 @@ Inv-loop head states steps total place c count₀ i₀ count i = (i ≤ total) �
 abbrev μ-loop : tie.MeasureT-loop
 μ-loop head states steps total place c count₀ i₀ count i = total - i
 
--- src/counting.rt:80:9
 fits-requires : tie.Need-fits-requires Inv-loop μ-loop
 fits-requires c κs = search needs
 
--- src/counting.rt:81:9
 returns : tie.Need-returns Inv-loop μ-loop
 returns c = none-agree _ _ _ _ _ _ (sym (c .before .fits2 .ensures) ∙ not-true _ (c .if1 .taken))
 
--- src/counting.rt:85:5
 loop-holds : tie.Need-loop-holds Inv-loop μ-loop
 unfolding each.count
 loop-holds c = (omega arith, omega arith, refl)
 
--- src/counting.rt:86:13
 nth-agrees-requires : tie.Need-nth-agrees-requires Inv-loop μ-loop
 nth-agrees-requires c κs = fits-room _ _ _ (sym (c .before .before .before .fits2 .ensures) ∙ not-false _ (c .before .before .if1 .left))
 
--- src/counting.rt:87:13
 add-i : tie.Need-add-i Inv-loop μ-loop
 add-i c = search needs
 
--- src/counting.rt:89:21
 add-count : tie.Need-add-count Inv-loop μ-loop
 add-count c = search needs
 
--- src/counting.rt:85:5
 loop-less : tie.Need-loop-less Inv-loop μ-loop
 loop-less c = search needs
 
--- src/counting.rt:85:5
 loop-again : tie.Need-loop-again Inv-loop μ-loop
 loop-again c = (omega arith, omega arith, count-goes _ _ _ (c .before .before .before .loop .inv .2) (sym (c .before .nth-agrees .ensures) ∙ c .if2 .taken))
 
--- src/counting.rt:85:5
 loop-less-2 : tie.Need-loop-less-2 Inv-loop μ-loop
 loop-less-2 c = search needs
 
--- src/counting.rt:85:5
 loop-again-2 : tie.Need-loop-again-2 Inv-loop μ-loop
 loop-again-2 c = (omega arith, omega arith, count-stays _ _ _ (c .before .before .before .loop .inv .2) (sym (c .before .nth-agrees .ensures) ∙ c .if2 .left))
 
--- src/counting.rt:70:1
 returns-2 : tie.Need-returns-2 Inv-loop μ-loop
 returns-2 c = all-counted _ _ _ _ _ _ (c .before .loop .i) _ (omega arith) (sym (c .before .before .before .fits2 .ensures) ∙ not-false _ (c .before .before .if1 .left)) (c .before .loop .inv .2)
 

@@ -8,8 +8,6 @@ use native.Mathlib.Omega.{arith}
 use borrow.Author.Needs.{needs}
 use Rattle.agreement.proofs.counting.digits.Statement.{statement}
 use Rattle.agreement.proofs.counting.digits.Tie as tie
-use Rattle.agreement.proofs.counting.digits.Reads as reads
-use Rattle.agreement.proofs.counting.digits.Lts as lts
 
 abbrev Inv-loop : tie.InvT-loop
 Inv-loop out₀ at count radix value rest₀ i₀ out rest i = (i ≤ count) × (sets out (at + i) (digits radix (count - i) rest) ≡ sets out₀ at (digits radix count value)) × (higher radix (count - i) rest ≡ higher radix count value)
@@ -17,43 +15,33 @@ Inv-loop out₀ at count radix value rest₀ i₀ out rest i = (i ≤ count) × 
 abbrev μ-loop : tie.MeasureT-loop
 μ-loop out₀ at count radix value rest₀ i₀ out rest i = count - i
 
--- src/counting.rt:18:5
 loop-holds : tie.Need-loop-holds Inv-loop μ-loop
 loop-holds c = let a = c .args in let e : a .at + 0 ≡ a .at = omega arith in let f : a .count - 0 ≡ a .count = omega arith in (omega arith, rw (e, f), rw f)
 
--- src/counting.rt:19:24
 rem-out : tie.Need-rem-out Inv-loop μ-loop
 rem-out c = c .before .before .pre .1
 
--- src/counting.rt:19:23
 cast-out : tie.Need-cast-out Inv-loop μ-loop
 cast-out c = omega (arith, mod-lt (c .before .loop .rest) (c .before .before .pre .1))
 
--- src/counting.rt:19:13
 add-out : tie.Need-add-out Inv-loop μ-loop
 add-out c = search needs
 
--- src/counting.rt:19:9
 element-write-out : tie.Need-element-write-out Inv-loop μ-loop
 element-write-out c = search needs
 
--- src/counting.rt:20:16
 div-rest : tie.Need-div-rest Inv-loop μ-loop
 div-rest c = c .before .before .pre .1
 
--- src/counting.rt:21:13
 add-i : tie.Need-add-i Inv-loop μ-loop
 add-i c = search needs
 
--- src/counting.rt:18:5
 loop-less : tie.Need-loop-less Inv-loop μ-loop
 loop-less c = search needs
 
--- src/counting.rt:18:5
 loop-again : tie.Need-loop-again Inv-loop μ-loop
 loop-again c = let g = c .before .loop .inv in (omega arith, digits-more _ _ _ (c .before .loop .rest) _ _ _ (omega arith) (g .1), higher-more _ _ _ (c .before .loop .rest) _ (omega arith) (g .2))
 
--- src/counting.rt:12:1
 returns : tie.Need-returns Inv-loop μ-loop
 returns c = let g = c .before .loop .inv in (higher-done _ _ _ _ _ (omega arith) (g .2), digits-done _ _ _ (c .before .loop .rest) _ _ _ (omega arith) (g .1))
 

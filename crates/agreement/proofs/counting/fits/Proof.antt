@@ -3,35 +3,25 @@ use native.Mathlib.Omega.{arith}
 use borrow.Author.Needs.{needs}
 use Rattle.agreement.proofs.counting.fits.Statement.{statement}
 use Rattle.agreement.proofs.counting.fits.Tie as tie
-use Rattle.agreement.proofs.counting.fits.Reads as reads
-use Rattle.agreement.proofs.counting.fits.Lts as lts
-use Rattle.base.proofs.size.Reads as size-reads
 
--- src/counting.rt:61:9
 returns : tie.Need-returns
 returns c = fits-none _ _ _ (c .if1 .taken)
 
--- src/counting.rt:64:9
 returns-2 : tie.Need-returns-2
 returns-2 c = fits-long _ _ _ (c .before .if1 .left) (c .if2 .taken)
 
--- src/counting.rt:66:15
 size-requires : tie.Need-size-requires
 size-requires c κs = search needs
 
--- src/counting.rt:66:36
 size-requires-2 : tie.Need-size-requires-2
 size-requires-2 c κs = search needs
 
--- src/counting.rt:66:15
 add-result : tie.Need-add-result
 add-result c = search needs
 
--- src/counting.rt:66:5
 add-result-2 : tie.Need-add-result-2
 add-result-2 c = search needs
 
--- src/counting.rt:57:1
 returns-3 : tie.Need-returns-3
 returns-3 c = rw (c .before .size .ensures .0, c .size2 .ensures .0) (fits-some _ _ _ (omega arith))
 

@@ -6,33 +6,22 @@ use native.Mathlib.Omega.{arith}
 use borrow.Author.Needs.{needs}
 use Rattle.agreement.proofs.counting.nth_agrees.Statement.{statement}
 use Rattle.agreement.proofs.counting.nth_agrees.Tie as tie
-use Rattle.agreement.proofs.counting.nth_agrees.Reads as reads
-use Rattle.agreement.proofs.counting.nth_agrees.Lts as lts
-use Rattle.agreement.proofs.comparing.solved_agrees.Reads as solved-agrees-reads
-use Rattle.agreement.proofs.counting.nth_encoding.Reads as nth-encoding-reads
-use Rattle.encoding.proofs.read.Reads as read-reads
 
--- src/counting.rt:52:9
 nth-encoding-requires : tie.Need-nth-encoding-requires
 nth-encoding-requires c κs = search needs
 
--- src/counting.rt:53:28
 array-share-prefix-bytes : tie.Need-array-share-prefix-bytes
 array-share-prefix-bytes c = omega (arith, kept (c .nth-encoding .ensures), c .nth-encoding .ensures .inside)
 
--- src/counting.rt:53:28
 slice-aggregate-read : tie.Need-slice-aggregate-read
 slice-aggregate-read c = sym (length-take-le _ _ (omega (arith, kept (c .before .nth-encoding .ensures), c .before .nth-encoding .ensures .inside)))
 
--- src/counting.rt:53:13
 read-requires : tie.Need-read-requires
 read-requires c κs = search needs
 
--- src/counting.rt:54:5
 solved-agrees-requires : tie.Need-solved-agrees-requires
 solved-agrees-requires c κs = search needs
 
--- src/counting.rt:40:1
 returns : tie.Need-returns
 returns c = nth-made _ _ _ _ _ _ (c .before .before .before .before .nth-encoding .result) _ _ _ (c .before .before .before .before .nth-encoding .ensures) (c .before .before .read .ensures) (c .solved-agrees .ensures)
 

@@ -5,45 +5,31 @@ use native.Mathlib.Omega.{arith}
 use borrow.Author.Needs.{needs}
 use Rattle.agreement.proofs.counting.nth_encoding.Statement.{statement}
 use Rattle.agreement.proofs.counting.nth_encoding.Tie as tie
-use Rattle.agreement.proofs.counting.nth_encoding.Reads as reads
-use Rattle.agreement.proofs.counting.nth_encoding.Lts as lts
-use Rattle.agreement.proofs.counting.digits.Reads as digits-reads
-use Rattle.base.proofs.copy.Reads as copy-reads
-use Rattle.base.proofs.size.Reads as size-reads
 
--- src/counting.rt:32:9
 size-requires : tie.Need-size-requires
 size-requires c κs = search needs
 
--- src/counting.rt:33:9
 size-requires-2 : tie.Need-size-requires-2
 size-requires-2 c κs = search needs
 
--- src/counting.rt:34:5
 copy-requires : tie.Need-copy-requires
 copy-requires c κs = search needs
 
--- src/counting.rt:35:9
 digits-requires : tie.Need-digits-requires
 digits-requires c κs = search needs
 
--- src/counting.rt:36:17
 add-digits : tie.Need-add-digits
 add-digits c = search needs
 
--- src/counting.rt:36:5
 digits-requires-2 : tie.Need-digits-requires-2
 digits-requires-2 c κs = search needs
 
--- src/counting.rt:37:5
 add-result : tie.Need-add-result
 add-result c = search needs
 
--- src/counting.rt:37:5
 add-result-2 : tie.Need-add-result-2
 add-result-2 c = search needs
 
--- src/counting.rt:27:1
 returns : tie.Need-returns
 returns c = let o = c .before .before .before .before .before .before .before .before .before .args .out .now in let long : length o ≡ 32 = search needs in encoding-sized (c .before .before .before .before .before .before .before .before .before .args .head .now) o _ _ _ _ _ _ _ _ (c .before .before .digits .result) (c .before .before .before .before .before .before .before .size .ensures .0) (c .before .before .before .before .before .before .size2 .ensures .0) (omega (arith, c .before .before .before .before .before .before .before .before .before .pre .0)) (c .before .before .before .before .copy .ensures) (c .before .before .digits .ensures .1) (c .before .before .digits .ensures .0) (c .digits2 .ensures .1)
 

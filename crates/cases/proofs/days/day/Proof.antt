@@ -11,12 +11,6 @@ use native.Mathlib.Omega.{arith}
 use borrow.Author.Needs.{needs}
 use Rattle.cases.proofs.days.day.Statement.{statement}
 use Rattle.cases.proofs.days.day.Tie as tie
-use Rattle.cases.proofs.days.day.Reads as reads
-use Rattle.cases.proofs.days.day.Lts as lts
-use Rattle.io.proofs.write_all.Reads as write-all-reads
-use Rattle.std.proofs.num.wrapping_add_usize.Reads as wrapping-add-usize-reads
-use Rattle.transcript.proofs.next_piece.Reads as next-piece-reads
-use Rattle.transcript.proofs.begin.Reads as begin-reads
 
 abbrev Inv-loop : tie.InvT-loop
 Inv-loop input table shown out₀ total₀ progress₀ out total progress = (length out ≡ 32768) × ((total + length (toCome table input progress)) % 2 ^ 64 ≡ length (transcript input) % 2 ^ 64) × (total < 2 ^ 64)
@@ -24,55 +18,42 @@ Inv-loop input table shown out₀ total₀ progress₀ out total progress = (len
 abbrev μ-loop : tie.MeasureT-loop
 μ-loop input table shown out₀ total₀ progress₀ out total progress = length (toCome table input progress)
 
--- src/days.rt:16:9
 begin-requires : tie.Need-begin-requires Inv-loop μ-loop
 begin-requires c κs = search needs
 
--- src/days.rt:17:5
 loop-holds : tie.Need-loop-holds Inv-loop μ-loop
 loop-holds c = (search needs, total-begins _ _ (c .begin .ensures .0), omega arith)
 
--- src/days.rt:18:68
 slice-aggregate-next-piece : tie.Need-slice-aggregate-next-piece Inv-loop μ-loop
 slice-aggregate-next-piece c = sym (c .before .before .before .loop .inv .0)
 
--- src/days.rt:18:13
 next-piece-requires : tie.Need-next-piece-requires Inv-loop μ-loop
 next-piece-requires c κs = search needs
 
--- src/days.rt:25:9
 wrapping-add-usize-requires : tie.Need-wrapping-add-usize-requires Inv-loop μ-loop
 wrapping-add-usize-requires c κs = search needs
 
--- src/days.rt:27:30
 array-share-prefix-out : tie.Need-array-share-prefix-out Inv-loop μ-loop
 array-share-prefix-out c = omega (arith, c .before .before .before .before .before .next-piece .ensures .0 .stored .inside, kept-length (c .before .before .before .before .before .next-piece .ensures .0), c .before .before .before .before .before .before .before .before .before .loop .inv .0)
 
--- src/days.rt:27:30
 slice-aggregate-write-all : tie.Need-slice-aggregate-write-all Inv-loop μ-loop
 slice-aggregate-write-all c = sym (length-take-le _ _ (omega (arith, c .before .before .before .before .before .before .next-piece .ensures .0 .stored .inside, kept-length (c .before .before .before .before .before .before .next-piece .ensures .0))))
 
--- src/days.rt:27:13
 write-all-requires : tie.Need-write-all-requires Inv-loop μ-loop
 write-all-requires c κs = search needs
 
--- src/days.rt:17:5
 loop-less : tie.Need-loop-less Inv-loop μ-loop
 loop-less c = less-left (c .before .before .before .before .before .before .before .next-piece .ensures .0) (c .before .before .before .before .before .if1 .left)
 
--- src/days.rt:17:5
 loop-again : tie.Need-loop-again Inv-loop μ-loop
 loop-again c = (kept-length (c .before .before .before .before .before .before .before .next-piece .ensures .0) ∙ c .before .before .before .before .before .before .before .before .before .before .before .loop .inv .0, total-goes _ _ _ (c .before .before .before .before .before .before .before .next-piece .ensures .0) (c .before .before .before .wrapping-add-usize .ensures) (c .before .before .before .before .before .before .before .before .before .before .before .loop .inv .1), omega (arith, c .before .before .before .wrapping-add-usize .ensures))
 
--- src/days.rt:17:5
 loop-less-2 : tie.Need-loop-less-2 Inv-loop μ-loop
 loop-less-2 c = less-left (c .before .before .before .before .before .next-piece .ensures .0) (c .before .before .before .if1 .left)
 
--- src/days.rt:17:5
 loop-again-2 : tie.Need-loop-again-2 Inv-loop μ-loop
 loop-again-2 c = (kept-length (c .before .before .before .before .before .next-piece .ensures .0) ∙ c .before .before .before .before .before .before .before .before .before .loop .inv .0, total-goes _ _ _ (c .before .before .before .before .before .next-piece .ensures .0) (c .before .wrapping-add-usize .ensures) (c .before .before .before .before .before .before .before .before .before .loop .inv .1), omega (arith, c .before .wrapping-add-usize .ensures))
 
--- src/days.rt:10:1
 returns : tie.Need-returns Inv-loop μ-loop
 returns c = (total-done _ _ _ (c .before .before .next-piece .ensures .1 (omega (arith, c .before .before .before .before .before .before .loop .inv .0)) (c .if1 .taken)) (c .before .before .before .before .before .before .loop .inv .2) (c .before .before .before .before .before .before .loop .inv .1), c .before .before .before .before .before .before .before .begin .ensures .1)
 

@@ -1,5 +1,5 @@
 use Rattle.cases.proofs.Totals.{no-day, some-day}
-use Rattle.commands.proofs.Words.{nothing}
+use Rattle.storing.proofs.Words.{nothing}
 use Rattle.agreement.proofs.Shapes.{front}
 use Rattle.text.proofs.Appending.{kept, said}
 use borrow.Author.Tests.{not-true, not-false}
@@ -9,92 +9,64 @@ use native.Mathlib.Omega.{arith}
 use borrow.Author.Needs.{needs}
 use Rattle.cases.proofs.days.days.Statement.{statement}
 use Rattle.cases.proofs.days.days.Tie as tie
-use Rattle.cases.proofs.days.days.Reads as reads
-use Rattle.cases.proofs.days.days.Lts as lts
-use Rattle.cases.proofs.days.is_day.Reads as is-day-reads
-use Rattle.cases.proofs.days.measured.Reads as measured-reads
-use Rattle.commands.proofs.nth_byte.Reads as nth-byte-reads
-use Rattle.script.proofs.answer.Reads as answer-reads
-use Rattle.script.proofs.low_bytes.Reads as low-bytes-reads
-use Rattle.script.proofs.numbers.Reads as numbers-reads
 
--- src/days.rt:60:9
 nth-byte-requires : tie.Need-nth-byte-requires
 nth-byte-requires c κs = search needs
 
--- src/days.rt:61:9
 is-day-requires : tie.Need-is-day-requires
 is-day-requires c κs = search needs
 
--- src/days.rt:62:9
 returns : tie.Need-returns
 returns c = nothing (c .before .before .before .before .before .args .out .now) _ 0 0 (no-day _ (rw (c .before .before .nth-byte .ensures) at (sym (c .before .is-day .ensures) ∙ not-true _ (c .if1 .taken)))) (omega arith) .0
 
--- src/days.rt:66:35
 slice-aggregate-numbers : tie.Need-slice-aggregate-numbers
 slice-aggregate-numbers c = search needs
 
--- src/days.rt:66:9
 numbers-requires : tie.Need-numbers-requires
 numbers-requires c κs = search needs
 
--- src/days.rt:67:31
 array-share-prefix-values : tie.Need-array-share-prefix-values
 array-share-prefix-values c = search needs
 
--- src/days.rt:67:31
 slice-aggregate-low-bytes : tie.Need-slice-aggregate-low-bytes
 slice-aggregate-low-bytes c = sym (length-take-le _ _ (omega (arith, kept (c .before .before .numbers .ensures), c .before .before .numbers .ensures .inside)))
 
--- src/days.rt:67:45
 slice-aggregate-low-bytes-2 : tie.Need-slice-aggregate-low-bytes-2
 slice-aggregate-low-bytes-2 c = search needs
 
--- src/days.rt:67:9
 low-bytes-requires : tie.Need-low-bytes-requires
 low-bytes-requires c κs = omega (arith, length-take-le (c .before .before .before .numbers .result) (c .before .before .before .numbers .last .1 .0) (omega (arith, kept (c .before .before .before .numbers .ensures), c .before .before .before .numbers .ensures .inside)), c .before .before .before .numbers .ensures .inside)
 
--- src/days.rt:68:29
 array-share-prefix-values-2 : tie.Need-array-share-prefix-values-2
 array-share-prefix-values-2 c = search needs
 
--- src/days.rt:68:29
 slice-aggregate-measured : tie.Need-slice-aggregate-measured
 slice-aggregate-measured c = sym (length-take-le _ _ (omega (arith, kept (c .before .before .before .before .before .before .numbers .ensures), c .before .before .before .before .before .before .numbers .ensures .inside)))
 
--- src/days.rt:68:43
 array-share-prefix-bytes : tie.Need-array-share-prefix-bytes
 array-share-prefix-bytes c = search needs
 
--- src/days.rt:68:43
 slice-aggregate-measured-2 : tie.Need-slice-aggregate-measured-2
 slice-aggregate-measured-2 c = sym (length-take-le _ _ (omega (arith, kept (c .before .before .before .low-bytes .ensures), c .before .before .before .low-bytes .ensures .inside)))
 
--- src/days.rt:68:20
 measured-requires : tie.Need-measured-requires
 measured-requires c κs = omega (arith, length-take-le (c .before .before .before .low-bytes .result) (c .before .before .before .low-bytes .last .1 .0) (omega (arith, kept (c .before .before .before .low-bytes .ensures), c .before .before .before .low-bytes .ensures .inside)), c .before .before .before .low-bytes .ensures .inside)
 
--- src/days.rt:69:28
 slice-aggregate-answer : tie.Need-slice-aggregate-answer
 slice-aggregate-answer c = search needs
 
--- src/days.rt:69:38
 slice-aggregate-answer-2 : tie.Need-slice-aggregate-answer-2
 slice-aggregate-answer-2 c = search needs
 
--- src/days.rt:69:43
 slice-aggregate-answer-3 : tie.Need-slice-aggregate-answer-3
 slice-aggregate-answer-3 c = search needs
 
--- src/days.rt:69:5
 answer-requires : tie.Need-answer-requires
 answer-requires c κs = search needs
 
--- src/days.rt:56:1
 same-length : tie.Need-same-length
 same-length c = search needs
 
--- src/days.rt:56:1
 returns-2 : tie.Need-returns-2
 returns-2 c = said (some-day _ (rw (c .before .before .before .before .before .before .before .before .before .before .before .before .before .before .before .before .before .before .before .nth-byte .ensures) at (sym (c .before .before .before .before .before .before .before .before .before .before .before .before .before .before .before .before .before .before .is-day .ensures) ∙ not-false _ (c .before .before .before .before .before .before .before .before .before .before .before .before .before .before .before .before .before .if1 .left)))) (rw (c .before .before .before .before .before .before .before .measured .ensures, front (c .before .before .before .before .before .before .before .before .before .before .before .low-bytes .ensures), front (c .before .before .before .before .before .before .before .before .before .before .before .before .before .before .before .numbers .ensures)) at (c .before .before .answer .ensures .0))
 

@@ -3,62 +3,43 @@ use native.Mathlib.Omega.{arith}
 use borrow.Author.Needs.{needs}
 use Rattle.commands.proofs.filling.day_input.Statement.{statement}
 use Rattle.commands.proofs.filling.day_input.Tie as tie
-use Rattle.commands.proofs.filling.day_input.Reads as reads
-use Rattle.commands.proofs.filling.day_input.Lts as lts
-use Rattle.commands.proofs.filling.fill.Reads as fill-reads
-use Rattle.commands.proofs.picking.least.Reads as least-reads
-use Rattle.commands.proofs.picking.nth.Reads as nth-reads
-use Rattle.commands.proofs.picking.nth_byte.Reads as nth-byte-reads
 
--- src/filling.rt:30:9
 least-requires : tie.Need-least-requires
 least-requires c κs = search needs
 
--- src/filling.rt:31:29
 sub-room : tie.Need-sub-room
 sub-room c = search needs
 
--- src/filling.rt:31:16
 sub-room-2 : tie.Need-sub-room-2
 sub-room-2 c = search needs
 
--- src/filling.rt:32:23
 nth-requires : tie.Need-nth-requires
 nth-requires c κs = search needs
 
--- src/filling.rt:32:23
 cast-least : tie.Need-cast-least
 cast-least c = search needs
 
--- src/filling.rt:32:9
 least-requires-2 : tie.Need-least-requires-2
 least-requires-2 c κs = search needs
 
--- src/filling.rt:33:10
 sub-fill : tie.Need-sub-fill
 sub-fill c = search needs
 
--- src/filling.rt:33:10
 part-fill-start : tie.Need-part-fill-start
 part-fill-start c = search needs
 
--- src/filling.rt:33:10
 part-fill-end : tie.Need-part-fill-end
 part-fill-end c = search needs
 
--- src/filling.rt:33:33
 nth-byte-requires : tie.Need-nth-byte-requires
 nth-byte-requires c κs = search needs
 
--- src/filling.rt:33:5
 fill-requires : tie.Need-fill-requires
 fill-requires c κs = search needs
 
--- src/filling.rt:26:1
 same-length : tie.Need-same-length
 same-length c = search needs
 
--- src/filling.rt:26:1
 returns : tie.Need-returns
 returns c = let g = c .before .before .before .before .before .before .before .before .before .before .before .before .args in input-made (g .values .now) (g .bytes .now) _ _ _ (c .before .before .before .before .before .before .before .before .least .result) (c .before .before .before .before .before .before .least2 .result) (c .before .before .before .before .before .before .before .nth .result) (c .before .before .before .before .nth-byte .result) (c .before .before .before .before .before .before .before .before .least .ensures .0) (c .before .before .before .before .before .before .before .before .least .ensures .2) (c .before .before .before .before .before .before .least2 .ensures .0) (c .before .before .before .before .before .before .before .nth .ensures) (c .before .before .before .before .nth-byte .ensures) (c .before .before .fill .ensures)
 

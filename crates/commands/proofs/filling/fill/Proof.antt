@@ -8,9 +8,6 @@ use native.Mathlib.Omega.{arith}
 use borrow.Author.Needs.{needs}
 use Rattle.commands.proofs.filling.fill.Statement.{statement}
 use Rattle.commands.proofs.filling.fill.Tie as tie
-use Rattle.commands.proofs.filling.fill.Reads as reads
-use Rattle.commands.proofs.filling.fill.Lts as lts
-use Rattle.text.proofs.word.Reads as word-reads
 
 abbrev Inv-loop : tie.InvT-loop
 Inv-loop bytes count value out₀ from i₀ out i = (i ≤ count) × (length out ≡ length out₀) × (out ≡ sets out₀ from (replicate i value))
@@ -18,43 +15,33 @@ Inv-loop bytes count value out₀ from i₀ out i = (i ≤ count) × (length out
 abbrev μ-loop : tie.MeasureT-loop
 μ-loop bytes count value out₀ from i₀ out i = count - i
 
--- src/filling.rt:12:9
 word-requires : tie.Need-word-requires Inv-loop μ-loop
 word-requires c κs = omega (arith, c .before .before .before .pre)
 
--- src/filling.rt:14:5
 loop-holds : tie.Need-loop-holds Inv-loop μ-loop
 loop-holds c = (omega arith, refl, refl)
 
--- src/filling.rt:15:13
 add-out : tie.Need-add-out Inv-loop μ-loop
 add-out c = omega (arith, c .before .before .before .before .word .ensures .place, c .before .before .before .before .before .before .before .before .pre)
 
--- src/filling.rt:15:9
 slice-write-out : tie.Need-slice-write-out Inv-loop μ-loop
 slice-write-out c = omega (arith, c .before .loop .inv .1, kept (c .before .before .before .before .word .ensures), c .before .before .before .before .word .ensures .place, c .before .before .before .before .before .before .before .before .pre)
 
--- src/filling.rt:16:13
 add-i : tie.Need-add-i Inv-loop μ-loop
 add-i c = search needs
 
--- src/filling.rt:14:5
 loop-less : tie.Need-loop-less Inv-loop μ-loop
 loop-less c = search needs
 
--- src/filling.rt:14:5
 loop-again : tie.Need-loop-again Inv-loop μ-loop
 loop-again c = let v = c .before .loop .inv in (omega arith, simp length-set (v .1), rw (v .2) (fill-more (c .before .before .before .before .word .last .0) (c .before .before .before .before .word .result) (c .before .loop .i) (c .before .before .before .before .before .before .before .before .args .value)))
 
--- src/filling.rt:18:5
 add-result : tie.Need-add-result Inv-loop μ-loop
 add-result c = omega (arith, c .before .before .before .before .word .ensures .place, c .before .before .before .before .before .before .before .before .pre)
 
--- src/filling.rt:8:1
 same-length : tie.Need-same-length Inv-loop μ-loop
 same-length c = c .before .loop .inv .1 ∙ kept (c .before .before .before .before .word .ensures)
 
--- src/filling.rt:8:1
 returns : tie.Need-returns Inv-loop μ-loop
 returns c = filled _ _ _ _ _ _ _ (c .before .loop .i) (c .before .before .before .before .before .before .before .before .pre) (c .before .before .before .before .word .ensures) (omega arith) (c .before .loop .inv .2)
 

@@ -4,15 +4,11 @@ use native.Mathlib.Omega.{arith}
 use borrow.Author.Needs.{needs}
 use Rattle.replies.proofs.machine.flag.Statement.{statement}
 use Rattle.replies.proofs.machine.flag.Tie as tie
-use Rattle.replies.proofs.machine.flag.Reads as reads
-use Rattle.replies.proofs.machine.flag.Lts as lts
 
--- src/machine.rt:20:9
 returns : tie.Need-returns
 unfolding flag
 returns c = sym (ap flag (c .if1 .taken))
 
--- src/machine.rt:16:1
 returns-2 : tie.Need-returns-2
 unfolding flag
 returns-2 c = sym (ap flag (c .if1 .left))

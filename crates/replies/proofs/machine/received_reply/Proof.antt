@@ -4,49 +4,34 @@ use native.Mathlib.Omega.{arith}
 use borrow.Author.Needs.{needs}
 use Rattle.replies.proofs.machine.received_reply.Statement.{statement}
 use Rattle.replies.proofs.machine.received_reply.Tie as tie
-use Rattle.replies.proofs.machine.received_reply.Reads as reads
-use Rattle.replies.proofs.machine.received_reply.Lts as lts
-use Rattle.layout.proofs.configuration_bytes.Reads as configuration-bytes-reads
-use Rattle.replies.proofs.machine.flag.Reads as flag-reads
-use Rattle.script.proofs.answer.Reads as answer-reads
 
--- src/machine.rt:47:20
 cast-t8 : tie.Need-cast-t8
 cast-t8 c = search needs
 
--- src/machine.rt:47:40
 cast-t9 : tie.Need-cast-t9
 cast-t9 c = search needs
 
--- src/machine.rt:47:58
 flag-requires : tie.Need-flag-requires
 flag-requires c κs = search needs
 
--- src/machine.rt:49:17
 configuration-bytes-requires : tie.Need-configuration-bytes-requires
 configuration-bytes-requires c κs = search needs
 
--- src/machine.rt:51:21
 slice-aggregate-answer : tie.Need-slice-aggregate-answer
 slice-aggregate-answer c = search needs
 
--- src/machine.rt:51:31
 slice-aggregate-answer-2 : tie.Need-slice-aggregate-answer-2
 slice-aggregate-answer-2 c = search needs
 
--- src/machine.rt:51:39
 slice-aggregate-answer-3 : tie.Need-slice-aggregate-answer-3
 slice-aggregate-answer-3 c = search needs
 
--- src/machine.rt:51:5
 answer-requires : tie.Need-answer-requires
 answer-requires c κs = let e : length (c .before .before .before .before .before .before .before .before .before .before .before .args .x .emitted) ≡ 7 = search needs in let b : length (c .before .before .before .before .before .configuration-bytes .result) ≡ 8 = search needs in (c .before .before .before .before .before .before .before .before .before .before .before .pre, omega arith, omega arith, omega arith)
 
--- src/machine.rt:43:1
 same-length : tie.Need-same-length
 same-length c = search needs
 
--- src/machine.rt:43:1
 returns : tie.Need-returns
 returns c = rw (c .before .before .before .before .before .before .before .before .configuration-bytes .ensures, c .before .before .before .before .before .before .before .before .before .before .flag .ensures) at (c .before .before .answer .ensures)
 

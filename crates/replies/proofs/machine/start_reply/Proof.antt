@@ -2,40 +2,28 @@ use native.Mathlib.Omega.{arith}
 use borrow.Author.Needs.{needs}
 use Rattle.replies.proofs.machine.start_reply.Statement.{statement}
 use Rattle.replies.proofs.machine.start_reply.Tie as tie
-use Rattle.replies.proofs.machine.start_reply.Reads as reads
-use Rattle.replies.proofs.machine.start_reply.Lts as lts
-use Rattle.layout.proofs.configuration_bytes.Reads as configuration-bytes-reads
-use Rattle.script.proofs.answer.Reads as answer-reads
 
--- src/machine.rt:29:20
 cast-t8 : tie.Need-cast-t8
 cast-t8 c = search needs
 
--- src/machine.rt:31:17
 configuration-bytes-requires : tie.Need-configuration-bytes-requires
 configuration-bytes-requires c κs = search needs
 
--- src/machine.rt:32:21
 slice-aggregate-answer : tie.Need-slice-aggregate-answer
 slice-aggregate-answer c = search needs
 
--- src/machine.rt:32:31
 slice-aggregate-answer-2 : tie.Need-slice-aggregate-answer-2
 slice-aggregate-answer-2 c = search needs
 
--- src/machine.rt:32:39
 slice-aggregate-answer-3 : tie.Need-slice-aggregate-answer-3
 slice-aggregate-answer-3 c = search needs
 
--- src/machine.rt:32:5
 answer-requires : tie.Need-answer-requires
 answer-requires c κs = search needs
 
--- src/machine.rt:25:1
 same-length : tie.Need-same-length
 same-length c = search needs
 
--- src/machine.rt:25:1
 returns : tie.Need-returns
 returns c = rw (c .before .before .before .before .before .before .before .configuration-bytes .ensures) at (c .before .before .answer .ensures)
 

@@ -6,37 +6,25 @@ use native.Mathlib.Omega.{arith}
 use borrow.Author.Needs.{needs}
 use Rattle.script.proofs.answers.answer.Statement.{statement}
 use Rattle.script.proofs.answers.answer.Tie as tie
-use Rattle.script.proofs.answers.answer.Reads as reads
-use Rattle.script.proofs.answers.answer.Lts as lts
-use Rattle.script.proofs.answers.head.Reads as head-reads
-use Rattle.script.proofs.answers.spaced_bytes.Reads as spaced-bytes-reads
-use Rattle.text.proofs.word.Reads as word-reads
 
--- src/answers.rt:70:9
 head-requires : tie.Need-head-requires
 head-requires c κs = search needs
 
--- src/answers.rt:71:9
 spaced-bytes-requires : tie.Need-spaced-bytes-requires
 spaced-bytes-requires c κs = search needs
 
--- src/answers.rt:72:9
 spaced-bytes-requires-2 : tie.Need-spaced-bytes-requires-2
 spaced-bytes-requires-2 c κs = search needs
 
--- src/answers.rt:73:22
 slice-aggregate-word : tie.Need-slice-aggregate-word
 slice-aggregate-word c = search needs
 
--- src/answers.rt:73:5
 word-requires : tie.Need-word-requires
 word-requires c κs = search needs
 
--- src/answers.rt:60:1
 same-length : tie.Need-same-length
 same-length c = search needs
 
--- src/answers.rt:60:1
 returns : tie.Need-returns
 unfolding answer ascii
 returns c = (after-head (c .before .before .before .before .before .before .before .before .before .before .before .before .before .before .before .before .before .before .before .before .before .args .numbers .now) (c .before .before .before .before .before .before .before .before .before .before .before .before .before .before .before .head .ensures .0) (behind (c .before .before .before .before .before .before .before .before .before .before .before .spaced-bytes .ensures .0) (behind (c .before .before .before .before .before .before .before .spaced-bytes2 .ensures .0) (c .before .before .word .ensures))), omega (arith, c .before .before .before .before .before .before .before .before .before .before .before .before .before .before .before .head .ensures .1, c .before .before .before .before .before .before .before .before .before .before .before .spaced-bytes .ensures .1, c .before .before .before .before .before .before .before .spaced-bytes2 .ensures .1, c .before .before .word .ensures .place, c .before .before .before .before .before .before .before .before .before .before .before .before .before .before .before .before .before .before .before .before .before .pre))

@@ -9,10 +9,6 @@ use native.Mathlib.Omega.{arith}
 use borrow.Author.Needs.{needs}
 use Rattle.script.proofs.answers.spaced_bytes.Statement.{statement}
 use Rattle.script.proofs.answers.spaced_bytes.Tie as tie
-use Rattle.script.proofs.answers.spaced_bytes.Reads as reads
-use Rattle.script.proofs.answers.spaced_bytes.Lts as lts
-use Rattle.base.proofs.size.Reads as size-reads
-use Rattle.text.proofs.labelled.Reads as labelled-reads
 
 abbrev Inv-loop : tie.InvT-loop
 Inv-loop out₀ at list place₀ i₀ t6 out place i = Spacing 4 list out₀ at out place i
@@ -20,43 +16,33 @@ Inv-loop out₀ at list place₀ i₀ t6 out place i = Spacing 4 list out₀ at 
 abbrev μ-loop : tie.MeasureT-loop
 μ-loop out₀ at list place₀ i₀ t6 out place i = length list - i
 
--- src/answers.rt:30:5
 loop-holds : tie.Need-loop-holds Inv-loop μ-loop
 loop-holds c = spacing-begins 4 _ _ _ (omega arith)
 
--- src/answers.rt:31:38
 slice-aggregate-labelled : tie.Need-slice-aggregate-labelled Inv-loop μ-loop
 slice-aggregate-labelled c = refl
 
--- src/answers.rt:31:55
 shared-slice-read-size : tie.Need-shared-slice-read-size Inv-loop μ-loop
 shared-slice-read-size c = search needs
 
--- src/answers.rt:31:44
 size-requires : tie.Need-size-requires Inv-loop μ-loop
 size-requires c κs = search needs
 
--- src/answers.rt:31:9
 labelled-requires : tie.Need-labelled-requires Inv-loop μ-loop
 labelled-requires c κs = let g = c .before .before .before .before .before .loop .inv in omega (arith, byte-length (c .size .result) (c .size .ensures .1), g .near, kept (g .so-far), c .before .before .before .before .loop-test .taken, c .before .before .before .before .before .before .before .before .pre)
 
--- src/answers.rt:32:13
 add-i : tie.Need-add-i Inv-loop μ-loop
 add-i c = search needs
 
--- src/answers.rt:30:5
 loop-less : tie.Need-loop-less Inv-loop μ-loop
 loop-less c = search needs
 
--- src/answers.rt:30:5
 loop-again : tie.Need-loop-again Inv-loop μ-loop
 loop-again c = let s = byte-length _ (rw (c .before .before .before .size .ensures .0) at (c .before .before .before .size .ensures .1)) in spacing-goes-on (c .before .before .before .before .before .before .before .before .loop .inv) (c .before .before .before .before .before .before .before .loop-test .taken) (omega (arith, s)) (rw (c .before .before .before .size .ensures .0) at (c .before .before .labelled .ensures))
 
--- src/answers.rt:24:1
 same-length : tie.Need-same-length Inv-loop μ-loop
 same-length c = kept (c .before .loop .inv .so-far)
 
--- src/answers.rt:24:1
 returns : tie.Need-returns Inv-loop μ-loop
 returns c = let e = spacing-done (c .before .loop .inv) (omega arith) in (e .0, omega (arith, e .1))
 

@@ -7,33 +7,22 @@ use native.Mathlib.Omega.{arith}
 use borrow.Author.Needs.{needs}
 use Rattle.script.proofs.answers.words_answer.Statement.{statement}
 use Rattle.script.proofs.answers.words_answer.Tie as tie
-use Rattle.script.proofs.answers.words_answer.Reads as reads
-use Rattle.script.proofs.answers.words_answer.Lts as lts
-use Rattle.script.proofs.answers.head.Reads as head-reads
-use Rattle.script.proofs.answers.spaced_words.Reads as spaced-words-reads
-use Rattle.text.proofs.word.Reads as word-reads
 
--- src/answers.rt:81:9
 head-requires : tie.Need-head-requires
 head-requires c κs = search needs
 
--- src/answers.rt:82:9
 spaced-words-requires : tie.Need-spaced-words-requires
 spaced-words-requires c κs = search needs
 
--- src/answers.rt:83:22
 slice-aggregate-word : tie.Need-slice-aggregate-word
 slice-aggregate-word c = search needs
 
--- src/answers.rt:83:5
 word-requires : tie.Need-word-requires
 word-requires c κs = search needs
 
--- src/answers.rt:77:1
 same-length : tie.Need-same-length
 same-length c = search needs
 
--- src/answers.rt:77:1
 returns : tie.Need-returns
 unfolding answer ascii spaced
 returns c = (after-head (c .before .before .before .before .before .before .before .before .before .before .before .before .before .before .before .before .args .numbers .now) (c .before .before .before .before .before .before .before .before .before .before .before .head .ensures .0) (behind (c .before .before .before .before .before .before .before .spaced-words .ensures .0) (c .before .before .word .ensures)), omega (arith, c .before .before .before .before .before .before .before .before .before .before .before .head .ensures .1, c .before .before .before .before .before .before .before .spaced-words .ensures .1, c .before .before .word .ensures .place, c .before .before .before .before .before .before .before .before .before .before .before .before .before .before .before .before .pre))

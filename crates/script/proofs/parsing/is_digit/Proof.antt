@@ -4,14 +4,10 @@ use native.Mathlib.Omega.{arith}
 use borrow.Author.Needs.{needs}
 use Rattle.script.proofs.parsing.is_digit.Statement.{statement}
 use Rattle.script.proofs.parsing.is_digit.Tie as tie
-use Rattle.script.proofs.parsing.is_digit.Reads as reads
-use Rattle.script.proofs.parsing.is_digit.Lts as lts
 
--- src/parsing.rt:12:9
 returns : tie.Need-returns
 returns c = sym (digit-low _ (c .if1 .taken))
 
--- src/parsing.rt:8:1
 returns-2 : tie.Need-returns-2
 returns-2 c = sym (digit-high _ (c .if1 .left))
 

@@ -9,8 +9,6 @@ use native.Mathlib.Omega.{arith}
 use borrow.Author.Needs.{needs}
 use Rattle.script.proofs.parsing.low_bytes.Statement.{statement}
 use Rattle.script.proofs.parsing.low_bytes.Tie as tie
-use Rattle.script.proofs.parsing.low_bytes.Reads as reads
-use Rattle.script.proofs.parsing.low_bytes.Lts as lts
 
 abbrev Inv-loop : tie.InvT-loop
 Inv-loop values out₀ i₀ out i = (i ≤ length values) × (length out ≡ length out₀) × (out ≡ sets out₀ 0 (lowBytes (take i values)))
@@ -18,44 +16,34 @@ Inv-loop values out₀ i₀ out i = (i ≤ length values) × (length out ≡ len
 abbrev μ-loop : tie.MeasureT-loop
 μ-loop values out₀ i₀ out i = length values - i
 
--- src/parsing.rt:55:5
 loop-holds : tie.Need-loop-holds Inv-loop μ-loop
 unfolding lowBytes
 loop-holds c = (omega arith, refl, refl)
 
--- src/parsing.rt:56:19
 mul-out : tie.Need-mul-out Inv-loop μ-loop
 mul-out c = search needs
 
--- src/parsing.rt:56:19
 shared-slice-read-out : tie.Need-shared-slice-read-out Inv-loop μ-loop
 shared-slice-read-out c = search needs
 
--- src/parsing.rt:56:18
 cast-out : tie.Need-cast-out Inv-loop μ-loop
 cast-out c = search needs
 
--- src/parsing.rt:56:9
 slice-write-out : tie.Need-slice-write-out Inv-loop μ-loop
 slice-write-out c = search needs
 
--- src/parsing.rt:57:13
 add-i : tie.Need-add-i Inv-loop μ-loop
 add-i c = search needs
 
--- src/parsing.rt:55:5
 loop-less : tie.Need-loop-less Inv-loop μ-loop
 loop-less c = search needs
 
--- src/parsing.rt:55:5
 loop-again : tie.Need-loop-again Inv-loop μ-loop
 loop-again c = let v = c .before .before .loop .inv in let a = c .before .before .before .args in (omega arith, simp length-set (v .1), rw (v .2) (low-more (a .values .now) (a .out .now) (c .before .before .loop .i) (omega arith)))
 
--- src/parsing.rt:50:1
 same-length : tie.Need-same-length Inv-loop μ-loop
 same-length c = search needs
 
--- src/parsing.rt:50:1
 returns : tie.Need-returns Inv-loop μ-loop
 returns c = low-done _ _ _ _ (omega arith) (omega arith) (c .before .before .pre) (c .before .loop .inv .2)
 

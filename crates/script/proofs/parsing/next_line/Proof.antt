@@ -7,8 +7,6 @@ use native.Mathlib.Omega.{arith}
 use borrow.Author.Needs.{needs}
 use Rattle.script.proofs.parsing.next_line.Statement.{statement}
 use Rattle.script.proofs.parsing.next_line.Tie as tie
-use Rattle.script.proofs.parsing.next_line.Reads as reads
-use Rattle.script.proofs.parsing.next_line.Lts as lts
 
 abbrev Inv-loop : tie.InvT-loop
 Inv-loop text at i₀ i = i + lineLength (drop i text) ≡ at + lineLength (drop at text)
@@ -16,35 +14,27 @@ Inv-loop text at i₀ i = i + lineLength (drop i text) ≡ at + lineLength (drop
 abbrev μ-loop : tie.MeasureT-loop
 μ-loop text at i₀ i = length text - i
 
--- src/parsing.rt:67:5
 loop-holds : tie.Need-loop-holds Inv-loop μ-loop
 loop-holds c = refl
 
--- src/parsing.rt:68:12
 shared-slice-read-if1 : tie.Need-shared-slice-read-if1 Inv-loop μ-loop
 shared-slice-read-if1 c = search needs
 
--- src/parsing.rt:69:20
 add-result : tie.Need-add-result Inv-loop μ-loop
 add-result c = search needs
 
--- src/parsing.rt:69:13
 returns : tie.Need-returns Inv-loop μ-loop
 returns c = let t = c .before .before .before .before .args .text .now in sym (line-ends t (c .before .before .before .loop .i) (omega arith) (c .if1 .taken)) ∙ c .before .before .before .loop .inv
 
--- src/parsing.rt:71:13
 add-i : tie.Need-add-i Inv-loop μ-loop
 add-i c = search needs
 
--- src/parsing.rt:67:5
 loop-less : tie.Need-loop-less Inv-loop μ-loop
 loop-less c = search needs
 
--- src/parsing.rt:67:5
 loop-again : tie.Need-loop-again Inv-loop μ-loop
 loop-again c = let t = c .before .before .before .before .args .text .now in sym (line-goes-on t (c .before .before .before .loop .i) (omega arith) (c .if1 .left)) ∙ c .before .before .before .loop .inv
 
--- src/parsing.rt:63:1
 returns-2 : tie.Need-returns-2 Inv-loop μ-loop
 returns-2 c = sym (line-over (c .before .before .args .text .now) (c .before .loop .i) (omega arith)) ∙ c .before .loop .inv
 

@@ -7,10 +7,6 @@ use native.Mathlib.Omega.{arith}
 use borrow.Author.Needs.{needs}
 use Rattle.script.proofs.parsing.numbers.Statement.{statement}
 use Rattle.script.proofs.parsing.numbers.Tie as tie
-use Rattle.script.proofs.parsing.numbers.Reads as reads
-use Rattle.script.proofs.parsing.numbers.Lts as lts
-use Rattle.script.proofs.parsing.is_digit.Reads as is-digit-reads
-use Rattle.script.proofs.parsing.shifted.Reads as shifted-reads
 
 abbrev Inv-loop : tie.InvT-loop
 Inv-loop text out₀ count₀ value₀ inside₀ i₀ out count value inside i = Scanning text out₀ out count value inside i
@@ -18,67 +14,51 @@ Inv-loop text out₀ count₀ value₀ inside₀ i₀ out count value inside i =
 abbrev μ-loop : tie.MeasureT-loop
 μ-loop text out₀ count₀ value₀ inside₀ i₀ out count value inside i = length text - i
 
--- src/parsing.rt:33:5
 loop-holds : tie.Need-loop-holds Inv-loop μ-loop
 loop-holds c = scanning-begins _ _
 
--- src/parsing.rt:34:17
 shared-slice-read-b : tie.Need-shared-slice-read-b Inv-loop μ-loop
 shared-slice-read-b c = search needs
 
--- src/parsing.rt:35:13
 add-i : tie.Need-add-i Inv-loop μ-loop
 add-i c = search needs
 
--- src/parsing.rt:36:12
 is-digit-requires : tie.Need-is-digit-requires Inv-loop μ-loop
 is-digit-requires c κs = search needs
 
--- src/parsing.rt:37:13
 shifted-requires : tie.Need-shifted-requires Inv-loop μ-loop
 shifted-requires c κs = search needs
 
--- src/parsing.rt:33:5
 loop-less : tie.Need-loop-less Inv-loop μ-loop
 loop-less c = search needs
 
--- src/parsing.rt:33:5
 loop-again : tie.Need-loop-again Inv-loop μ-loop
 loop-again c = scanning-digit (c .before .before .before .before .before .loop .inv) (c .before .before .before .before .loop-test .taken) (sym (c .before .before .is-digit .ensures) ∙ c .before .if1 .taken) (c .shifted .ensures)
 
--- src/parsing.rt:40:13
 mul-out : tie.Need-mul-out Inv-loop μ-loop
 mul-out c = search needs
 
--- src/parsing.rt:40:13
 slice-write-out : tie.Need-slice-write-out Inv-loop μ-loop
 slice-write-out c = omega (arith, scanning-kept (c .before .before .before .before .before .loop .inv), c .before .before .before .before .before .loop .inv .few, c .before .before .before .before .loop-test .taken, c .before .before .before .before .before .before .before .before .pre)
 
--- src/parsing.rt:41:21
 add-count : tie.Need-add-count Inv-loop μ-loop
 add-count c = omega (arith, c .before .before .before .before .before .loop .inv .few, c .before .before .before .before .loop-test .taken)
 
--- src/parsing.rt:33:5
 loop-less-2 : tie.Need-loop-less-2 Inv-loop μ-loop
 loop-less-2 c = search needs
 
--- src/parsing.rt:33:5
 loop-again-2 : tie.Need-loop-again-2 Inv-loop μ-loop
 loop-again-2 c = scanning-ends (c .before .before .before .before .before .loop .inv) (c .before .before .before .before .loop-test .taken) (sym (c .before .before .is-digit .ensures) ∙ c .before .if1 .left) (c .if2 .taken)
 
--- src/parsing.rt:33:5
 loop-less-3 : tie.Need-loop-less-3 Inv-loop μ-loop
 loop-less-3 c = search needs
 
--- src/parsing.rt:33:5
 loop-again-3 : tie.Need-loop-again-3 Inv-loop μ-loop
 loop-again-3 c = scanning-skips (c .before .before .before .before .before .loop .inv) (c .before .before .before .before .loop-test .taken) (sym (c .before .before .is-digit .ensures) ∙ c .before .if1 .left) (c .if2 .left)
 
--- src/parsing.rt:25:1
 same-length : tie.Need-same-length Inv-loop μ-loop
 same-length c = scanning-kept (c .before .loop .inv)
 
--- src/parsing.rt:25:1
 returns : tie.Need-returns Inv-loop μ-loop
 returns c = scanning-done (c .before .loop .inv) (omega arith) (c .before .before .before .before .pre)
 

@@ -4,26 +4,19 @@ use native.Mathlib.Omega.{arith}
 use borrow.Author.Needs.{needs}
 use Rattle.script.proofs.parsing.shifted.Statement.{statement}
 use Rattle.script.proofs.parsing.shifted.Tie as tie
-use Rattle.script.proofs.parsing.shifted.Reads as reads
-use Rattle.script.proofs.parsing.shifted.Lts as lts
 
--- src/parsing.rt:21:7
 mul-result : tie.Need-mul-result
 mul-result c = search needs
 
--- src/parsing.rt:21:27
 cast-result : tie.Need-cast-result
 cast-result c = search needs
 
--- src/parsing.rt:21:7
 add-result : tie.Need-add-result
 add-result c = search needs
 
--- src/parsing.rt:21:5
 cast-result-2 : tie.Need-cast-result-2
 cast-result-2 c = search needs
 
--- src/parsing.rt:18:1
 returns : tie.Need-returns
 unfolding shifted
 returns c = refl
