@@ -20,7 +20,7 @@ spaced-append (e ∷ p) q =
     sym (append-assoc (ascii " ") (decimal e ++ spaced p) (spaced q))
 
 -- one more symbol
-one-more : (list : List ℕ) (i : ℕ) → i < length list
+pub one-more : (list : List ℕ) (i : ℕ) → i < length list
     → spaced (take (i + 1) list) ≡ spaced (take i list) ++ (32 ∷ decimal (getD list i 0))
 unfolding spaced ascii
 one-more list i h =

@@ -1,0 +1,5 @@
+pub mod Lowering
+pub mod Scanning
+pub mod Lining
+pub mod Spacing
+pub mod Answering

@@ -1,0 +1,2 @@
+pub mod Lesser
+pub mod Words
