@@ -1,4 +1,2 @@
 pub mod Bounds
-pub mod Buffers
-pub mod Lengths
 pub mod Answers

@@ -1,5 +1,5 @@
 use Rattle.automaton.proofs.Facts.{valid-facts}
-use Rattle.winning.proofs.Lengths.{Lent, lent-of, lent-small, lent-settled, Lengthening, some-buffer, length-none, begun-length, begun-rest, length-small, length-place, length-next, length-room, length-more, length-fits, length-all}
+use Rattle.solving.proofs.Lengths.{Lent, lent-of, lent-small, lent-settled, Lengthening, some-buffer, length-none, begun-length, begun-rest, length-small, length-place, length-next, length-room, length-more, length-fits, length-all}
 use Rattle.sets.specs.Table.{buffersCount, table as tableOf}
 use lib.ListN.{length as len, length-set}
 use Prim.Native.Nat.{_+_, _*_, _≤_, _-_}

@@ -24,8 +24,8 @@ use Rattle.refinement.specs.Parts.{Fits, freeOf, settledOn}
 use Rattle.table.specs.Parts.{setsFrom, levelOf, stored}
 use Rattle.table.proofs.Filling.{sum-append, stored-append}
 use Rattle.refinement.proofs.Agreeing.{accepting-is, lent-fits, accepting-below, settled-is}
-use Rattle.winning.proofs.Buffers.{front, next-level}
+use Rattle.solving.proofs.Buffers.{front, next-level}
 use Rattle.winning.proofs.Bounds.{pow-small, shorter-small, shorter-mono, shorter-one, rounds-few}
 
 -- what the loop has of an automaton
 pub record Lent (a : Automaton) (n m b k accepting : ℕ) (free : Symbols) : Type 0 where
