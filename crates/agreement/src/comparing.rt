@@ -3,7 +3,7 @@ use automaton::Automaton;
 use configuration::Configuration;
 use game::Verdict;
 ghost use mathlib.Core.Path.{_≡_};
-ghost use mathlib.Core.Bool.{_&&_, _||_};
+ghost use mathlib.Core.Bool.{_&&_};
 ghost use Rattle.agreement.specs.Agreement.{same, agreesAt, inState, agrees, solvedAgrees};
 
 fn same(a: bool, b: bool) -> bool

@@ -15,7 +15,8 @@
 //   run PLACES ROOM EVENTS          a whole day: refusal, length, refused, state, held, buffer, the output
 //   judge                           the game: refusal, may rest, can rest
 //   many COUNT PLACE N K NUMBERS    the game against the solver with this buffer, on so many sheets of a shape: on how many they agree
-//   day COUNT BYTE BYTES            what the day program prints on the bytes and, behind them, COUNT times the byte
+//   day COUNT BYTE BYTES            what the day program prints on the bytes and, behind them, COUNT times the byte; its length
+//   volume COUNT BYTE BYTES         only the length of that (crate `cases` answers `day` and `volume`)
 // A line that begins otherwise is printed and no more.
 mod filling;
 

@@ -19,7 +19,7 @@ scan v inside (b ∷ bs) =
     (scan (shifted v b) true bs)
     (cond inside (v ∷ scan 0 false bs) (scan v false bs))
 
--- the numbers of a text
+-- the numbers of a text; one at its very end, with nothing behind it, is not counted (a line has its newline)
 unfoldable pub numbers : List ℕ → List ℕ
 numbers text = scan 0 false text
 

@@ -17,15 +17,15 @@ day-input-requires c κs = search needs
 array-share-prefix-input : tie.Need-array-share-prefix-input
 array-share-prefix-input c = search needs
 
-slice-aggregate-day : tie.Need-slice-aggregate-day
-slice-aggregate-day c = sym (length-take-le _ _ (omega (arith, kept (c .before .before .day-input .ensures), c .before .before .day-input .ensures .inside)))
+slice-aggregate-write : tie.Need-slice-aggregate-write
+slice-aggregate-write c = sym (length-take-le _ _ (omega (arith, kept (c .before .before .day-input .ensures), c .before .before .day-input .ensures .inside)))
 
-day-requires : tie.Need-day-requires
-day-requires c κs = search needs
+write-requires : tie.Need-write-requires
+write-requires c κs = search needs
 
 returns : tie.Need-returns
 unfolding measured
-returns c = rw (front (c .before .before .before .before .day-input .ensures)) at (c .day .ensures .0)
+returns c = rw (front (c .before .before .before .before .day-input .ensures)) at (c .write .ensures .0)
 
 pub measured-spec : {M : Type 1} → statement M
 measured-spec =
@@ -34,6 +34,6 @@ measured-spec =
     slice-aggregate-day-input
     day-input-requires
     array-share-prefix-input
-    slice-aggregate-day
-    day-requires
+    slice-aggregate-write
+    write-requires
     returns)

@@ -1,5 +1,5 @@
 use Prim.Native.Nat.{_<_}
-use Rattle.cases.proofs.Totals.{total-begins, total-goes, total-done}
+use Rattle.writing.proofs.Totals.{total-begins, total-goes, total-done}
 use Rattle.transcript.specs.Transcript.{transcript}
 use Rattle.transcript.specs.Pieces.{toCome}
 use Rattle.transcript.proofs.Continuing.{kept-length, less-left}
@@ -9,8 +9,8 @@ use Prim.Native.Nat.{_+_, _%_, _^_}
 use mathlib.Core.Path.{_≡_, refl, sym, _∙_, ap}
 use native.Mathlib.Omega.{arith}
 use borrow.Author.Needs.{needs}
-use Rattle.cases.proofs.days.day.Statement.{statement}
-use Rattle.cases.proofs.days.day.Tie as tie
+use Rattle.writing.proofs.write.Statement.{statement}
+use Rattle.writing.proofs.write.Tie as tie
 
 abbrev Inv-loop : tie.InvT-loop
 Inv-loop input table shown out₀ total₀ progress₀ out total progress = (length out ≡ 32768) × ((total + length (toCome table input progress)) % 2 ^ 64 ≡ length (transcript input) % 2 ^ 64) × (total < 2 ^ 64)
@@ -57,8 +57,8 @@ loop-again-2 c = (kept-length (c .before .before .before .before .before .next-p
 returns : tie.Need-returns Inv-loop μ-loop
 returns c = (total-done _ _ _ (c .before .before .next-piece .ensures .1 (omega (arith, c .before .before .before .before .before .before .loop .inv .0)) (c .if1 .taken)) (c .before .before .before .before .before .before .loop .inv .2) (c .before .before .before .before .before .before .loop .inv .1), c .before .before .before .before .before .before .before .begin .ensures .1)
 
-pub day-spec : {M : Type 1} → statement M
-day-spec =
+pub write-spec : {M : Type 1} → statement M
+write-spec =
     tie.close
     (tie.spec
     Inv-loop
