@@ -8,7 +8,7 @@ those of include/jaxhophasi.h.
 import ctypes
 import sys
 
-AUTOMATON_SIZE, CONFIGURATION_SIZE, NUMBER_SIZE, STATUS_SIZE, RECEIVED_SIZE, RAN_SIZE = 564, 8, 8, 1, 9, 16
+AUTOMATON_SIZE, CONFIGURATION_SIZE, NUMBER_SIZE, STATUS_SIZE, RECEIVED_SIZE, RAN_SIZE, VERDICT_SIZE = 564, 8, 8, 1, 9, 16, 2
 
 
 def numbers(values):
@@ -25,20 +25,24 @@ def number_at(answer, offset=0):
     return int.from_bytes(bytes(answer[offset:offset + NUMBER_SIZE]), "little")
 
 
-def declare(library):
-    """The functions' types: a list is a pointer and then its length."""
+def library_at(path):
+    """The shared object with its functions' types: a list is a pointer and then its length."""
+    library = ctypes.CDLL(path)
     byte, word, size = ctypes.POINTER(ctypes.c_uint8), ctypes.POINTER(ctypes.c_uint32), ctypes.c_size_t
     for name, types in {
         "read": [byte, size, byte, byte],
+        "write": [byte, byte, size, byte],
         "buffers_count": [byte, byte],
         "solve": [byte, word, size, byte],
         "initial": [byte, byte],
         "winning": [byte, word, size, byte, byte],
         "receive": [byte, word, size, byte, ctypes.c_uint32, byte],
         "run": [byte, word, size, byte, word, size, byte, size, byte],
+        "judge": [byte, byte, byte],
     }.items():
         function = getattr(library, "jaxhophasi_" + name)
         function.argtypes, function.restype = types, ctypes.c_uint8
+    return library
 
 
 def symbols(values):
@@ -100,8 +104,7 @@ def print_day(library, automaton, table, places, events):
 
 
 def main(path, sheet, events):
-    library = ctypes.CDLL(path)
-    declare(library)
+    library = library_at(path)
     automaton = read(library, sheet)
     if automaton is None:
         return 1

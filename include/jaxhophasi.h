@@ -67,6 +67,11 @@ static inline uint64_t jaxhophasi_number_at(const uint8_t *bytes)
 #define JAXHOPHASI_RAN_LENGTH 0  /* bytes of output written */
 #define JAXHOPHASI_RAN_REFUSED 8 /* events refused by 14 or 15 */
 
+/* What jaxhophasi_judge answers: 1 yes, 0 no. */
+#define JAXHOPHASI_VERDICT_SIZE 2
+#define JAXHOPHASI_VERDICT_MAY_REST 0 /* may rest where it is */
+#define JAXHOPHASI_VERDICT_CAN_REST 1 /* can come to rest, there or by a release */
+
 /* Places of the table for T held lists, and of the largest sheet's. */
 #define JAXHOPHASI_TABLE_LENGTH(T) (2 * (T))
 #define JAXHOPHASI_TABLE_MOST 599186
@@ -89,11 +94,12 @@ enum {
     JAXHOPHASI_BYTES_LEFT = 10,          /* read: bytes after the sheet */
     JAXHOPHASI_BAD_AUTOMATON = 11,       /* a record that breaks 3 to 9, or a nonzero unused place */
     JAXHOPHASI_SHORT_TABLE = 12,         /* solve, winning, receive, run: table shorter than 2 T */
-    JAXHOPHASI_BAD_CONFIGURATION = 13,   /* winning, receive, run: state not below n, over B held, a held event that is
+    JAXHOPHASI_BAD_CONFIGURATION = 13,   /* winning, receive, run, judge: state not below n, over B held, a held event that is
                                             no controllable kind, or a nonzero unused place */
     JAXHOPHASI_BAD_EVENT = 14,           /* receive: event not below m (a day passes over it and counts it) */
     JAXHOPHASI_BUFFER_FULL = 15,         /* receive: controllable event, hold full (a day passes over it and counts it) */
-    JAXHOPHASI_SHORT_OUTPUT = 16         /* write: buffer too short; run: output shorter than events plus held */
+    JAXHOPHASI_SHORT_OUTPUT = 16,        /* write: buffer too short; run: output shorter than events plus held */
+    JAXHOPHASI_TOO_LARGE = 17            /* judge: over 4 states, 2 uncontrollable kinds or 3 held */
 };
 
 /* Reads and checks a sheet. Rows 1 to 10, left to right; place is where the faulty number begins, 0 where there is none. */
@@ -126,6 +132,11 @@ uint8_t jaxhophasi_receive(const uint8_t automaton[JAXHOPHASI_AUTOMATON_SIZE], c
 uint8_t jaxhophasi_run(const uint8_t automaton[JAXHOPHASI_AUTOMATON_SIZE], const uint32_t *table, size_t table_length,
     uint8_t configuration[JAXHOPHASI_CONFIGURATION_SIZE], const uint32_t *events, size_t events_length, uint8_t *out, size_t out_length,
     uint8_t answer[JAXHOPHASI_RAN_SIZE]);
+
+/* The second judge: may the gate rest where it is, can it come to rest? By the rules' words, without a table; for small sheets.
+ * Rows 11, 13, 17. */
+uint8_t jaxhophasi_judge(const uint8_t automaton[JAXHOPHASI_AUTOMATON_SIZE], const uint8_t configuration[JAXHOPHASI_CONFIGURATION_SIZE],
+    uint8_t answer[JAXHOPHASI_VERDICT_SIZE]);
 
 #ifdef __cplusplus
 }

@@ -1,11 +1,12 @@
 // How numbers and answers lie in the bytes that a caller lends: what a call hands back beside its refusal and the configuration.
 use base::copy;
+use game::Verdict;
 use monitor::Ran;
 use monitor::Received;
 use monitor::Status;
 ghost use mathlib.Core.Path.{_≡_};
 ghost use Rattle.layout.specs.Layout.{numberBytes};
-ghost use Rattle.layout.specs.Answers.{statusBytes, receivedBytes, ranBytes};
+ghost use Rattle.layout.specs.Answers.{statusBytes, receivedBytes, ranBytes, verdictBytes};
 
 // A number in eight bytes, low byte first.
 pub fn number_bytes(value: usize) -> [u8; 8]
@@ -47,4 +48,10 @@ pub fn ran_bytes(r: Ran) -> [u8; 16]
     copy(&length, 0, 8, &mut bytes, 0);
     copy(&refused, 0, 8, &mut bytes, 8);
     bytes
+}
+
+pub fn verdict_bytes(v: Verdict) -> [u8; 2]
+    ensures { λ r. ⌜ r ≡ verdictBytes v ⌝ }
+{
+    [v.may_rest as u8, v.can_rest as u8]
 }

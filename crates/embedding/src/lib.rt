@@ -6,6 +6,7 @@ use answer_layout::number_bytes;
 use answer_layout::ran_bytes;
 use answer_layout::received_bytes;
 use answer_layout::status_bytes;
+use answer_layout::verdict_bytes;
 use automaton_layout::automaton_bytes;
 use automaton_layout::automaton_of;
 use configuration_layout::configuration_bytes;
@@ -16,8 +17,9 @@ ghost use Rattle.encoding.specs.Writing.{writeAnswer, writeBuffer};
 ghost use Rattle.winning.specs.Solving.{solution, solvedTable, countAnswer};
 ghost use Rattle.configuration.specs.Configuration.{initialAnswer};
 ghost use Rattle.monitor.specs.Answers.{status, received, ran, ranBuffer};
+ghost use Rattle.game.specs.Game.{verdict};
 ghost use Rattle.layout.specs.Layout.{automatonOf, automatonBytes, configurationOf, configurationBytes, numberBytes};
-ghost use Rattle.layout.specs.Answers.{statusBytes, receivedBytes, ranBytes};
+ghost use Rattle.layout.specs.Answers.{statusBytes, receivedBytes, ranBytes, verdictBytes};
 
 // Reads and checks a sheet: the record, and the place of a fault.
 #[no_mangle]
@@ -150,4 +152,19 @@ pub extern "C" fn jaxhophasi_run(
     *configuration = configuration_bytes(last);
     *answer = ran_bytes(ran);
     ran.refusal
+}
+
+// The game's two answers for a small automaton (document 01's second judge), without a table.
+#[no_mangle]
+pub extern "C" fn jaxhophasi_judge(
+    automaton: &[u8; 564],
+    configuration: &[u8; 8],
+    answer: &mut [u8; 2],
+) -> u8
+    ensures { λ r. let x = verdict (automatonOf (now (automaton .entry))) (configurationOf (now (configuration .entry))) in
+        ⌜ (r ≡ x .refusal) × (now (answer .exit) ≡ verdictBytes x) ⌝ }
+{
+    let verdict = judge::judge(automaton_of(automaton), configuration_of(configuration));
+    *answer = verdict_bytes(verdict);
+    verdict.refusal
 }

@@ -5,6 +5,7 @@ use mathlib.Core.List.{List, [], _∷_, _++_}
 use Rattle.monitor.specs.declared.Status.{Status}
 use Rattle.monitor.specs.declared.Received.{Received}
 use Rattle.monitor.specs.declared.Ran.{Ran}
+use Rattle.game.specs.declared.Verdict.{Verdict}
 use Rattle.layout.specs.Layout.{numberBytes}
 
 -- whether the configuration is winning (document 01's guarded): 1 or 0
@@ -18,3 +19,7 @@ receivedBytes r = r .emitted ++ (r .count ∷ cond (r .winning) 1 0 ∷ [])
 -- a whole day: how many bytes were written, and how many events were refused
 unfoldable pub ranBytes : Ran → List ℕ
 ranBytes r = numberBytes 8 (r .length) ++ numberBytes 8 (r .refused)
+
+-- both answers of the game (document 01's second judge): whether it may rest here, and whether it can come to rest
+unfoldable pub verdictBytes : Verdict → List ℕ
+verdictBytes v = cond (v .«may_rest») 1 0 ∷ cond (v .«can_rest») 1 0 ∷ []

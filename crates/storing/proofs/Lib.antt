@@ -1,2 +1,0 @@
-pub mod Lesser
-pub mod Words

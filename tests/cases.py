@@ -1,0 +1,144 @@
+"""The test program: runs each line of a file through the interface for C, or through the day program, and prints the line and what
+came out below it. Lines that begin with # are printed alone.
+
+    python3 tests/cases.py LIBRARY DAY FILE
+
+LIBRARY is the shared object made from the archive, DAY the day program. One record, one table and one carried state are kept from
+line to line. A line is a word and numbers; spaces and commas part them, and 7*128 is 128 seven times.
+
+    sheet BYTES             reads a sheet:      = refusal, place, n, m, B, start
+    overwrite PLACE VALUE   changes one byte of the record
+    write ROOM              writes the sheet into ROOM bytes that were 9:   = refusal, length, those bytes
+    count                   = refusal, T
+    bits WORDS              puts words at the front of the table
+    table PLACES            solves into the table's first places:   = refusal, rounds, those places
+    initial                 = refusal, the carried state's eight bytes
+    at BYTES                sets the carried state
+    guarded PLACES          = refusal, guarded
+    event PLACES KIND       = refusal, count put out, guarded, the carried state, the seven places of what is put out
+    run PLACES ROOM KINDS   a day into ROOM bytes that were 9:  = refusal, length, refused, the carried state, those bytes
+    judge                   = refusal, may rest here, can come to rest
+    agree NUMBERS           every sheet that begins with these numbers, every carried state over it:
+                            = sheets, carried states, in how many of them the judge says what the solved table says
+    day BYTES               what the day program prints on these bytes
+"""
+import itertools
+import pathlib
+import re
+import subprocess
+import sys
+
+sys.path.insert(0, str(pathlib.Path(__file__).parent.parent / "examples"))
+from day import AUTOMATON_SIZE, CONFIGURATION_SIZE, NUMBER_SIZE, RAN_SIZE, RECEIVED_SIZE, STATUS_SIZE, VERDICT_SIZE
+from day import lent, library_at, number_at, numbers
+
+TABLE_PLACES = 64
+
+
+def filled(values):
+    """Bytes to lend, with these contents; one place more, so that they are nowhere empty."""
+    out = lent(len(values) + 1)
+    out[:len(values)] = values
+    return out
+
+
+class Cases:
+    def __init__(self, library, day):
+        self.library, self.day_program = library, day
+        self.automaton, self.configuration = lent(AUTOMATON_SIZE), lent(CONFIGURATION_SIZE)
+        self.table_words = numbers([0] * TABLE_PLACES)
+
+    def sheet(self, *data):
+        place = lent(NUMBER_SIZE)
+        row = self.library.jaxhophasi_read(filled(data), len(data), self.automaton, place)
+        return [row, number_at(place)] + self.automaton[:4]
+
+    def overwrite(self, place, value):
+        self.automaton[place] = value
+
+    def write(self, room):
+        out, length = filled([9] * room), lent(NUMBER_SIZE)
+        row = self.library.jaxhophasi_write(self.automaton, out, room, length)
+        return [row, number_at(length)] + out[:room]
+
+    def count(self):
+        count = lent(NUMBER_SIZE)
+        return [self.library.jaxhophasi_buffers_count(self.automaton, count), number_at(count)]
+
+    def bits(self, *words):
+        self.table_words[:len(words)] = words
+
+    def table(self, places):
+        rounds = lent(NUMBER_SIZE)
+        row = self.library.jaxhophasi_solve(self.automaton, self.table_words, places, rounds)
+        return [row, number_at(rounds)] + self.table_words[:places]
+
+    def initial(self):
+        return [self.library.jaxhophasi_initial(self.automaton, self.configuration)] + self.configuration[:]
+
+    def at(self, *data):
+        self.configuration[:] = data
+
+    def guarded(self, places):
+        answer = lent(STATUS_SIZE)
+        return [self.library.jaxhophasi_winning(self.automaton, self.table_words, places, self.configuration, answer), answer[0]]
+
+    def event(self, places, kind):
+        answer = lent(RECEIVED_SIZE)
+        row = self.library.jaxhophasi_receive(self.automaton, self.table_words, places, self.configuration, kind, answer)
+        return [row, answer[7], answer[8]] + self.configuration[:] + answer[:7]
+
+    def run(self, places, room, *kinds):
+        answer, out = lent(RAN_SIZE), filled([9] * room)
+        row = self.library.jaxhophasi_run(
+            self.automaton, self.table_words, places, self.configuration, numbers(kinds), len(kinds), out, room, answer)
+        return [row, number_at(answer), number_at(answer, 8)] + self.configuration[:] + out[:room]
+
+    def judge(self):
+        answer = lent(VERDICT_SIZE)
+        return [self.library.jaxhophasi_judge(self.automaton, self.configuration, answer)] + answer[:]
+
+    def agree(self, *head):
+        states, symbols, capacity = head[:3]
+        controllable = [kind for kind in range(symbols) if head[4 + kind]]
+        buffers = [held for length in range(capacity + 1) for held in itertools.product(controllable, repeat=length)]
+        sheets = asked = agreed = 0
+        for accepting in itertools.product(range(2), repeat=states):
+            for following in itertools.product(range(states), repeat=states * symbols):
+                sheets += 1
+                self.sheet(*head, *accepting, *following)
+                solved = self.table(2 * len(buffers))[2:]
+                for place, held in enumerate(buffers):
+                    for state in range(states):
+                        self.at(state, len(held), *held, *[0] * (6 - len(held)))
+                        rests, released = (solved[2 * place + i] >> state & 1 for i in range(2))
+                        asked += 1
+                        agreed += self.judge() == [0, rests, rests | released]
+        return [sheets, asked, agreed]
+
+    def day(self, *data):
+        sys.stdout.flush()
+        subprocess.run([self.day_program], input=bytes(data), check=True)
+
+
+def values(text):
+    """The numbers of a line."""
+    for word in re.split("[ ,]+", text.strip(" ,")) if text else []:
+        times, _, value = word.rpartition("*")
+        yield from [int(value)] * int(times or 1)
+
+
+def main(library, day, path):
+    cases = Cases(library_at(library), day)
+    for line in open(path):
+        print(line, end="")
+        word, _, text = line.rstrip("\n").partition(" ")
+        answer = None if word == "#" else getattr(cases, word)(*values(text))
+        if answer is not None:
+            print("=", *answer)
+
+
+if __name__ == "__main__":
+    if len(sys.argv) != 4:
+        sys.exit("usage: cases.py LIBRARY DAY FILE")
+    main(*sys.argv[1:])
