@@ -1,10 +1,10 @@
-"""The test program: runs each line of a file through the interface for C, or through the day program, and prints the line and what
-came out below it. Lines that begin with # are printed alone.
+"""The test program: runs each line of a file through the interface for C, and prints the line and what came out below it. Lines that
+begin with # are printed alone.
 
-    python3 tests/cases.py LIBRARY DAY FILE
+    python3 tests/cases.py LIBRARY FILE
 
-LIBRARY is the shared object made from the archive, DAY the day program. One record, one table and one carried state are kept from
-line to line. A line is a word and numbers; spaces and commas part them, and 7*128 is 128 seven times.
+LIBRARY is the shared object made from the archive. One record, one table and one carried state are kept from line to line. A line is a
+word and numbers; spaces and commas part them.
 
     sheet BYTES             reads a sheet:      = refusal, place, n, m, B, start
     overwrite PLACE VALUE   changes one byte of the record
@@ -20,12 +20,10 @@ line to line. A line is a word and numbers; spaces and commas part them, and 7*1
     judge                   = refusal, may rest here, can come to rest
     agree NUMBERS           every sheet that begins with these numbers, every carried state over it:
                             = sheets, carried states, in how many of them the judge says what the solved table says
-    day BYTES               what the day program prints on these bytes
 """
 import itertools
 import pathlib
 import re
-import subprocess
 import sys
 
 sys.path.insert(0, str(pathlib.Path(__file__).parent.parent / "examples"))
@@ -43,8 +41,8 @@ def filled(values):
 
 
 class Cases:
-    def __init__(self, library, day):
-        self.library, self.day_program = library, day
+    def __init__(self, library):
+        self.library = library
         self.automaton, self.configuration = lent(AUTOMATON_SIZE), lent(CONFIGURATION_SIZE)
         self.table_words = numbers([0] * TABLE_PLACES)
 
@@ -116,29 +114,18 @@ class Cases:
                         agreed += self.judge() == [0, rests, rests | released]
         return [sheets, asked, agreed]
 
-    def day(self, *data):
-        sys.stdout.flush()
-        subprocess.run([self.day_program], input=bytes(data), check=True)
 
-
-def values(text):
-    """The numbers of a line."""
-    for word in re.split("[ ,]+", text.strip(" ,")) if text else []:
-        times, _, value = word.rpartition("*")
-        yield from [int(value)] * int(times or 1)
-
-
-def main(library, day, path):
-    cases = Cases(library_at(library), day)
+def main(library, path):
+    cases = Cases(library_at(library))
     for line in open(path):
         print(line, end="")
         word, _, text = line.rstrip("\n").partition(" ")
-        answer = None if word == "#" else getattr(cases, word)(*values(text))
+        answer = None if word == "#" else getattr(cases, word)(*map(int, re.findall("[0-9]+", text)))
         if answer is not None:
             print("=", *answer)
 
 
 if __name__ == "__main__":
-    if len(sys.argv) != 4:
-        sys.exit("usage: cases.py LIBRARY DAY FILE")
+    if len(sys.argv) != 3:
+        sys.exit("usage: cases.py LIBRARY FILE")
     main(*sys.argv[1:])

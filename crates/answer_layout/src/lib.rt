@@ -1,9 +1,9 @@
 // How numbers and answers lie in the bytes that a caller lends: what a call hands back beside its refusal and the configuration.
+use answers::Ran;
+use answers::Received;
+use answers::Status;
 use base::copy;
 use game::Verdict;
-use monitor::Ran;
-use monitor::Received;
-use monitor::Status;
 ghost use mathlib.Core.Path.{_≡_};
 ghost use Rattle.layout.specs.Layout.{numberBytes};
 ghost use Rattle.layout.specs.Answers.{statusBytes, receivedBytes, ranBytes, verdictBytes};

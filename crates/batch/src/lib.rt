@@ -1,12 +1,12 @@
 // A whole day: a list of events from a configuration on. The record, the table and the configuration are checked once.
+use answers::Ran;
 use automaton::Automaton;
 use base::size;
 use configuration::Configuration;
-use monitor::Ran;
-use monitor::enter;
-use monitor::process;
+use entering::enter;
+use processing::process;
 ghost use mathlib.Core.Path.{_≡_};
-ghost use Rattle.monitor.specs.Answers.{refusedRun, ran, ranBuffer};
+ghost use Rattle.answers.specs.Answers.{refusedRun, ran, ranBuffer};
 
 fn refused_run(row: u8, c: Configuration) -> Ran
     ensures { λ r. ⌜ r ≡ refusedRun row c ⌝ }

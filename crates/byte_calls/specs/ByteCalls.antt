@@ -7,7 +7,7 @@ use lib.ListN.{length}
 use Rattle.automaton.specs.Automaton.{valid}
 use Rattle.sets.specs.Table.{Solved}
 use Rattle.configuration.specs.Configuration.{initialOf, initialAnswer}
-use Rattle.monitor.specs.Answers.{received, ran, ranBuffer}
+use Rattle.answers.specs.Answers.{received, ran, ranBuffer}
 use Rattle.claims.specs.Calls.{Call, one, many, Reply, receive, run, replies}
 use Rattle.claims.specs.Claims.{Enforced}
 use Rattle.layout.specs.Layout.{automatonOf, configurationOf, configurationBytes}

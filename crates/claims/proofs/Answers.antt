@@ -21,8 +21,8 @@ use Rattle.releasing.specs.Step.{bySets, byTable, effect, eventRows, eventRefus
 use Rattle.releasing.proofs.Effects.{Occurs, Agree, accepted-facts, effect-occurs, effect-same}
 use Rattle.releasing.proofs.Runs.{run-keeps, run-occurs, run-same}
 use Rattle.releasing.proofs.Solved.{solved-agree}
-use Rattle.monitor.specs.Answers.{callRows, isWinning, callRefusal, status, receiveRefusal, received, runRefusal, ran, ranBuffer}
-use Rattle.monitor.proofs.Refusals.{Clear, clear, rows-pass, rows-stand, status-clear}
+use Rattle.answers.specs.Answers.{callRows, isWinning, callRefusal, status, receiveRefusal, received, runRefusal, ran, ranBuffer}
+use Rattle.answers.proofs.Refusals.{Clear, clear, rows-pass, rows-stand, status-clear}
 use Rattle.claims.specs.Calls.{Call, one, many, handedBack, reply, replies, configurationAfter}
 use Rattle.claims.specs.Answers.{FlagIsStatus, FlagStays, SameBits, OthersIgnored}
 use Rattle.claims.proofs.Resting.{effect-wins}

@@ -19,12 +19,12 @@ use Rattle.sets.proofs.Total.{total}
 use Rattle.configuration.specs.declared.Configuration.{Configuration}
 use Rattle.configuration.specs.Configuration.{heldEvents, configuration, consistent}
 use Rattle.configuration.proofs.Facts.{configuration-consistent, consistent-of}
-use Rattle.monitor.specs.declared.Received.{Received}
+use Rattle.answers.specs.declared.Received.{Received}
 use Rattle.releasing.specs.Step.{bySets, byTable, effect, eventRows, eventRefusal, runOf}
-use Rattle.monitor.specs.Answers.{receiveRefusal, received, room, runRefusal, ran, ranBuffer}
+use Rattle.answers.specs.Answers.{receiveRefusal, received, room, runRefusal, ran, ranBuffer}
 use Rattle.releasing.proofs.Effects.{effect-occurs, effect-same}
 use Rattle.releasing.proofs.Runs.{run-same}
-use Rattle.monitor.proofs.Refusals.{rows-pass}
+use Rattle.answers.proofs.Refusals.{rows-pass}
 use Rattle.releasing.proofs.Solved.{solved-agree}
 use Rattle.claims.specs.Store.{Store, empty, stateOf, store, storeAll, lacksRoom, feed, feedAll}
 use Rattle.claims.specs.Calls.{Call, one, many, handedBack, emittedBy, reply, replies, configurationAfter, emittedAll, fedBy, configurationAt, since, expected, expectedAll}

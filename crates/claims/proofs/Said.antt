@@ -13,8 +13,8 @@ use Rattle.sets.specs.Table.{short}
 use Rattle.configuration.specs.declared.Configuration.{Configuration}
 use Rattle.configuration.specs.Configuration.{heldEvents, configuration, initialOf}
 use Rattle.releasing.specs.Step.{byTable, effect, eventRefusal, runOf}
-use Rattle.monitor.specs.Answers.{isWinning, status, receiveRefusal, received, runRefusal, ran}
-use Rattle.monitor.proofs.Refusals.{status-clear}
+use Rattle.answers.specs.Answers.{isWinning, status, receiveRefusal, received, runRefusal, ran}
+use Rattle.answers.proofs.Refusals.{status-clear}
 use Rattle.claims.specs.Calls.{Call, one, many, handedBack, reply, configurationAfter}
 use Rattle.claims.specs.Moments.{Moment, effectAt, within, broughtBy, broughtAll, moments}
 use Rattle.claims.specs.Claims.{winningAfter, Stays}

@@ -14,7 +14,7 @@ use Rattle.sets.proofs.Total.{total}
 use Rattle.sets.proofs.Largest.{sets-are}
 use Rattle.configuration.specs.Configuration.{heldEvents, initialOf}
 use Rattle.releasing.specs.Step.{bySets, byTable}
-use Rattle.monitor.specs.Answers.{isWinning}
+use Rattle.answers.specs.Answers.{isWinning}
 use Rattle.releasing.proofs.Effects.{initial-occurs, accepted-facts, effect-same}
 use Rattle.releasing.proofs.Solved.{solved-agree}
 use Rattle.claims.specs.Calls.{Call}

@@ -10,7 +10,7 @@ use Rattle.automaton.specs.Automaton.{valid}
 use Rattle.sets.specs.Table.{index, short, Buffer, Solved}
 use Rattle.configuration.specs.declared.Configuration.{Configuration}
 use Rattle.configuration.specs.Configuration.{initialOf}
-use Rattle.monitor.specs.Answers.{status, received, ran, ranBuffer}
+use Rattle.answers.specs.Answers.{status, received, ran, ranBuffer}
 use Rattle.claims.specs.Calls.{Call, replies, configurationAfter}
 use Rattle.claims.specs.Moments.{Moment, moments}
 use Rattle.claims.specs.Claims.{winningAfter}

@@ -10,10 +10,10 @@ use Rattle.base.specs.Pad.{pad}
 use Rattle.automaton.specs.declared.Automaton.{Automaton}
 use Rattle.configuration.specs.declared.Configuration.{Configuration}
 use Rattle.configuration.specs.Configuration.{configuration}
-use Rattle.monitor.specs.declared.Received.{Received}
-use Rattle.monitor.specs.declared.Ran.{Ran}
+use Rattle.answers.specs.declared.Received.{Received}
+use Rattle.answers.specs.declared.Ran.{Ran}
 use Rattle.releasing.specs.Step.{bySets, eventRefusal}
-use Rattle.monitor.specs.Answers.{received, ran, ranBuffer}
+use Rattle.answers.specs.Answers.{received, ran, ranBuffer}
 use Rattle.claims.specs.Store.{Store, stateOf, store, storeAll, Feed, event, events, lacksRoom, feed, refusedOf}
 
 -- one event, or many at once (document 01's whole day): the events and the output lent to it, of any length and contents

@@ -13,7 +13,7 @@ use Rattle.sets.specs.Table.{Solved}
 use Rattle.winning.specs.Solving.{solveRefusal, solvedTable}
 use Rattle.configuration.specs.Configuration.{consistent, initialOf}
 use Rattle.releasing.specs.Step.{byTable, Effect, release, arrival}
-use Rattle.monitor.specs.Answers.{isWinning}
+use Rattle.answers.specs.Answers.{isWinning}
 use Rattle.claims.specs.Store.{empty, storeAll, feedAll, acceptedAll}
 use Rattle.claims.specs.Calls.{Call, replies, configurationAfter, emittedAll, fedBy, configurationAt, expectedAll}
 use Rattle.claims.specs.Moments.{Moment, effectAt, emittedAt, moments}

@@ -7,7 +7,7 @@ use Rattle.automaton.specs.declared.Automaton.{Automaton}
 use Rattle.configuration.specs.declared.Configuration.{Configuration}
 use Rattle.configuration.specs.Configuration.{heldEvents}
 use Rattle.releasing.specs.Step.{byTable, Effect, effect, eventRefusal}
-use Rattle.monitor.specs.Answers.{receiveRefusal, runRefusal}
+use Rattle.answers.specs.Answers.{receiveRefusal, runRefusal}
 use Rattle.claims.specs.Calls.{Call, one, many, reply, handedBack}
 
 -- an accepted event: the events accepted and the symbols emitted before it, the state and buffer that it meets, and the event

@@ -8,7 +8,7 @@ use lib.Dec.{eqb}
 use Rattle.automaton.specs.declared.Automaton.{Automaton}
 use Rattle.automaton.specs.Automaton.{controllable, run}
 use Rattle.releasing.specs.Step.{bySets, release, remaining, eventRefusal}
-use Rattle.monitor.specs.Answers.{tooShort}
+use Rattle.answers.specs.Answers.{tooShort}
 
 pub record Store : Type 0 where
   pub output : List ℕ

@@ -11,7 +11,7 @@ fn write(input: &[u8], table: &mut [u32; 16384]) -> usize
     ensures { λ r. ⌜ r ≡ length (transcript (now (input .entry))) % 2 ^ 64 ⌝ }
     ensures { λ _. ⌜ now (table .exit) ≡ tableAfter (now (input .entry)) (now (table .entry)) ⌝ }
 {
-    let mut out = [0u8; 32768];
+    let mut out = [0u8; 4096];
     let mut total: usize = 0;
     let mut progress = opening::begin(input, table);
     loop {

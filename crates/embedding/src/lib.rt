@@ -16,7 +16,7 @@ ghost use Rattle.encoding.specs.Reading.{parse};
 ghost use Rattle.encoding.specs.Writing.{writeAnswer, writeBuffer};
 ghost use Rattle.winning.specs.Solving.{solution, solvedTable, countAnswer};
 ghost use Rattle.configuration.specs.Configuration.{initialAnswer};
-ghost use Rattle.monitor.specs.Answers.{status, received, ran, ranBuffer};
+ghost use Rattle.answers.specs.Answers.{status, received, ran, ranBuffer};
 ghost use Rattle.game.specs.Game.{verdict};
 ghost use Rattle.layout.specs.Layout.{automatonOf, automatonBytes, configurationOf, configurationBytes, numberBytes};
 ghost use Rattle.layout.specs.Answers.{statusBytes, receivedBytes, ranBytes, verdictBytes};

@@ -33,7 +33,7 @@ use Rattle.game.proofs.Worded.{as-worded}
 use Rattle.game.proofs.Agreement.{agrees, verdict-agrees}
 use Rattle.configuration.specs.Configuration.{heldEvents, controllableSymbol, placeStands, bufferStands, consistentIn, configuration, initialOf}
 use Rattle.releasing.specs.Step.{byTable, qualifies, qualifying, release, remaining, arrival, effect, eventRows, eventRefusal}
-use Rattle.monitor.specs.Answers.{callRows, isWinning, callRefusal, status, receiveRefusal, received, room, runRefusal, ran}
+use Rattle.answers.specs.Answers.{callRows, isWinning, callRefusal, status, receiveRefusal, received, room, runRefusal, ran}
 use Rattle.claims.specs.Calls.{handedBack, reply}
 use Rattle.claims.specs.Moments.{effectAt, within, broughtBy, broughtAll, moments}
 use Rattle.claims.specs.Claims.{winningAfter, arrivalAt, rivalRelease, ourRelease, rivalOutput, rivalBuffer}

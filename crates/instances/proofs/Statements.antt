@@ -18,7 +18,7 @@ use Rattle.configuration.specs.Configuration.{configuration, initialOf, initial
 use Rattle.winning.specs.Solving.{solvedTable}
 use Rattle.game.specs.Game.{mayRest, canRest, verdict}
 use Rattle.game.specs.Claims.{Questions}
-use Rattle.monitor.specs.Answers.{status, received, ran}
+use Rattle.answers.specs.Answers.{status, received, ran}
 use Rattle.claims.specs.Calls.{Call, one, many, configurationAfter}
 use Rattle.claims.specs.Moments.{Moment, moments}
 use Rattle.claims.specs.Rival.{Lost, lostBound}

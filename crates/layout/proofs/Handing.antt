@@ -21,8 +21,8 @@ use Rattle.configuration.proofs.Facts.{consistent-facts, held-buffer, configura
 use Rattle.releasing.specs.Step.{byTable, eventRows, eventRefusal}
 use Rattle.releasing.proofs.Effects.{Occurs, effect-occurs}
 use Rattle.releasing.proofs.Runs.{run-occurs}
-use Rattle.monitor.specs.Answers.{callRows, callRefusal, receiveRefusal, received, tooShort, runRefusal, ran}
-use Rattle.monitor.proofs.Refusals.{Clear, clear, rows-pass, rows-stand}
+use Rattle.answers.specs.Answers.{callRows, callRefusal, receiveRefusal, received, tooShort, runRefusal, ran}
+use Rattle.answers.proofs.Refusals.{Clear, clear, rows-pass, rows-stand}
 use Rattle.layout.specs.Layout.{part, configurationOf}
 use Rattle.layout.specs.Claims.{InitialHandedOn, EventHandedOn, RunHandedOn}
 use Rattle.layout.proofs.Trips.{configuration-kept}

@@ -11,8 +11,8 @@ use Rattle.base.specs.Pad.{pad}
 use Rattle.base.proofs.Padding.{pad-sets, pad-stored}
 use Rattle.automaton.specs.declared.Automaton.{Automaton}
 use Rattle.configuration.specs.declared.Configuration.{Configuration}
-use Rattle.monitor.specs.declared.Received.{Received}
-use Rattle.monitor.specs.declared.Ran.{Ran}
+use Rattle.answers.specs.declared.Received.{Received}
+use Rattle.answers.specs.declared.Ran.{Ran}
 use Rattle.layout.specs.Answers.{receivedBytes, ranBytes}
 use Rattle.layout.specs.Layout.{part, numberBytes, automatonOf, automatonBytes, configurationOf, configurationBytes}
 

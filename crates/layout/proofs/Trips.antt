@@ -11,7 +11,7 @@ use borrow.Author.Tests.{eqb-true}
 use Rattle.base.proofs.Bools.{by, and-pair}
 use Rattle.automaton.specs.declared.Automaton.{Automaton}
 use Rattle.automaton.specs.Automaton.{shaped}
-use Rattle.monitor.specs.Answers.{received, receiveRefusal, ran, runRefusal}
+use Rattle.answers.specs.Answers.{received, receiveRefusal, ran, runRefusal}
 use Rattle.layout.specs.Layout.{part, automatonOf, automatonBytes, configurationOf, configurationBytes, numberOf, numberBytes}
 use Rattle.layout.specs.Claims.{AutomatonKept, AutomatonBytesKept, ConfigurationKept, ConfigurationBytesKept, NumberKept, RefusedEventKeeps, RefusedRunKeeps}
 

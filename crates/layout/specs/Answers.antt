@@ -2,9 +2,9 @@
 use Prim.Native.Nat.{ℕ}
 use mathlib.Core.Bool.{cond}
 use mathlib.Core.List.{List, [], _∷_, _++_}
-use Rattle.monitor.specs.declared.Status.{Status}
-use Rattle.monitor.specs.declared.Received.{Received}
-use Rattle.monitor.specs.declared.Ran.{Ran}
+use Rattle.answers.specs.declared.Status.{Status}
+use Rattle.answers.specs.declared.Received.{Received}
+use Rattle.answers.specs.declared.Ran.{Ran}
 use Rattle.game.specs.declared.Verdict.{Verdict}
 use Rattle.layout.specs.Layout.{numberBytes}
 

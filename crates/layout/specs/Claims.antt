@@ -8,7 +8,7 @@ use Rattle.automaton.specs.declared.Automaton.{Automaton}
 use Rattle.automaton.specs.Automaton.{shaped}
 use Rattle.configuration.specs.declared.Configuration.{Configuration}
 use Rattle.configuration.specs.Configuration.{initialAnswer}
-use Rattle.monitor.specs.Answers.{received, ran}
+use Rattle.answers.specs.Answers.{received, ran}
 use Rattle.layout.specs.Layout.{automatonOf, automatonBytes, configurationOf, configurationBytes, numberOf, numberBytes}
 
 -- a record comes back from its bytes, and its bytes from it

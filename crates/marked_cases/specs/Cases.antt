@@ -13,8 +13,8 @@ use Rattle.encoding.specs.Reading.{parse, parsed}
 use Rattle.sets.specs.Table.{table, rounds}
 use Rattle.configuration.specs.Configuration.{configuration, initialOf}
 use Rattle.winning.specs.Solving.{countAnswer}
-use Rattle.monitor.specs.declared.Received.{Received}
-use Rattle.monitor.specs.Answers.{status}
+use Rattle.answers.specs.declared.Received.{Received}
+use Rattle.answers.specs.Answers.{status}
 use Rattle.claims.specs.Calls.{one, receive, replies}
 
 -- sheet V (0 Query, 1 Answer), and its record

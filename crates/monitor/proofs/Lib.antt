@@ -1,4 +1,1 @@
-pub mod Refusals
-pub mod Entries
 pub mod Receiving
-pub mod Running

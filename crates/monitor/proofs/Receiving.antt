@@ -24,13 +24,12 @@ use Rattle.releasing.proofs.Runs.{run-accepts}
 use Rattle.releasing.proofs.Tabled.{rest-tabled, lent}
 use Rattle.stepping.specs.Stepping.{eventRowBy}
 use Rattle.stepping.proofs.Tabled.{row-same, symbols-low}
-use Rattle.monitor.specs.declared.Ran.{Ran}
-use Rattle.monitor.specs.declared.Received.{Received}
-use Rattle.monitor.specs.declared.Status.{Status}
-use Rattle.monitor.specs.declared.Entry.{Entry}
-use Rattle.monitor.specs.Answers.{callRows, callRefusal, receiveRefusal, refusedEvent, received, isWinning, status, ranOf, ranBufferOf}
-use Rattle.monitor.specs.Parts.{entryOf}
-use Rattle.monitor.proofs.Refusals.{Clear, clear, status-clear, rows-stand, rows-pass}
+use Rattle.answers.specs.declared.Ran.{Ran}
+use Rattle.answers.specs.declared.Received.{Received}
+use Rattle.answers.specs.declared.Status.{Status}
+use Rattle.entering.specs.declared.Entry.{Entry}
+use Rattle.answers.specs.Answers.{callRows, callRefusal, receiveRefusal, refusedEvent, received, isWinning, status, ranOf, ranBufferOf}
+use Rattle.answers.proofs.Refusals.{Clear, status-clear, rows-stand, rows-pass, facts, place}
 
 module _ (a : Automaton) (t : List ℕ) (c : Configuration) where
   refused-is : (e n : ℕ) → receiveRefusal a t c e ≡ n → (n ≡ 0 → ⊥) → refusedEvent n c ≡ received a t c e
@@ -42,28 +41,22 @@ module _ (a : Automaton) (t : List ℕ) (c : Configuration) where
   receive-stands e n g z = refused-is e n (rows-stand a t c (eventRows a (heldEvents c) e) (rw g at z) ∙ sym g) z
 
   module _ (k : Clear a t c) where
-    pub facts : Valid a
-    facts = valid-facts a (k .record-valid)
-
-    pub place : Consistent a c
-    place = consistent-facts a c facts (k .configuration-consistent)
-
-    pub occurs : Occurs a (c .state) (heldEvents c)
-    occurs = record { state-below = place .state-below; buffer = held-buffer a c place }
+    occurs : Occurs a (c .state) (heldEvents c)
+    occurs = record { state-below = (place a t c k) .state-below; buffer = held-buffer a c (place a t c k) }
 
     -- what the release asks
     pub lent-here : (r : Ranking) → r ≡ rankingOf (a .classes) (a .symbols) → Lent (a .next) (r .ranks) (r .count) t (c .state) (c .buffer) (c .held)
     unfolding heldEvents
     lent-here r own =
         rw own
-        (lent a facts t (k .table-long) (c .state) (c .buffer) (c .held) (place .state-below) (place .held-small) (held-buffer a c place)
-        (λ i. subst (λ b. getD b i 0 < 16) (sym (ap (λ (y : Configuration). y .buffer) (place .whole))) (symbols-low a facts (heldEvents c) (place .events) i)))
+        (lent a (facts a t c k) t (k .table-long) (c .state) (c .buffer) (c .held) ((place a t c k) .state-below) ((place a t c k) .held-small) (held-buffer a c (place a t c k))
+        (λ i. subst (λ b. getD b i 0 < 16) (sym (ap (λ (y : Configuration). y .buffer) ((place a t c k) .whole))) (symbols-low a (facts a t c k) (heldEvents c) ((place a t c k) .events) i)))
 
     -- rows 14 and 15, as the code finds them
     module _ (r : Ranking) (own : r ≡ rankingOf (a .classes) (a .symbols)) (capacity held e n : ℕ) (ec : capacity ≡ a .capacity) (eh : held ≡ c .held)
         (en : n ≡ eventRowBy (r .ranks) (a .symbols) capacity held e) where
       pub row-is : n ≡ eventRefusal a (heldEvents c) e
-      row-is = en ∙ rw (own, ec) (row-same a facts (heldEvents c) held e (place .held-length ∙ sym eh))
+      row-is = en ∙ rw (own, ec) (row-same a (facts a t c k) (heldEvents c) held e ((place a t c k) .held-length ∙ sym eh))
 
       pub receive-refuses : (n ≡ 0 → ⊥) → refusedEvent n c ≡ received a t c e
       unfolding receiveRefusal eventRefusal
@@ -81,7 +74,7 @@ module _ (a : Automaton) (t : List ℕ) (c : Configuration) where
 
         seven : length (f .emitted) ≤ 7
         unfolding f
-        seven = omega (arith, effect-length (byTable a t) a (c .state) (heldEvents c) e, place .held-length, place .held-small)
+        seven = omega (arith, effect-length (byTable a t) a (c .state) (heldEvents c) e, (place a t c k) .held-length, (place a t c k) .held-small)
 
         -- a list of this one event
         alone : runOf (byTable a t) a (c .state) (heldEvents c) (e ∷ []) ≡ record { emitted = f .emitted; refused = 0; state = f .state; buffer = f .buffer }
@@ -104,7 +97,7 @@ module _ (a : Automaton) (t : List ℕ) (c : Configuration) where
 
           next-occurs : Occurs a (f .state) (f .buffer)
           unfolding f
-          next-occurs = effect-occurs (byTable a t) a (c .state) (heldEvents c) e (total a (valid-of a facts)) occurs row
+          next-occurs = effect-occurs (byTable a t) a (c .state) (heldEvents c) e (total a (valid-of a (facts a t c k))) occurs row
 
           pub count-small : s .length < 256
           count-small = omega (arith, ap (λ (y : Ran). y .length) ran-is, seven)
@@ -114,10 +107,10 @@ module _ (a : Automaton) (t : List ℕ) (c : Configuration) where
           unfolding f
           lent-after =
               rw (ran-is, own)
-              (lent a facts t (k .table-long) (f .state) (pad 6 (f .buffer)) (length (f .buffer)) (next-occurs .state-below)
-              (omega (arith, next-occurs .buffer .1, facts .capacity-high))
+              (lent a (facts a t c k) t (k .table-long) (f .state) (pad 6 (f .buffer)) (length (f .buffer)) (next-occurs .state-below)
+              (omega (arith, next-occurs .buffer .1, (facts a t c k) .capacity-high))
               (rw (take-pad 6 (f .buffer)) (next-occurs .buffer))
-              (symbols-low a facts (f .buffer) (next-occurs .buffer .0)))
+              (symbols-low a (facts a t c k) (f .buffer) (next-occurs .buffer .0)))
 
           pub receive-accepts : (b : Bool)
               → b ≡ restIn t (r .ranks) (r .count) (take (s .configuration .held) (s .configuration .buffer)) (s .configuration .state)
@@ -125,22 +118,10 @@ module _ (a : Automaton) (t : List ℕ) (c : Configuration) where
           unfolding received receiveRefusal eventRefusal f
           receive-accepts b eb =
               let w : b ≡ byTable a t (f .buffer) (f .state) =
-              eb ∙ rw (ran-is, own, take-pad 6 (f .buffer)) (rest-tabled a facts t (f .buffer) (next-occurs .buffer) (f .state))
+              eb ∙ rw (ran-is, own, take-pad 6 (f .buffer)) (rest-tabled a (facts a t c k) t (f .buffer) (next-occurs .buffer) (f .state))
               in
               rw (w, out-is, ran-is)
               (rw (rows-pass a t c (k .record-valid) (k .table-long) (k .configuration-consistent) (eventRows a (heldEvents c) e), row))
-
--- what `enter` hands over
-pub entered : (a : Automaton) (t : List ℕ) (c : Configuration) (n : Entry) → n ≡ entryOf a t c → n .refusal ≡ callRefusal a t c
-unfolding entryOf
-entered a t c n e = ap (λ (x : Entry). x .refusal) e
-
-pub entered-clear : (a : Automaton) (t : List ℕ) (c : Configuration) (n : Entry) → n ≡ entryOf a t c → n .refusal ≡ 0
-    → Clear a t c × (n .ranking ≡ rankingOf (a .classes) (a .symbols))
-unfolding entryOf
-entered-clear a t c n e z =
-    let k = clear a t c (sym (entered a t c n e) ∙ z) in
-    (k, ap (λ (x : Entry). x .ranking) e ∙ rw (k .record-valid))
 
 -- whether a configuration is winning
 module _ (a : Automaton) (t : List ℕ) (c : Configuration) where

@@ -1,9 +1,9 @@
 // One line of the transcript at a time.
+use answers::Received;
 use lines::end_line;
 use lines::fault_line;
 use lines::refusal_line;
 use lines::refused_event_line;
-use monitor::Received;
 use status_lines::automaton_line;
 use status_lines::event_line;
 use transcript::Phase;

@@ -2,7 +2,7 @@
 use base::copy;
 use base::size;
 use base::wide;
-use releasing::release;
+use searching::release;
 ghost use mathlib.Core.Path.{_≡_};
 ghost use mathlib.Core.Bool.{Bool, false, cond};
 ghost use Prim.Native.Nat.{ℕ, _+_, _*_, _≤_, _<_};

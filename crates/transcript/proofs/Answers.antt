@@ -18,11 +18,11 @@ use Rattle.sets.proofs.Total.{total}
 use Rattle.configuration.specs.declared.Configuration.{Configuration}
 use Rattle.configuration.specs.Configuration.{configuration, heldEvents}
 use Rattle.configuration.proofs.Facts.{Consistent, consistent-facts, held-buffer}
-use Rattle.monitor.specs.declared.Received.{Received}
+use Rattle.answers.specs.declared.Received.{Received}
 use Rattle.releasing.specs.Step.{Effect, byTable, effect, eventRows, eventRefusal}
-use Rattle.monitor.specs.Answers.{callRows, isWinning, callRefusal, status, receiveRefusal, refusedEvent, received}
+use Rattle.answers.specs.Answers.{callRows, isWinning, callRefusal, status, receiveRefusal, refusedEvent, received}
 use Rattle.releasing.proofs.Effects.{Occurs, Agree, effect-occurs, effect-length, effect-same}
-use Rattle.monitor.proofs.Refusals.{Clear, clear, rows-pass, rows-stand}
+use Rattle.answers.proofs.Refusals.{Clear, clear, rows-pass, rows-stand}
 use Rattle.releasing.proofs.Solved.{solved-agree}
 
 -- an event that is accepted comes to a clear configuration

@@ -14,8 +14,8 @@ use Rattle.varint.proofs.Trips.{read-after, read-inside}
 use Rattle.automaton.specs.declared.Automaton.{Automaton}
 use Rattle.automaton.specs.Automaton.{valid}
 use Rattle.sets.specs.Table.{Solved}
-use Rattle.monitor.specs.declared.Received.{Received}
-use Rattle.monitor.specs.Answers.{received}
+use Rattle.answers.specs.declared.Received.{Received}
+use Rattle.answers.specs.Answers.{received}
 use Rattle.lines.specs.Lines.{endLine, faultLine}
 use Rattle.transcript.specs.Transcript.{Run, answerLine, after, eventLines, firstLine, runLines}
 use Rattle.transcript.proofs.Answers.{received-same, status-same}

@@ -9,8 +9,8 @@ use lib.Dec.{eqb}
 use Rattle.base.proofs.Bools.{by}
 use Rattle.varint.specs.declared.Number.{Number}
 use Rattle.varint.specs.Varint.{read}
-use Rattle.monitor.specs.declared.Received.{Received}
-use Rattle.monitor.specs.Answers.{received}
+use Rattle.answers.specs.declared.Received.{Received}
+use Rattle.answers.specs.Answers.{received}
 use Rattle.text.specs.Decimal.{ascii}
 use Rattle.lines.specs.Lines.{refusedEventLine, endLine, faultLine, refusalLine}
 use Rattle.status_lines.specs.StatusLines.{automatonLine, eventLine}

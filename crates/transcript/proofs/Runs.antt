@@ -8,7 +8,7 @@ use lib.ListN.{take}
 use lib.Dec.{eqb, leb}
 use borrow.Author.Tests.{le-leb, lt-leb, leb-true, eq-eqb, ne-eqb}
 use Rattle.base.proofs.Bools.{and-left, and-right, and-both, and-left-false}
-use Rattle.monitor.specs.declared.Received.{Received}
+use Rattle.answers.specs.declared.Received.{Received}
 use Rattle.lines.specs.Lines.{refusedEventLine}
 use Rattle.status_lines.specs.StatusLines.{eventLine}
 use Rattle.transcript.specs.Transcript.{Run, after, answerLine}

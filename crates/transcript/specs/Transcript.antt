@@ -11,8 +11,8 @@ use Rattle.encoding.specs.declared.Parsed.{Parsed}
 use Rattle.encoding.specs.Reading.{refused, parse}
 use Rattle.sets.specs.Table.{buffersCount, table}
 use Rattle.configuration.specs.Configuration.{initialOf}
-use Rattle.monitor.specs.declared.Received.{Received}
-use Rattle.monitor.specs.Answers.{status, received}
+use Rattle.answers.specs.declared.Received.{Received}
+use Rattle.answers.specs.Answers.{status, received}
 use Rattle.lines.specs.Lines.{refusedEventLine, endLine, faultLine, refusalLine}
 use Rattle.status_lines.specs.StatusLines.{automatonLine, eventLine}
 pub use Rattle.transcript.specs.declared.Run.{Run}

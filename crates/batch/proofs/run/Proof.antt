@@ -2,8 +2,8 @@ use Rattle.automaton.proofs.Whole.{shapes}
 use Prim.Native.Nat.{_≤_, _<_, _+_}
 use lib.ListN.{length}
 use mathlib.Core.Path.{_≡_, _∙_, sym, ap}
-use Rattle.monitor.proofs.Receiving.{entered, entered-clear}
-use Rattle.monitor.proofs.Running.{run-stands, run-lacks-room, run-goes}
+use Rattle.entering.proofs.Entries.{entered, entered-clear}
+use Rattle.batch.proofs.Days.{run-stands, run-lacks-room, run-goes}
 use native.Mathlib.Omega.{arith}
 use borrow.Author.Needs.{needs}
 use Rattle.batch.proofs.run.Statement.{statement}

@@ -13,7 +13,7 @@ use Rattle.day.proofs.write.Statement.{statement}
 use Rattle.day.proofs.write.Tie as tie
 
 abbrev Inv-loop : tie.InvT-loop
-Inv-loop input table out₀ total₀ progress₀ out total progress = (length out ≡ 32768) × ((total + length (toCome table input progress)) % 2 ^ 64 ≡ length (transcript input) % 2 ^ 64) × (total < 2 ^ 64)
+Inv-loop input table out₀ total₀ progress₀ out total progress = (length out ≡ 4096) × ((total + length (toCome table input progress)) % 2 ^ 64 ≡ length (transcript input) % 2 ^ 64) × (total < 2 ^ 64)
 
 abbrev μ-loop : tie.MeasureT-loop
 μ-loop input table out₀ total₀ progress₀ out total progress = length (toCome table input progress)

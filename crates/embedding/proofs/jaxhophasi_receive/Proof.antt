@@ -1,6 +1,6 @@
 use Rattle.layout.specs.Answers.{receivedBytes}
 use Rattle.layout.specs.Layout.{configurationBytes}
-use Rattle.monitor.specs.Answers.{received}
+use Rattle.answers.specs.Answers.{received}
 use Rattle.embedding.proofs.Over.{over}
 use mathlib.Core.Path.{_∙_, ap}
 use borrow.Author.Needs.{needs}

@@ -1,6 +1,6 @@
 use Rattle.layout.specs.Answers.{ranBytes}
 use Rattle.layout.specs.Layout.{configurationBytes}
-use Rattle.monitor.specs.Answers.{ran, ranBuffer}
+use Rattle.answers.specs.Answers.{ran, ranBuffer}
 use Rattle.embedding.proofs.Over.{over}
 use mathlib.Core.Path.{_∙_, ap}
 use borrow.Author.Needs.{needs}

@@ -1,5 +1,5 @@
 use Rattle.layout.specs.Answers.{statusBytes}
-use Rattle.monitor.specs.Answers.{status}
+use Rattle.answers.specs.Answers.{status}
 use Rattle.embedding.proofs.Over.{over}
 use mathlib.Core.Path.{_∙_, ap}
 use borrow.Author.Needs.{needs}

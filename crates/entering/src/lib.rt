@@ -1,0 +1,60 @@
+// Rows 11 to 13, which every call on a record, a table and a configuration checks first.
+use automaton::valid_in;
+use base::size;
+use configuration::Configuration;
+use releasing::Ranking;
+use searching::rank_symbols;
+ghost use mathlib.Core.Path.{_≡_};
+ghost use mathlib.Core.Bool.{true};
+ghost use Rattle.automaton.specs.Automaton.{shaped, assembled};
+ghost use Rattle.entering.specs.Entries.{entryOf};
+
+// The refusing row of 11 to 13 (0: none), and the ranking of the symbols of a valid record.
+pub struct Entry {
+    pub refusal: u8,
+    pub ranking: Ranking,
+}
+
+// The record's parts are lent, so that none of it is copied.
+pub fn enter<'a>(
+    states: u8,
+    symbols: u8,
+    capacity: u8,
+    initial: u8,
+    classes: &'a [u8; 16],
+    accepting: &'a [u8; 32],
+    next: &'a [u8; 512],
+    table: &[u32],
+    c: Configuration,
+) -> Entry
+    requires { ⌜ shaped (assembled states symbols capacity initial (now classes) (now accepting) (now next)) ≡ true ⌝ }
+    ensures { λ r. ⌜ r ≡ entryOf (assembled states symbols capacity initial (now (classes .entry)) (now (accepting .entry)) (now (next .entry))) (now (table .entry)) c ⌝ }
+{
+    if !valid_in(states, symbols, capacity, initial, classes, accepting, next) {
+        return Entry {
+            refusal: 11,
+            ranking: Ranking {
+                count: 0,
+                ranks: [0u8; 16],
+            },
+        };
+    }
+    let ranking = rank_symbols(classes, size(symbols));
+    let buffers = winning::buffers_to(ranking.count as usize, size(capacity));
+    if table.len() < 2 * buffers {
+        return Entry {
+            refusal: 12,
+            ranking,
+        };
+    }
+    if !configuration::consistent(states, symbols, capacity, classes, c) {
+        return Entry {
+            refusal: 13,
+            ranking,
+        };
+    }
+    Entry {
+        refusal: 0,
+        ranking,
+    }
+}

@@ -1,0 +1,12 @@
+use mathlib.Core.Path.{refl}
+use Rattle.answers.specs.Answers.{refusedEvent}
+use native.Mathlib.Omega.{arith}
+use borrow.Author.Needs.{needs}
+use Rattle.monitor.proofs.refused.Statement.{statement}
+use Rattle.monitor.proofs.refused.Tie as tie
+
+returns : tie.Need-returns
+returns c = refl
+
+pub refused-spec : {M : Type 1} → statement M
+refused-spec = tie.close (tie.spec returns)

@@ -1,0 +1,64 @@
+use mathlib.Core.Logic.{⊎-elim}
+use mathlib.Core.Path.{_≡_, refl, _∙_, sym}
+use Prim.Native.Nat.{_≤_, _-_, _+_}
+use Rattle.base.specs.Each as each
+use Rattle.base.specs.Pad.{pad}
+use Rattle.automaton.proofs.Checks.{counted, passed}
+use Rattle.automaton.specs.Parts.{controllableIn}
+use Rattle.releasing.specs.Parts.{ranksTo, rankingOf}
+use Rattle.releasing.proofs.Numbers.{rank-set, rank-none}
+use native.Mathlib.Omega.{arith}
+use borrow.Author.Needs.{needs}
+use Rattle.searching.proofs.rank_symbols.Statement.{statement}
+use Rattle.searching.proofs.rank_symbols.Tie as tie
+
+abbrev Inv-loop : tie.InvT-loop
+Inv-loop classes m ranks₀ count₀ e₀ ranks count e = (e ≤ m) × (count ≤ e) × (count ≡ controllableIn classes e) × (ranks ≡ pad 16 (ranksTo classes e))
+
+abbrev μ-loop : tie.MeasureT-loop
+μ-loop classes m ranks₀ count₀ e₀ ranks count e = m - e
+
+loop-holds : tie.Need-loop-holds Inv-loop μ-loop
+unfolding controllableIn each.count ranksTo pad
+loop-holds c = (omega arith, omega arith, refl, refl)
+
+element-copy-out-if1 : tie.Need-element-copy-out-if1 Inv-loop μ-loop
+element-copy-out-if1 c = search needs
+
+add-count : tie.Need-add-count Inv-loop μ-loop
+add-count c = search needs
+
+array-write-ranks : tie.Need-array-write-ranks Inv-loop μ-loop
+array-write-ranks c = search needs
+
+add-e : tie.Need-add-e Inv-loop μ-loop
+add-e c = search needs
+
+loop-less : tie.Need-loop-less Inv-loop μ-loop
+loop-less c = search needs
+
+loop-again : tie.Need-loop-again Inv-loop μ-loop
+loop-again c = let v = c .before .before .before .loop .inv in (omega arith, ⊎-elim (λ w. omega arith) (λ w. omega arith) (c .if1 .came), ⊎-elim (λ w. w .2 ∙ counted _ _ _ (v .2) (w .0 .taken)) (λ w. w .2 ∙ passed _ _ _ (v .2) (w .0 .left)) (c .if1 .came), ⊎-elim (λ w. w .1 ∙ rank-set _ _ _ (omega arith) (v .3) _ (w .0 .taken) (counted _ _ _ (v .2) (w .0 .taken))) (λ w. w .1 ∙ rank-none _ _ _ (omega arith) (v .3) (w .0 .left)) (c .if1 .came))
+
+wide-requires : tie.Need-wide-requires Inv-loop μ-loop
+wide-requires c κs = search needs
+
+returns : tie.Need-returns Inv-loop μ-loop
+unfolding rankingOf
+returns c = let e : c .before .before .loop .e ≡ c .before .before .before .args .m = omega arith in let v = c .before .before .loop .inv in rw (c .wide .ensures .0, v .2, v .3, e)
+
+pub rank-symbols-spec : {M : Type 1} → statement M
+rank-symbols-spec =
+    tie.close
+    (tie.spec
+    Inv-loop
+    μ-loop
+    loop-holds
+    element-copy-out-if1
+    add-count
+    array-write-ranks
+    add-e
+    loop-less
+    loop-again
+    wide-requires
+    returns)

@@ -1,0 +1,104 @@
+// The release: the search for the longest front part of the buffer that brings the state to where the monitor may rest with what is left.
+use base::has;
+use base::size;
+use base::wide;
+use releasing::Front;
+use releasing::Ranking;
+ghost use mathlib.Core.Path.{_≡_};
+ghost use Prim.Native.Nat.{ℕ, _+_, _*_, _≤_, _<_};
+ghost use lib.ListN.{getD, length, take, replicate};
+ghost use Rattle.base.specs.Pad.{pad};
+ghost use Rattle.base.specs.Masks.{has};
+ghost use Rattle.releasing.specs.Parts.{rankingOf, placeIn, placesOf, restIn, over, front, Lent};
+
+pub fn rank_symbols(classes: &[u8; 16], m: usize) -> Ranking
+    requires { ⌜ m ≤ 16 ⌝ }
+    ensures { λ r. ⌜ r ≡ rankingOf (now (classes .entry)) m ⌝ }
+{
+    let mut ranks = [0u8; 16];
+    let mut count: u8 = 0;
+    let mut e: usize = 0;
+    while e < m {
+        if classes[e] == 1 {
+            count = count + 1;
+            ranks[e] = count;
+        }
+        e = e + 1;
+    }
+    Ranking {
+        count: wide(count),
+        ranks,
+    }
+}
+
+// State q is in the set at a place of the table.
+fn in_set(table: &[u32], place: u32, q: usize) -> bool
+    requires { ⌜ (2 * place < length (now table)) × (q < 32) ⌝ }
+    ensures { λ r. ⌜ r ≡ has (getD (now (table .entry)) (2 * place) 0) q ⌝ }
+{
+    let at = 2 * (place as usize);
+    has(table[at], q)
+}
+
+// The numbers of what is left of the buffer after each front part, into places that are 0; they stay so for the empty buffer and
+// where they are not used.
+fn places<'a>(ranks: &'a [u8; 16], k: u32, buffer: [u8; 6], held: usize, out: &mut [u32; 8])
+    requires { ⌜ (held ≤ 6) × (k ≤ 8) × ((e : ℕ) → getD (now ranks) e 0 ≤ 8) × ((i : ℕ) → getD buffer i 0 < 16) × (now out ≡ replicate 8 0) ⌝ }
+    ensures { λ _. ⌜ now (out .exit) ≡ pad 8 (placesOf (now (ranks .entry)) k (take held buffer)) ⌝ }
+{
+    let mut place: u32 = 0;
+    let mut weight: u32 = 1;
+    let mut i = held;
+    while 0 < i {
+        i = i - 1;
+        place = place + wide(ranks[size(buffer[i])]) * weight;
+        weight = weight * k;
+        out[i] = place;
+    }
+}
+
+// Whether the monitor may rest in a state with a buffer.
+pub fn rests<'a>(
+    ranks: &'a [u8; 16],
+    k: u32,
+    table: &[u32],
+    q: usize,
+    buffer: [u8; 6],
+    held: usize,
+) -> bool
+    requires { ⌜ (held ≤ 6) × (k ≤ 8) × ((e : ℕ) → getD (now ranks) e 0 ≤ 8) × ((i : ℕ) → getD buffer i 0 < 16) × (q < 32) × (2 * placeIn (now ranks) k (take held buffer) < length (now table)) ⌝ }
+    ensures { λ r. ⌜ r ≡ restIn (now (table .entry)) (now (ranks .entry)) k (take held buffer) q ⌝ }
+{
+    let mut left = [0u32; 8];
+    places(ranks, k, buffer, held, &mut left);
+    in_set(table, left[0], q)
+}
+
+pub fn release<'a>(
+    next: &'a [u8; 512],
+    ranks: &'a [u8; 16],
+    k: u32,
+    table: &[u32],
+    q: usize,
+    buffer: [u8; 6],
+    held: usize,
+) -> Front
+    requires { ⌜ Lent (now next) (now ranks) k (now table) q buffer held ⌝ }
+    ensures { λ r. ⌜ r ≡ front (restIn (now (table .entry)) (now (ranks .entry)) k) (over (now (ranks .entry)) (now (next .entry))) q (take held buffer) ⌝ }
+{
+    let mut left = [0u32; 8];
+    places(ranks, k, buffer, held, &mut left);
+    let mut count: usize = 0;
+    let mut state = q;
+    let mut p = q;
+    let mut r: usize = 0;
+    while r < held {
+        p = size(next[p * 16 + size(buffer[r])]);
+        r = r + 1;
+        if in_set(table, left[r], p) {
+            count = r;
+            state = p;
+        }
+    }
+    Front { count, state }
+}
