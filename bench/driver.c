@@ -73,7 +73,7 @@ static void make_any_record(uint8_t *r, uint32_t most)
 {
     for (;;) {
         unsigned m = 1 + below(16);
-        make_record(r, 1 + below(below(3) ? 8 : 32), m, 1 + below(6), below(least(m, 8) + 1), (int)below(3));
+        make_record(r, 1 + below(below(3) ? 6 : 32), m, 1 + below(6), below(least(m, 8) + 1), (int)below(3));
         uint8_t count[8];
         if (ref_buffers_count(r, count) == 0 && jaxhophasi_number_at(count) <= most)
             return;
@@ -293,6 +293,16 @@ static void compare_winning(twin record, twin table, size_t places, twin state)
     drop_twins(answer);
 }
 
+static void compare_judge(twin record, twin state)
+{
+    twin answer = twins(JAXHOPHASI_VERDICT_SIZE, 0);
+    call_now = "judge";
+    same_row(jaxhophasi_judge(record.ours, state.ours, answer.ours), ref_judge(record.theirs, state.theirs, answer.theirs));
+    same_twins("the state", state);
+    same_twins("the answer", answer);
+    drop_twins(answer);
+}
+
 static void compare_receive(twin record, twin table, size_t places, twin state, uint32_t event)
 {
     twin answer = twins(JAXHOPHASI_RECEIVED_SIZE, 0);
@@ -331,6 +341,7 @@ static void compare_calls(twin record, twin table, size_t places, twin state)
 {
     for (unsigned i = below(40); i > 0; i--) {
         compare_winning(record, table, places, state);
+        compare_judge(record, state);
         if (below(8))
             compare_receive(record, table, places, state, make_event(record.ours));
         else

@@ -454,3 +454,36 @@ uint8_t ref_run(const uint8_t *automaton, const uint32_t *table, size_t table_le
     put(answer + 8, refused);
     return 0;
 }
+
+static int can_rest(const struct automaton *s, const uint8_t *held, unsigned count, unsigned rounds, unsigned q);
+
+/* The judge's questions, as document 01 words them. */
+static int may_rest(const struct automaton *s, const uint8_t *held, unsigned count, unsigned rounds, unsigned q)
+{
+    if (!s->accepting[q])
+        return 0;
+    for (unsigned e = 0; rounds && e < s->m; e++)
+        if (!s->classes[e] && !can_rest(s, held, count, rounds - 1, s->next[q * SYMBOLS + e]))
+            return 0;
+    return 1;
+}
+
+static int can_rest(const struct automaton *s, const uint8_t *held, unsigned count, unsigned rounds, unsigned q)
+{
+    return may_rest(s, held, count, rounds, q) || (count && can_rest(s, held + 1, count - 1, s->n, s->next[q * SYMBOLS + held[0]]));
+}
+
+uint8_t ref_judge(const uint8_t *automaton, const uint8_t *configuration, uint8_t *answer)
+{
+    struct automaton s;
+    struct configuration c = { 0 };
+    answer[0] = answer[1] = 0;
+    uint8_t row = entered(automaton, SIZE_MAX, configuration, &s, &c);
+    if (row)
+        return row;
+    if (s.n > 4 || s.m - s.k > 2 || c.held > 3)
+        return 17;
+    answer[0] = (uint8_t)may_rest(&s, c.buffer, c.held, s.n, c.state);
+    answer[1] = (uint8_t)can_rest(&s, c.buffer, c.held, s.n, c.state);
+    return 0;
+}

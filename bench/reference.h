@@ -21,5 +21,6 @@ uint8_t ref_receive(const uint8_t *automaton, const uint32_t *table, size_t tabl
     uint8_t *answer);
 uint8_t ref_run(const uint8_t *automaton, const uint32_t *table, size_t table_length, uint8_t *configuration, const uint32_t *events,
     size_t events_length, uint8_t *out, size_t out_length, uint8_t *answer);
+uint8_t ref_judge(const uint8_t *automaton, const uint8_t *configuration, uint8_t *answer);
 
 #endif
