@@ -1,9 +1,4 @@
-// The property automaton (document 01's sheet): its record, and the check of row 11.
-mod check;
-
-pub use check::controllable_in;
-pub use check::valid;
-pub use check::valid_in;
+// The property automaton (document 01's sheet): its record. What row 11 asks of it is defined in specs/; the crate `validity` checks it.
 
 // The record: how many states (n) and symbols (m, document 01's kinds), the capacity of the buffer (the hold, B), the initial state (start), the
 // classes of the symbols (0 uncontrollable, 1 controllable), the flags of the states (1 accepting), and the next state of q under e at

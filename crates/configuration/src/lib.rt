@@ -1,9 +1,5 @@
-// The configuration of a monitor: its state and the events that it holds back.
+// The configuration of a monitor: its state and the events that it holds back. (The crate `consistency` checks row 13.)
 use automaton::Automaton;
-
-mod check;
-
-pub use check::consistent;
 ghost use mathlib.Core.Path.{_≡_};
 ghost use mathlib.Core.List.{[]};
 ghost use Rattle.configuration.specs.Configuration.{configuration, initialAnswer};
@@ -35,7 +31,7 @@ fn empty(state: u8) -> Configuration
 pub fn initial(a: Automaton) -> Start
     ensures { λ r. ⌜ r ≡ initialAnswer a ⌝ }
 {
-    if automaton::valid(a) {
+    if validity::valid(a) {
         return Start {
             refusal: 0,
             configuration: empty(a.initial),

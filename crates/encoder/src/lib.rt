@@ -49,7 +49,7 @@ fn store(a: Automaton, out: &mut [u8])
 pub fn write(a: Automaton, out: &mut [u8]) -> Written
     ensures { λ r. ⌜ (r ≡ writeAnswer a (now (out .entry))) × (now (out .exit) ≡ writeBuffer a (now (out .entry))) ⌝ }
 {
-    if !automaton::valid(a) {
+    if !validity::valid(a) {
         return Written {
             refusal: 11,
             length: 0,

@@ -1,9 +1,9 @@
 // Rows 11 to 13, which every call on a record, a table and a configuration checks first.
-use automaton::valid_in;
 use base::size;
 use configuration::Configuration;
 use releasing::Ranking;
 use searching::rank_symbols;
+use validity::valid_in;
 ghost use mathlib.Core.Path.{_≡_};
 ghost use mathlib.Core.Bool.{true};
 ghost use Rattle.automaton.specs.Automaton.{shaped, assembled};
@@ -47,7 +47,7 @@ pub fn enter<'a>(
             ranking,
         };
     }
-    if !configuration::consistent(states, symbols, capacity, classes, c) {
+    if !consistency::consistent(states, symbols, capacity, classes, c) {
         return Entry {
             refusal: 13,
             ranking,

@@ -24,10 +24,10 @@ fn refused(row: u8) -> Verdict
 pub fn judge(a: Automaton, c: Configuration) -> Verdict
     ensures { λ r. ⌜ r ≡ verdict a c ⌝ }
 {
-    if !automaton::valid(a) {
+    if !validity::valid(a) {
         return refused(11);
     }
-    if !configuration::consistent(a.states, a.symbols, a.capacity, &a.classes, c) {
+    if !consistency::consistent(a.states, a.symbols, a.capacity, &a.classes, c) {
         return refused(13);
     }
     if too_large(a.states, a.symbols, &a.classes, c.held) {

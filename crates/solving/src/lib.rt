@@ -1,11 +1,11 @@
 // The solver: the sets S and I of every buffer, written into a lent table.
 use automaton::Automaton;
-use automaton::controllable_in;
 use base::size;
 use refinement::settle;
 use state_sets::accepting_states;
 use state_sets::uncontrollable;
 use table::fill_level;
+use validity::controllable_in;
 use winning::Solution;
 use winning::buffers_count;
 ghost use mathlib.Core.Path.{_≡_};

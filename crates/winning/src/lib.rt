@@ -1,9 +1,9 @@
 // The winning sets: what solving and counting answer is defined in specs/, and what holds of it is proved here. The buffers are
 // counted here; the crate `solving` writes the sets into a lent table.
 use automaton::Automaton;
-use automaton::controllable_in;
-use automaton::valid;
 use base::size;
+use validity::controllable_in;
+use validity::valid;
 ghost use mathlib.Core.Path.{_≡_};
 ghost use Prim.Native.Nat.{_+_, _≤_};
 ghost use Rattle.sets.specs.Table.{shorter};

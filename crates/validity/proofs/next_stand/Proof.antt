@@ -1,0 +1,44 @@
+use Rattle.automaton.proofs.Whole.{next-falls, next-rest}
+use borrow.Author.Tests.{not-true, not-false}
+use mathlib.Core.Path.{_∙_, sym}
+use native.Mathlib.Omega.{arith}
+use borrow.Author.Needs.{needs}
+use Rattle.validity.proofs.next_stand.Statement.{statement}
+use Rattle.validity.proofs.next_stand.Tie as tie
+
+size-requires : tie.Need-size-requires
+size-requires c κs = search needs
+
+limits-of-requires : tie.Need-limits-of-requires
+limits-of-requires c κs = search needs
+
+rows-below-requires : tie.Need-rows-below-requires
+rows-below-requires c κs = search needs
+
+returns : tie.Need-returns
+returns c = next-falls _ _ _ (omega arith) (omega arith) (rw (c .before .before .before .before .size .ensures .0, c .before .before .before .limits-of .ensures) at (sym (c .before .rows-below .ensures) ∙ not-true _ (c .if1 .taken)))
+
+mul-used : tie.Need-mul-used
+mul-used c = search needs
+
+sub-below-from : tie.Need-sub-below-from
+sub-below-from c = search needs
+
+below-from-requires : tie.Need-below-from-requires
+below-from-requires c κs = search needs
+
+returns-2 : tie.Need-returns-2
+returns-2 c = (rw (c .before .before .before .before .before .before .size .ensures .0) at (c .below-from .ensures)) ∙ next-rest _ _ _ (omega arith) (omega arith) (rw (c .before .before .before .before .before .before .size .ensures .0, c .before .before .before .before .before .limits-of .ensures) at (sym (c .before .before .before .rows-below .ensures) ∙ not-false _ (c .before .before .if1 .left)))
+
+pub next-stand-spec : {M : Type 1} → statement M
+next-stand-spec =
+    tie.close
+    (tie.spec
+    size-requires
+    limits-of-requires
+    rows-below-requires
+    returns
+    mul-used
+    sub-below-from
+    below-from-requires
+    returns-2)
