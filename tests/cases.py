@@ -40,6 +40,11 @@ def filled(values):
     return out
 
 
+def answer(size):
+    """An answer's bytes to lend: 9 each, so that one that is not written is seen."""
+    return filled([9] * size)
+
+
 class Cases:
     def __init__(self, library):
         self.library = library
@@ -47,7 +52,7 @@ class Cases:
         self.table_words = numbers([0] * TABLE_PLACES)
 
     def sheet(self, *data):
-        place = lent(NUMBER_SIZE)
+        place = answer(NUMBER_SIZE)
         row = self.library.jaxhophasi_read(filled(data), len(data), self.automaton, place)
         return [row, number_at(place)] + self.automaton[:4]
 
@@ -55,19 +60,19 @@ class Cases:
         self.automaton[place] = value
 
     def write(self, room):
-        out, length = filled([9] * room), lent(NUMBER_SIZE)
+        out, length = filled([9] * room), answer(NUMBER_SIZE)
         row = self.library.jaxhophasi_write(self.automaton, out, room, length)
         return [row, number_at(length)] + out[:room]
 
     def count(self):
-        count = lent(NUMBER_SIZE)
+        count = answer(NUMBER_SIZE)
         return [self.library.jaxhophasi_buffers_count(self.automaton, count), number_at(count)]
 
     def bits(self, *words):
         self.table_words[:len(words)] = words
 
     def table(self, places):
-        rounds = lent(NUMBER_SIZE)
+        rounds = answer(NUMBER_SIZE)
         row = self.library.jaxhophasi_solve(self.automaton, self.table_words, places, rounds)
         return [row, number_at(rounds)] + self.table_words[:places]
 
@@ -78,23 +83,23 @@ class Cases:
         self.configuration[:] = data
 
     def guarded(self, places):
-        answer = lent(STATUS_SIZE)
-        return [self.library.jaxhophasi_winning(self.automaton, self.table_words, places, self.configuration, answer), answer[0]]
+        status = answer(STATUS_SIZE)
+        return [self.library.jaxhophasi_winning(self.automaton, self.table_words, places, self.configuration, status), status[0]]
 
     def event(self, places, kind):
-        answer = lent(RECEIVED_SIZE)
-        row = self.library.jaxhophasi_receive(self.automaton, self.table_words, places, self.configuration, kind, answer)
-        return [row, answer[7], answer[8]] + self.configuration[:] + answer[:7]
+        received = answer(RECEIVED_SIZE)
+        row = self.library.jaxhophasi_receive(self.automaton, self.table_words, places, self.configuration, kind, received)
+        return [row, received[7], received[8]] + self.configuration[:] + received[:7]
 
     def run(self, places, room, *kinds):
-        answer, out = lent(RAN_SIZE), filled([9] * room)
+        ran, out = answer(RAN_SIZE), filled([9] * room)
         row = self.library.jaxhophasi_run(
-            self.automaton, self.table_words, places, self.configuration, numbers(kinds), len(kinds), out, room, answer)
-        return [row, number_at(answer), number_at(answer, 8)] + self.configuration[:] + out[:room]
+            self.automaton, self.table_words, places, self.configuration, numbers(kinds), len(kinds), out, room, ran)
+        return [row, number_at(ran), number_at(ran, 8)] + self.configuration[:] + out[:room]
 
     def judge(self):
-        answer = lent(VERDICT_SIZE)
-        return [self.library.jaxhophasi_judge(self.automaton, self.configuration, answer)] + answer[:]
+        verdict = answer(VERDICT_SIZE)
+        return [self.library.jaxhophasi_judge(self.automaton, self.configuration, verdict)] + verdict[:VERDICT_SIZE]
 
     def agree(self, *head):
         states, symbols, capacity = head[:3]
@@ -120,9 +125,9 @@ def main(library, path):
     for line in open(path):
         print(line, end="")
         word, _, text = line.rstrip("\n").partition(" ")
-        answer = None if word == "#" else getattr(cases, word)(*map(int, re.findall("[0-9]+", text)))
-        if answer is not None:
-            print("=", *answer)
+        printed = None if word == "#" else getattr(cases, word)(*map(int, re.findall("[0-9]+", text)))
+        if printed is not None:
+            print("=", *printed)
 
 
 if __name__ == "__main__":

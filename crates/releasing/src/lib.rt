@@ -1,4 +1,4 @@
-// One event and the release, as definitions and what holds of them; the crate `searching` has the code.
+// One event and the release, as definitions and what holds of them; the crates `searching` and `stepping` have the code.
 
 // The controllable symbols: how many there are, and the rank of each from 1 (0: uncontrollable).
 pub struct Ranking {
