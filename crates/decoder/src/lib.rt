@@ -10,8 +10,23 @@ ghost use lib.Seq.{sets};
 ghost use Rattle.varint.specs.Varint.{read};
 ghost use Rattle.automaton.specs.Automaton.{mostClass};
 ghost use Rattle.base.specs.Pad.{pad};
-ghost use Rattle.encoding.specs.Reading.{checked, between, itemRow, numbers, runs, tables, parse, refused};
+ghost use Rattle.encoding.specs.Reading.{blank, checked, between, itemRow, numbers, runs, tables, parse, refused};
 ghost use Rattle.encoding.specs.Parts.{outcome, oneMore};
+
+// The record with 0 everywhere.
+pub fn blank() -> Automaton
+    ensures { λ r. ⌜ r ≡ blank ⌝ }
+{
+    Automaton {
+        states: 0,
+        symbols: 0,
+        capacity: 0,
+        initial: 0,
+        classes: [0u8; 16],
+        accepting: [0u8; 32],
+        next: [0u8; 512],
+    }
+}
 
 fn refused(row: u8, at: usize) -> Parsed
     ensures { λ r. ⌜ r ≡ refused row at ⌝ }
@@ -19,15 +34,7 @@ fn refused(row: u8, at: usize) -> Parsed
     Parsed {
         refusal: row,
         place: at,
-        automaton: Automaton {
-            states: 0,
-            symbols: 0,
-            capacity: 0,
-            initial: 0,
-            classes: [0u8; 16],
-            accepting: [0u8; 32],
-            next: [0u8; 512],
-        },
+        automaton: blank(),
     }
 }
 

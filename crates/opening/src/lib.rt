@@ -19,15 +19,7 @@ fn without(phase: Phase) -> Progress
     Progress {
         phase,
         run: Run {
-            automaton: Automaton {
-                states: 0,
-                symbols: 0,
-                capacity: 0,
-                initial: 0,
-                classes: [0u8; 16],
-                accepting: [0u8; 32],
-                next: [0u8; 512],
-            },
+            automaton: decoder::blank(),
             configuration: Configuration {
                 state: 0,
                 held: 0,
