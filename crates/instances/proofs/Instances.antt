@@ -37,6 +37,7 @@ use Rattle.answers.specs.Answers.{callRows, isWinning, callRefusal, status, rec
 use Rattle.claims.specs.Calls.{handedBack, reply}
 use Rattle.claims.specs.Moments.{effectAt, within, broughtBy, broughtAll, moments}
 use Rattle.claims.specs.Claims.{winningAfter, arrivalAt, rivalRelease, ourRelease, rivalOutput, rivalBuffer}
+use Rattle.claims.proofs.Tables.{table-exists}
 use Rattle.claims.proofs.Demand3.{demand3, demand3-solved}
 use Rattle.claims.proofs.Rivals.{rivals-lose}
 use Rattle.claims.proofs.Driven.{driven-out}
@@ -44,7 +45,7 @@ use Rattle.claims.proofs.Said.{once-winning-said}
 use Rattle.claims.proofs.Answers.{flag-is-status, flag-stays, others-ignored}
 use Rattle.layout.proofs.Trips.{automaton-kept, automaton-bytes-kept, configuration-kept, configuration-bytes-kept, number-kept, refused-event-keeps, refused-run-keeps}
 use Rattle.layout.proofs.Handing.{initial-handed-on, event-handed-on, run-handed-on}
-use Rattle.byte_calls.proofs.ByteCalls.{bytes-enforced}
+use Rattle.byte_calls.proofs.ByteCalls.{as-by-value, bytes-enforced}
 use Rattle.layout.specs.Layout.{part, automatonBytes, configurationOf}
 use Rattle.text.specs.Decimal.{ascii}
 use Rattle.notation.proofs.Laws.{never-longer, room-in-text, read-small, cases-read}
@@ -258,6 +259,7 @@ unfolding automatonW
 enforcing =
     record {
       demand3 = demand3 automatonV (table automatonV) valid-v solved-v;
+      table-exists = table-exists automatonW valid-w;
       demand3-solved = demand3-solved automatonW (filled 16 9) solves-w;
       initially-winning = demand3 automatonW tableW valid-w solved-w calls .once-winning .initially begins-winning;
       rivals-lose = rw met at (rivals-lose automatonW tableW valid-w solved-w calls) .1 .0 eager longer;
@@ -308,7 +310,8 @@ layouts =
       run-handed-on = run-handed-on automatonW tableW (filled 8 0) (0 ∷ 2 ∷ []) (filled 2 9) refl;
       bytes-enforced = λ xs.
           bytes-enforced (automatonBytes automatonW) tableW (rw (automaton-kept automatonW shaped-w) valid-w) (rw (automaton-kept automatonW shaped-w) solved-w)
-          xs .1;
+          xs;
+      as-by-value = λ xs. as-by-value (filled 564 7) [] (filled 8 7) refl xs;
       refused-run-keeps = refused-run-keeps automatonW tableW (filled 8 0) (0 ∷ []) [] refl (λ h. omega (arith, refused-16));
     }
 

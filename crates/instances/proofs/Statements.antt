@@ -2,7 +2,7 @@
 use Prim.Native.Nat.{ℕ, _+_, _*_, _<_, _≤_, _^_}
 use mathlib.Core.Path.{_≡_}
 use mathlib.Core.Bool.{Bool, true, false, _||_}
-use mathlib.Core.List.{List, [], _∷_, _++_}
+use mathlib.Core.List.{List, [], _∷_, _++_, map}
 use lib.ListN.{length, getD, replicate}
 use Rattle.base.specs.Each.{count}
 use Rattle.base.specs.Masks.{has}
@@ -19,13 +19,14 @@ use Rattle.winning.specs.Solving.{solvedTable}
 use Rattle.game.specs.Game.{mayRest, canRest, verdict}
 use Rattle.game.specs.Claims.{Questions}
 use Rattle.answers.specs.Answers.{status, received, ran}
-use Rattle.claims.specs.Calls.{Call, one, many, configurationAfter}
+use Rattle.claims.specs.Calls.{Call, one, many, replies, configurationAfter}
 use Rattle.claims.specs.Moments.{Moment, moments}
 use Rattle.claims.specs.Rival.{Lost, lostBound}
 use Rattle.claims.specs.Claims.{Enforced, Stays, rivalOutput, rivalBuffer}
 use Rattle.claims.specs.Answers.{SaysWinning, SameAnswers}
 use Rattle.marked_cases.specs.Cases.{bytesV, automatonV, automatonW}
 use Rattle.layout.specs.Layout.{automatonBytes, automatonOf, configurationBytes, configurationOf, numberBytes, numberOf}
+use Rattle.byte_calls.specs.ByteCalls.{laid, leavesAll}
 use Rattle.text.specs.Decimal.{ascii}
 use Rattle.notation.specs.Outcomes.{numbers}
 use Rattle.notation.specs.Packing.{reading, encoded, packed, done}
@@ -93,6 +94,7 @@ eager events output = 6
 -- demand 3
 pub record Enforcing : Type 0 where
   pub demand3 : (xs : List Call) → Enforced automatonV (table automatonV) xs
+  pub table-exists : (t : List ℕ) × Solved automatonW t
   pub demand3-solved : (xs : List Call) → Enforced automatonW (solvedTable automatonW (filled 16 9)) xs
   pub initially-winning : Stays automatonW tableW (moments automatonW tableW (initialOf automatonW) calls)
   -- whoever lets the Page go is lost
@@ -122,8 +124,14 @@ pub record Layouts : Type 0 where
       ≡ received automatonW tableW (configurationOf (filled 8 0)) 0 .configuration
   pub run-handed-on : configurationOf (configurationBytes (ran automatonW tableW (configurationOf (filled 8 0)) (0 ∷ 2 ∷ []) (filled 2 9) .configuration))
       ≡ ran automatonW tableW (configurationOf (filled 8 0)) (0 ∷ 2 ∷ []) (filled 2 9) .configuration
-  -- W's record in its bytes, and any calls through the interface
-  pub bytes-enforced : (xs : List Call) → Enforced (automatonOf (automatonBytes automatonW)) tableW xs
+  -- calls through the interface over any 564 bytes for a record, with a table that is none of it
+  pub as-by-value : (xs : List Call) → leavesAll (filled 564 7) [] (filled 8 7) xs
+      ≡ map laid (replies (automatonOf (filled 564 7)) [] (configurationOf (filled 8 7)) xs)
+  -- W's record in its bytes, and any calls
+  pub bytes-enforced : (xs : List Call) → (leavesAll (automatonBytes automatonW) tableW
+      (configurationBytes (initialAnswer (automatonOf (automatonBytes automatonW)) .configuration)) xs
+      ≡ map laid (replies (automatonOf (automatonBytes automatonW)) tableW (initialOf (automatonOf (automatonBytes automatonW))) xs))
+      × Enforced (automatonOf (automatonBytes automatonW)) tableW xs
 
 -- V as text
 abbrev pub textV : List ℕ
