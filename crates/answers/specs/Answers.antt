@@ -12,7 +12,7 @@ use Rattle.automaton.specs.Automaton.{valid}
 use Rattle.sets.specs.Table.{short}
 use Rattle.configuration.specs.declared.Configuration.{Configuration}
 use Rattle.configuration.specs.Configuration.{configuration, heldEvents, consistent}
-use Rattle.releasing.specs.Step.{byTable, effect, eventRows, Run, runOf}
+use Rattle.releasing.specs.Step.{byTable, effect, eventRows, runOf}
 pub use Rattle.answers.specs.declared.Status.{Status}
 pub use Rattle.answers.specs.declared.Received.{Received}
 pub use Rattle.answers.specs.declared.Ran.{Ran}

@@ -65,10 +65,6 @@ unfolding mask
 mask-lt zero p = omega arith
 mask-lt (suc n) p = added-lt n (mask n p) (mask-lt n p) (p n)
 
--- in a wider number
-pub mask-fits : (n m : ℕ) (p : ℕ → Bool) → n ≤ m → mask n p < 2 ^ m
-mask-fits n m p l = omega (arith, mask-lt n p, pow-mono l)
-
 -- one more state, as a loop adds it
 pub mask-more : (n : ℕ) (p : ℕ → Bool) → mask (n + 1) p ≡ mask n p + cond (p n) (2 ^ n) 0
 unfolding mask

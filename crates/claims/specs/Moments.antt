@@ -1,6 +1,6 @@
 -- The accepted events of a list of calls, one by one, also those inside a day.
 use Prim.Native.Nat.{ℕ}
-use mathlib.Core.Bool.{Bool, cond}
+use mathlib.Core.Bool.{cond}
 use mathlib.Core.List.{List, [], _∷_, _++_}
 use lib.Dec.{eqb}
 use Rattle.automaton.specs.declared.Automaton.{Automaton}

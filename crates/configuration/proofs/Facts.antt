@@ -1,7 +1,7 @@
 -- What a consistent configuration is, as plain facts, and that `consistent` decides it.
 use Prim.Native.Nat.{ℕ, zero, suc, _<_, _≤_}
 use mathlib.Core.Path.{_≡_, sym, _∙_, ap}
-use mathlib.Core.Bool.{Bool, true, cond, _&&_}
+use mathlib.Core.Bool.{Bool, true, cond}
 use mathlib.Core.List.{List, [], _∷_}
 use native.Mathlib.Omega.{arith}
 use lib.ListN.{length, getD, take}
@@ -17,7 +17,7 @@ use Rattle.automaton.specs.declared.Automaton.{Automaton}
 use Rattle.automaton.specs.Automaton.{controllable}
 use Rattle.automaton.proofs.Facts.{Valid}
 use Rattle.sets.specs.Table.{Controllable, Buffer}
-use Rattle.configuration.specs.Configuration.{Configuration, heldEvents, configuration, controllableSymbol, placeStands, bufferStands, consistentIn, consistent, initialOf}
+use Rattle.configuration.specs.Configuration.{Configuration, heldEvents, configuration, controllableSymbol, placeStands, bufferStands, consistentIn, consistent}
 
 -- a controllable symbol
 abbrev pub ControllableSymbol : Automaton → ℕ → Type 0
@@ -128,7 +128,3 @@ configuration-consistent a v q w l b =
       events = rw e (b .0);
       whole = ap (configuration q) (sym e);
     }
-
-pub initial-consistent : (a : Automaton) → Valid a → Consistent a (initialOf a)
-unfolding initialOf
-initial-consistent a v = configuration-consistent a v (a .initial) [] (v .initial-below) (tt, omega arith)

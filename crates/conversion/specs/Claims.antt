@@ -4,7 +4,7 @@ use Prim.Native.String.{String}
 use mathlib.Core.Path.{_≡_}
 use mathlib.Core.List.{List, [], _∷_}
 use Rattle.text.specs.Decimal.{ascii}
-use Rattle.conversion.specs.Outputs.{packOutput, packNote, unpackOutput, unpackNote}
+use Rattle.conversion.specs.Outputs.{packOutput, packNote}
 
 -- on a text `pack` writes these bytes, and nothing on standard error
 abbrev pub Packs : String → List ℕ → Type 0

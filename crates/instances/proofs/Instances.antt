@@ -1,8 +1,8 @@
 -- The instances.
 use Prim.Native.Nat.{ℕ, zero, suc, _+_, _*_, _<_, _≤_}
 use mathlib.Core.Path.{_≡_, refl, sym, _∙_, ap}
-use mathlib.Core.Bool.{Bool, true, false, cond, not}
-use mathlib.Core.List.{List, [], _∷_, _++_, append-nil}
+use mathlib.Core.Bool.{true, false}
+use mathlib.Core.List.{[], _∷_, _++_, append-nil}
 use mathlib.Core.Logic.{inl}
 use native.Mathlib.Omega.{arith}
 use lib.ListN.{length, getD, length-replicate, List·getD-append}
@@ -11,7 +11,7 @@ use Rattle.base.specs.Each.{each, count, those, lastOr}
 use Rattle.base.specs.Rows.{first}
 use Rattle.base.specs.Pad.{pad}
 use Rattle.base.specs.Masks.{has, mask}
-use Rattle.varint.specs.Varint.{groups, read, encode, bytes}
+use Rattle.varint.specs.Varint.{groups, read}
 use Rattle.varint.proofs.Trips.{reads-back, fewest}
 use Rattle.automaton.specs.Parts.{controllableIn, stands, placesStand}
 use Rattle.automaton.specs.Automaton.{controllable, controllables, accepts, step, run, shaped, ranged, classesStand, flagsStand, nextStand, valid}
@@ -36,7 +36,7 @@ use Rattle.releasing.specs.Step.{byTable, qualifies, qualifying, release, remai
 use Rattle.answers.specs.Answers.{callRows, isWinning, callRefusal, status, receiveRefusal, received, room, runRefusal, ran}
 use Rattle.claims.specs.Calls.{handedBack, reply}
 use Rattle.claims.specs.Moments.{effectAt, within, broughtBy, broughtAll, moments}
-use Rattle.claims.specs.Claims.{winningAfter, arrivalAt, rivalRelease, ourRelease, rivalOutput, rivalBuffer}
+use Rattle.claims.specs.Claims.{winningAfter, arrivalAt, rivalRelease, ourRelease}
 use Rattle.claims.proofs.Tables.{table-exists}
 use Rattle.claims.proofs.Demand3.{demand3, demand3-solved}
 use Rattle.claims.proofs.Rivals.{rivals-lose}

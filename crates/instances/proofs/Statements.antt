@@ -1,7 +1,7 @@
 -- Each claim at document 01's sheet V or W, or on bytes of theirs, with its hypotheses met.
-use Prim.Native.Nat.{ℕ, _+_, _*_, _<_, _≤_, _^_}
+use Prim.Native.Nat.{ℕ, _+_, _*_, _<_, _≤_}
 use mathlib.Core.Path.{_≡_}
-use mathlib.Core.Bool.{Bool, true, false, _||_}
+use mathlib.Core.Bool.{true, _||_}
 use mathlib.Core.List.{List, [], _∷_, _++_, map}
 use lib.ListN.{length, getD, replicate}
 use Rattle.base.specs.Each.{count}
@@ -16,10 +16,10 @@ use Rattle.sets.specs.Table.{index, buffersCount, Buffer, table, Solved}
 use Rattle.sets.specs.Claims.{Winning, Intermediate, Resting}
 use Rattle.configuration.specs.Configuration.{configuration, initialOf, initialAnswer}
 use Rattle.winning.specs.Solving.{solvedTable}
-use Rattle.game.specs.Game.{mayRest, canRest, verdict}
+use Rattle.game.specs.Game.{mayRest, verdict}
 use Rattle.game.specs.Claims.{Questions}
 use Rattle.answers.specs.Answers.{status, received, ran}
-use Rattle.claims.specs.Calls.{Call, one, many, replies, configurationAfter}
+use Rattle.claims.specs.Calls.{Call, one, replies, configurationAfter}
 use Rattle.claims.specs.Moments.{Moment, moments}
 use Rattle.claims.specs.Rival.{Lost, lostBound}
 use Rattle.claims.specs.Claims.{Enforced, Stays, rivalOutput, rivalBuffer}

@@ -20,7 +20,7 @@ use Rattle.notation.specs.Outcomes.{numbers, before}
 use Rattle.notation.proofs.Outcomes.{none-left, one-left, no-fault}
 use Rattle.notation.specs.Tokens.{separator, ends, comment, newlines, beginning, run, tokenAt, bytesOf}
 use Rattle.notation.specs.Words.{largest, isDigit, allDigits, valueFrom, number, wordFrom, wordOf}
-use Rattle.notation.specs.Packing.{Reading, sound, readingFrom, reading, encoded}
+use Rattle.notation.specs.Packing.{sound, readingFrom, reading, encoded}
 use Rattle.notation.proofs.Values.{digit as is-digit, digit-low, digit-high}
 use Rattle.notation.proofs.Laws.{read-small as text-small}
 use Rattle.listing.specs.Unpacking.{decodedFrom, decoded, mark, lineOf}

@@ -5,7 +5,7 @@ use mathlib.Core.List.{List, [], _∷_}
 use lib.ListN.{length}
 use Rattle.varint.specs.Claims.{AreBytes}
 use Rattle.text.specs.Decimal.{ascii}
-use Rattle.notation.specs.Outcomes.{numbers, faulty}
+use Rattle.notation.specs.Outcomes.{numbers}
 use Rattle.notation.specs.Packing.{reading, encoded}
 use Rattle.listing.specs.Unpacking.{decoded, lineOf}
 

@@ -9,7 +9,7 @@ use Rattle.automaton.specs.Parts.{controllableIn, stands, placesStand}
 use Rattle.automaton.specs.Automaton.{controllable, controllables, accepts, step, run, shaped, ranged, classesStand, flagsStand, nextStand, valid}
 use Rattle.encoding.specs.Reading.{checked, between, itemRow, numbers, runs, one, many, tables, automatonFrom, parse}
 use Rattle.sets.specs.Sets.{acceptingSet, admits, stays, refine, settle, settled, setsOf, emptySets, into, sets}
-use Rattle.sets.specs.Table.{rank, value, shorter, index, buffersCount, short, controllableTo, extended, buffersAt, buffersTo, pairs, roundsSum, table, rounds}
+use Rattle.sets.specs.Table.{rank, value, shorter, index, buffersCount, short, extended, buffersAt, buffersTo, pairs, roundsSum, table, rounds}
 use Rattle.configuration.specs.Configuration.{heldEvents, controllableSymbol, placeStands, bufferStands, consistentIn, initialOf}
 use Rattle.winning.specs.Solving.{countAnswer}
 use Rattle.releasing.specs.Step.{byTable, qualifies, qualifying, release, remaining, arrival, effect, eventRows}

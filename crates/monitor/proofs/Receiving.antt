@@ -1,7 +1,7 @@
 -- The ways out of one event.
-use Prim.Native.Nat.{ℕ, suc, _+_, _<_, _≤_}
-use mathlib.Core.Path.{_≡_, refl, sym, _∙_, ap, subst}
-use mathlib.Core.Bool.{Bool, true, false}
+use Prim.Native.Nat.{ℕ, _+_, _<_, _≤_}
+use mathlib.Core.Path.{_≡_, sym, _∙_, ap, subst}
+use mathlib.Core.Bool.{Bool, false}
 use mathlib.Core.List.{List, [], _∷_, _++_, append-nil}
 use native.Mathlib.Nat.{zero-add}
 use native.Mathlib.Omega.{arith}
@@ -11,11 +11,11 @@ use borrow.Author.Tests.{ne-eqb}
 use Rattle.base.specs.Pad.{pad}
 use Rattle.base.proofs.Padding.{pad-stored, take-pad}
 use Rattle.automaton.specs.declared.Automaton.{Automaton}
-use Rattle.automaton.proofs.Facts.{Valid, valid-facts, valid-of}
+use Rattle.automaton.proofs.Facts.{valid-of}
 use Rattle.sets.proofs.Total.{total}
 use Rattle.configuration.specs.declared.Configuration.{Configuration}
 use Rattle.configuration.specs.Configuration.{heldEvents, configuration}
-use Rattle.configuration.proofs.Facts.{Consistent, consistent-facts, held-buffer}
+use Rattle.configuration.proofs.Facts.{held-buffer}
 use Rattle.releasing.specs.Step.{byTable, Effect, effect, eventRows, eventRefusal, Run, runOf}
 use Rattle.releasing.specs.declared.Ranking.{Ranking}
 use Rattle.releasing.specs.Parts.{rankingOf, restIn, Lent}
@@ -25,10 +25,7 @@ use Rattle.releasing.proofs.Tabled.{rest-tabled, lent}
 use Rattle.stepping.specs.Stepping.{eventRowBy}
 use Rattle.stepping.proofs.Tabled.{row-same, symbols-low}
 use Rattle.answers.specs.declared.Ran.{Ran}
-use Rattle.answers.specs.declared.Received.{Received}
-use Rattle.answers.specs.declared.Status.{Status}
-use Rattle.entering.specs.declared.Entry.{Entry}
-use Rattle.answers.specs.Answers.{callRows, callRefusal, receiveRefusal, refusedEvent, received, isWinning, status, ranOf, ranBufferOf}
+use Rattle.answers.specs.Answers.{callRefusal, receiveRefusal, refusedEvent, received, isWinning, status, ranOf, ranBufferOf}
 use Rattle.answers.proofs.Refusals.{Clear, status-clear, rows-stand, rows-pass, facts, place}
 
 module _ (a : Automaton) (t : List ℕ) (c : Configuration) where

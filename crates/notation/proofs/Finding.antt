@@ -55,9 +55,6 @@ pub record Running (s : List ℕ) (from at : ℕ) : Type 0 where
   pub inside : at ≤ length s
   pub so-far : at + run (drop at s) ≡ from + run (drop from s)
 
-pub running-begins : (s : List ℕ) (from : ℕ) → from ≤ length s → Running s from from
-running-begins s from h = record { inside = h; so-far = refl }
-
 module _ {s : List ℕ} {from at : ℕ} (g : Running s from at) where
   pub running-ended : length s ≤ at → at ≡ from + run (drop from s)
   unfolding run

@@ -8,7 +8,7 @@ use Rattle.text.specs.Decimal.{ascii}
 use Rattle.notation.specs.Words.{Fault}
 use Rattle.notation.specs.Outcomes.{numbers}
 use Rattle.notation.specs.Packing.{reading, encoded, done, packed}
-use Rattle.notation.specs.declared.Fault.the-variants.{NotNumber, TooLarge}
+use Rattle.notation.specs.declared.Fault.the-variants.{NotNumber}
 
 -- what is packed is never longer than the text, ..
 abbrev pub NeverLonger : Type 0

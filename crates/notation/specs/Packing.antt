@@ -1,7 +1,7 @@
 -- Packing: the numbers of a text in seven-bit groups, each in the fewest bytes.
 use Prim.Native.Nat.{ℕ, zero, suc, _+_}
 use mathlib.Core.Bool.{Bool, true, false, cond}
-use mathlib.Core.List.{List, [], _∷_, _++_}
+use mathlib.Core.List.{List, []}
 use lib.ListN.{length}
 use lib.Dec.{ltb, leb}
 unfoldable pub use Rattle.varint.specs.Varint.{encoded}

@@ -1,23 +1,20 @@
 -- The loop over events, and the ways out of a whole day.
-use Prim.Native.Nat.{ℕ, suc, _+_, _<_, _≤_}
+use Prim.Native.Nat.{ℕ, _+_, _<_, _≤_}
 use mathlib.Core.Path.{_≡_, refl, sym, _∙_, ap, ap₂}
-use mathlib.Core.Bool.{Bool, true, false, cond}
+use mathlib.Core.Bool.{false}
 use mathlib.Core.List.{List, [], _∷_, _++_, append-assoc, append-nil}
 use native.Mathlib.Nat.{zero-add, add-zero}
 use native.Mathlib.Numerals.{add-one}
 use native.Mathlib.Omega.{arith}
 use lib.ListN.{length, getD, take, drop, length-append}
 use lib.Seq.{sets, sets-eq, length-sets, drop-cons, drop-length}
-use lib.Dec.{ltb}
-use borrow.Author.Tests.{ne-eqb, lt-ltb, le-ltb}
-use Rattle.base.specs.Rows.{first}
 use Rattle.base.specs.Pad.{pad}
 use Rattle.base.proofs.Padding.{pad-length, take-pad}
 use Rattle.base.proofs.Stores.{sets-join}
 use Rattle.automaton.specs.declared.Automaton.{Automaton}
 use Rattle.automaton.proofs.Facts.{Valid, valid-of}
 use Rattle.sets.specs.Table.{short}
-use Rattle.sets.proofs.Total.{Total, total}
+use Rattle.sets.proofs.Total.{total}
 use Rattle.configuration.specs.declared.Configuration.{Configuration}
 use Rattle.configuration.specs.Configuration.{heldEvents, configuration}
 use Rattle.configuration.proofs.Facts.{held-buffer}
@@ -25,11 +22,10 @@ use Rattle.releasing.specs.Step.{byTable, Effect, effect, eventRefusal, Run, ru
 use Rattle.releasing.specs.declared.Ranking.{Ranking}
 use Rattle.releasing.specs.Parts.{rankingOf, restIn, over}
 use Rattle.releasing.proofs.Effects.{Occurs, accepted-facts, effect-occurs, effect-length}
-use Rattle.releasing.proofs.Runs.{run-accepts, run-refuses, after, passed}
+use Rattle.releasing.proofs.Runs.{run-accepts, run-refuses}
 use Rattle.stepping.specs.declared.Stepped.{Stepped}
 use Rattle.stepping.specs.Stepping.{eventRowBy, stepped, Ready}
 use Rattle.stepping.proofs.Tabled.{row-same, stepped-tabled, emitted-tabled, ready}
-use Rattle.answers.specs.declared.Ran.{Ran}
 use Rattle.answers.specs.Answers.{ranOf, ranBufferOf}
 use Rattle.answers.proofs.Refusals.{Clear, facts, place}
 use Rattle.processing.specs.Completed.{completedRun}

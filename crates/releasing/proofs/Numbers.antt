@@ -1,26 +1,21 @@
 -- Laws of the ranks of symbols and of the numbers of buffers.
 use Prim.Native.Nat.{ℕ, zero, suc, _+_, _-_, _*_, _^_, _<_, _≤_}
 use mathlib.Core.Path.{_≡_, refl, sym, _∙_, ap, ap₂}
-use mathlib.Core.Bool.{Bool, true, false, cond}
-use mathlib.Core.List.{List, [], _∷_, _++_, append-assoc}
-use native.Mathlib.Nat.{mul-le-mul, pow-le-pow-left, pow-le-pow-right, pow-suc, pow-zero, zero-add, add-comm, suc-mul}
+use mathlib.Core.Bool.{cond}
+use mathlib.Core.List.{List, [], _∷_, _++_}
+use native.Mathlib.Nat.{mul-le-mul, pow-le-pow-left, pow-le-pow-right, pow-suc, pow-zero, add-comm}
 use native.Mathlib.Numerals.{add-one}
 use native.Mathlib.Omega.{arith}
-use lib.ListN.{length, getD, set, take, drop, replicate, length-append, length-drop, length-replicate, replicate-append-replicate, List·getD-append}
-use lib.Seq.{set-at, drop-cons, drop-length, getD-take, getD-append-add, length-take-le, take-nil}
+use lib.ListN.{length, getD, set, drop, replicate, length-append, length-drop, length-replicate, replicate-append-replicate}
+use lib.Seq.{set-at, drop-cons, drop-length}
 use lib.Dec.{eqb, ltb}
 use borrow.Author.Tests.{eq-eqb, ne-eqb, ltb-true, ltb-false}
-use Rattle.base.specs.Each.{count}
 use Rattle.base.specs.Masks.{has}
 use Rattle.base.specs.Pad.{pad}
 use Rattle.base.proofs.Bools.{by}
-use Rattle.base.proofs.Ranges.{count-max, count-more}
-use Rattle.base.proofs.Padding.{pad-length, pad-inside, pad-outside, pad-set, pad-zero}
-use Rattle.automaton.specs.declared.Automaton.{Automaton}
-use Rattle.automaton.specs.Automaton.{controllable, controllables}
+use Rattle.base.proofs.Padding.{pad-inside, pad-outside, pad-set, pad-zero}
 use Rattle.automaton.specs.Parts.{controllableIn}
-use Rattle.sets.specs.Table.{rank, value, shorter, index, Controllable}
-use Rattle.releasing.specs.Parts.{ranksTo, rankingOf, placeIn, placesOf, restIn}
+use Rattle.releasing.specs.Parts.{ranksTo, placeIn, placesOf, restIn}
 
 -- a run of equal elements, one longer
 repeat-end : (k : ℕ) (x : ℕ) (rest : List ℕ) → replicate k x ++ x ∷ rest ≡ replicate (suc k) x ++ rest

@@ -2,9 +2,7 @@
 use Prim.Native.Nat.{ℕ, _+_}
 use mathlib.Core.Path.{_≡_, refl, sym, _∙_, ap}
 use mathlib.Core.List.{List, [], _∷_, _++_}
-use native.Mathlib.Omega.{arith}
 use lib.Dec.{eqb}
-use lib.ListN.{length, length-append}
 use borrow.Author.Tests.{eqb-true, eqb-false, eq-eqb, ne-eqb}
 use Rattle.base.proofs.Bools.{by}
 use Rattle.automaton.specs.declared.Automaton.{Automaton}
@@ -12,7 +10,7 @@ use Rattle.automaton.specs.Automaton.{run}
 use Rattle.automaton.proofs.Running.{run-append}
 use Rattle.sets.proofs.Total.{Total}
 use Rattle.releasing.specs.Step.{Rest, Effect, effect, eventRefusal, Run, runOf}
-use Rattle.releasing.proofs.Effects.{Occurs, Agree, effect-occurs, effect-leads, effect-length, effect-same}
+use Rattle.releasing.proofs.Effects.{Occurs, Agree, effect-occurs, effect-leads, effect-same}
 
 -- no event
 abbrev pub still : ℕ → List ℕ → Run
@@ -69,15 +67,6 @@ module _ (rest : Rest) (a : Automaton) where
       (λ q w. refl)
       (λ q w e es r h k. run-append a q (f q w e .emitted) (r .emitted) ∙ ap (λ p. run a p (r .emitted)) (effect-leads rest a q w e) ∙ k)
       (λ q w e es r h k. k)
-
-  -- what came in is emitted, held or refused
-  pub run-length : (es : List ℕ) (q : ℕ) (w : List ℕ)
-      → length (runOf rest a q w es .emitted) + length (runOf rest a q w es .buffer) + runOf rest a q w es .refused ≡ length es + length w
-  run-length =
-      run-keeps (λ q w es r. length (r .emitted) + length (r .buffer) + r .refused ≡ length es + length w)
-      (λ q w. omega arith)
-      (λ q w e es r h k. omega (arith, length-append (f q w e .emitted) (r .emitted), effect-length rest a q w e))
-      (λ q w e es r h k. omega arith)
 
 -- the rest test is asked only where it may be
 pub run-same : (rest other : Rest) (a : Automaton) → Agree a rest other → Total a → (es : List ℕ) (q : ℕ) (w : List ℕ) → Occurs a q w

@@ -1,8 +1,8 @@
 -- The search for the longest front part that qualifies, from the empty one on.
-use Prim.Native.Nat.{ℕ, zero, suc, _+_, _*_, _<_, _≤_}
-use mathlib.Core.Path.{_≡_, refl, sym, _∙_, ap, ap₂}
-use mathlib.Core.Bool.{Bool, true, false, cond}
-use mathlib.Core.List.{List, [], _∷_, _++_}
+use Prim.Native.Nat.{ℕ, _+_, _*_, _<_, _≤_}
+use mathlib.Core.Path.{_≡_, refl, sym, _∙_, ap}
+use mathlib.Core.Bool.{Bool, true, false}
+use mathlib.Core.List.{List}
 use native.Mathlib.Numerals.{add-one}
 use native.Mathlib.Omega.{arith}
 use lib.ListN.{length, getD, take, drop}
@@ -16,7 +16,6 @@ use Rattle.automaton.specs.Automaton.{step, run}
 use Rattle.automaton.proofs.Running.{run-end}
 use Rattle.releasing.specs.Step.{Rest, qualifies, qualifying, release}
 use Rattle.base.specs.Pad.{pad}
-use Rattle.releasing.specs.declared.Front.{Front}
 use Rattle.releasing.specs.Parts.{front, placeIn, placesOf, restIn, over, Lent}
 use Rattle.releasing.proofs.Numbers.{place-at}
 

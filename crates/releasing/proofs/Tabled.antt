@@ -1,29 +1,27 @@
 -- The numbers of buffers by ranks are the numbers of document 01, so what the code reads of a table is what the rule reads.
 use Prim.Native.Nat.{ℕ, zero, suc, _+_, _*_, _/_, _%_, _^_, _<_, _≤_}
-use mathlib.Core.Path.{_≡_, refl, sym, _∙_, ap, ap₂}
-use mathlib.Core.Bool.{Bool, true, false, cond}
+use mathlib.Core.Path.{_≡_, refl, sym, _∙_, ap}
+use mathlib.Core.Bool.{true, false, cond}
 use mathlib.Core.List.{List, [], _∷_, _++_}
 use native.Mathlib.Nat.{suc-mul}
 use native.Mathlib.Numerals.{add-one}
 use native.Mathlib.Omega.{arith}
-use lib.ListN.{length, getD, take, drop, length-append, length-drop, List·getD-append, List·getD-eq-default}
+use lib.ListN.{length, getD, take, drop, List·getD-append}
 use lib.Seq.{getD-append-seam}
 use lib.Dec.{eqb, ltb}
-use borrow.Author.Tests.{eqb-true, eqb-false, eq-eqb, ltb-true, ltb-false}
+use borrow.Author.Tests.{eqb-true, eqb-false, ltb-true, ltb-false}
 use Rattle.base.specs.Each.{count}
-use Rattle.base.specs.Masks.{has}
-use Rattle.base.specs.Pad.{pad}
 use Rattle.base.proofs.Bools.{by}
 use Rattle.base.proofs.Padding.{pad-inside, pad-outside}
 use Rattle.base.proofs.Ranges.{count-longer}
 use Rattle.automaton.specs.declared.Automaton.{Automaton}
-use Rattle.automaton.specs.Automaton.{class, controllable, controllables, step, run, valid}
+use Rattle.automaton.specs.Automaton.{class, controllable, controllables, step, run}
 use Rattle.automaton.specs.Parts.{controllableIn}
 use Rattle.automaton.proofs.Facts.{Valid, valid-of, step-high}
 use Rattle.sets.specs.Table.{rank, value, shorter, index, buffersCount, short, Controllable, Buffer}
 use Rattle.sets.proofs.Buffers.{buffer-drop}
 use Rattle.sets.proofs.Numbering.{numbered}
-use Rattle.base.specs.Each.{those, lastOr}
+use Rattle.base.specs.Each.{lastOr}
 use Rattle.base.proofs.Picking.{those-same}
 use Rattle.releasing.specs.Step.{byTable, qualifies, qualifying, release}
 use Rattle.releasing.specs.declared.Ranking.{Ranking}

@@ -1,12 +1,11 @@
 -- The intermediate set of a longer buffer; an event added at the end takes no state away.
-use Prim.Native.Nat.{ℕ, _^_, _<_}
+use Prim.Native.Nat.{ℕ, _<_}
 use mathlib.Core.Logic.{inl, inr}
 use mathlib.Core.Bool.{Bool, _||_}
 use mathlib.Core.List.{List, [], _∷_, _++_}
-use lib.Pow.{pow-pos}
 use Rattle.base.specs.Masks.{has}
 use Rattle.base.proofs.Bools.{either, clash, or-some, or-left, or-right}
-use Rattle.base.proofs.Masks.{has-nothing, mask-in, in-mask, mask-lt}
+use Rattle.base.proofs.Masks.{has-nothing, mask-in, in-mask}
 use Rattle.automaton.specs.declared.Automaton.{Automaton}
 use Rattle.automaton.specs.Automaton.{step}
 use Rattle.sets.specs.Sets.{Sets, setsOf, emptySets, into, sets}
@@ -33,10 +32,6 @@ module _ (a : Automaton) (e : ℕ) (t : Sets) where
       in-mask (a .states) leads q l
       (either h (or-left (has (t .intermediate) (step a q e))) (or-right (has (t .winning) (step a q e))))
 
-  pub into-lt : into a e t < 2 ^ a .states
-  unfolding into
-  into-lt = mask-lt (a .states) leads
-
 module _ (a : Automaton) where
   pub none-intermediate : (q : ℕ) → Intermediate a [] q → ⊥
   unfolding sets emptySets setsOf
@@ -49,11 +44,6 @@ module _ (a : Automaton) where
   pub first-intermediate : (e : ℕ) (w : List ℕ) (q : ℕ) → q < a .states → Union (Winning a w) (Intermediate a w) (step a q e) → Intermediate a (e ∷ w) q
   unfolding sets setsOf
   first-intermediate e w q l h = in-into a e (sets a w) q l h
-
-  pub intermediate-lt : (w : List ℕ) → sets a w .intermediate < 2 ^ a .states
-  unfolding sets emptySets setsOf
-  intermediate-lt [] = pow-pos (a .states)
-  intermediate-lt (e ∷ w) = into-lt a e (sets a w)
 
 module _ (a : Automaton) (t : Total a) where
   -- S grows where I does

@@ -211,11 +211,6 @@ module _ (a : Automaton) where
       let e : shorter k l + i ≡ s .0 = omega (arith, r .1, s .2) in
       rw e (s .3)
 
-  pub symbol-at : (l r i : ℕ) → r < k → i < k ^ l → getD (buffersAt a (suc l)) (r * k ^ l + i) [] ≡ getD symbols r 0 ∷ getD (buffersAt a l) i []
-  unfolding buffersAt
-  symbol-at l r i h lt =
-      rw (← buffersAt-length l) (extended-at symbols (buffersAt a l) r i (omega (arith, symbols-length)) (omega (arith, buffersAt-length l)))
-
 -- the buffers of the automaton
 module _ (a : Automaton) where
   pub buffers-length : length (buffersTo a (a .capacity)) ≡ buffersCount a

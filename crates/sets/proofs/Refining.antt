@@ -91,11 +91,3 @@ module _ (a : Automaton) (i home x : ℕ) where
   -- a round that strikes leaves fewer states
   pub refine-fewer : x < 2 ^ a .states → (refine a i home x ≡ x → ⊥) → count (a .states) (has (refine a i home x)) < count (a .states) (has x)
   refine-fewer b ne = fewer-states (a .states) x (refine a i home x) b refine-lt (λ q h. refine-in q h .1) ne
-
--- larger sets leave more
-pub refine-mono : (a : Automaton) (i j home x y : ℕ) → Part i j → Part x y → Part (refine a i home x) (refine a j home y)
-refine-mono a i j home x y f g q h =
-    let r = refine-in a i home x q h in
-    in-refine a j home y q (r .0) (g q (r .1)) (all-stays a j home y q λ e u.
-    some-admits a j home y q e
-    (either (admits-some a i home x q e (stays-at a i home x q (r .2) e u)) (λ p. inl (g (step a q e) p)) (λ p. inr (f (step a q e) p))))

@@ -1,7 +1,7 @@
 -- What the code of a step finds is what the rule says, over the arrays that it is lent.
 use Prim.Native.Nat.{ℕ, zero, suc, _+_, _-_, _*_, _<_, _≤_}
 use mathlib.Core.Path.{_≡_, refl, sym, _∙_, ap, ap₂}
-use mathlib.Core.Bool.{Bool, true, false, cond, not}
+use mathlib.Core.Bool.{Bool, false, cond, not}
 use mathlib.Core.List.{List, [], _∷_, _++_, map}
 use native.Mathlib.Omega.{arith}
 use lib.ListN.{length, getD, set, take, drop, length-append, length-drop, length-take}
@@ -12,12 +12,11 @@ use Rattle.base.proofs.Bools.{by, clash}
 use Rattle.base.proofs.Padding.{pad-length}
 use Rattle.base.proofs.Stores.{sets-join}
 use Rattle.automaton.specs.declared.Automaton.{Automaton}
-use Rattle.automaton.specs.Automaton.{controllable, run}
+use Rattle.automaton.specs.Automaton.{controllable}
 use Rattle.releasing.specs.Step.{Rest, release, Effect, arrival, effect}
 use Rattle.releasing.specs.declared.Front.{Front}
-use Rattle.releasing.specs.Parts.{front, restIn, classBy, over, Lent}
+use Rattle.releasing.specs.Parts.{front, classBy, over, Lent}
 use Rattle.releasing.proofs.Longest.{release-le}
-use Rattle.stepping.specs.declared.Stepped.{Stepped}
 use Rattle.stepping.specs.Stepping.{stepped, Ready}
 use Rattle.stepping.proofs.Arrivals.{Arrived, arrives}
 

@@ -1,25 +1,24 @@
 -- With an automaton's own ranks and next states a step is the rule read from the table.
-use Prim.Native.Nat.{ℕ, zero, suc, _+_, _*_, _<_, _≤_}
-use mathlib.Core.Path.{_≡_, refl, sym, _∙_, ap, ap₂}
-use mathlib.Core.Bool.{Bool, true, false, cond, not, _&&_}
-use mathlib.Core.List.{List, [], _∷_, _++_}
+use Prim.Native.Nat.{ℕ, zero, suc, _+_, _<_, _≤_}
+use mathlib.Core.Path.{_≡_, sym, _∙_, ap}
+use mathlib.Core.Bool.{false, not}
+use mathlib.Core.List.{List, [], _∷_}
 use native.Mathlib.Omega.{arith}
-use lib.ListN.{length, getD, take, drop}
-use lib.Dec.{eqb, leb, ltb}
+use lib.ListN.{length, getD, take}
+use lib.Dec.{ltb}
 use borrow.Author.Tests.{eq-eqb, ne-eqb, ltb-true, ltb-false}
 use Rattle.base.specs.Rows.{first}
 use Rattle.base.specs.Pad.{pad}
 use Rattle.base.proofs.Bools.{by}
-use Rattle.base.proofs.Padding.{pad-inside, pad-outside, pad-length, take-pad}
+use Rattle.base.proofs.Padding.{pad-inside, pad-outside, take-pad}
 use Rattle.automaton.specs.declared.Automaton.{Automaton}
-use Rattle.automaton.specs.Automaton.{controllable, step, run}
+use Rattle.automaton.specs.Automaton.{controllable, step}
 use Rattle.automaton.proofs.Facts.{Valid, valid-of}
-use Rattle.sets.specs.Table.{short, Buffer, Controllable}
-use Rattle.sets.proofs.Total.{Total, total}
-use Rattle.sets.proofs.Buffers.{buffer-drop}
+use Rattle.sets.specs.Table.{short, Controllable}
+use Rattle.sets.proofs.Total.{total}
 use Rattle.releasing.specs.Step.{byTable, release, remaining, Effect, arrival, effect, eventRows, eventRefusal}
 use Rattle.releasing.specs.declared.Ranking.{Ranking}
-use Rattle.releasing.specs.Parts.{rankingOf, restIn, over, Lent}
+use Rattle.releasing.specs.Parts.{rankingOf, restIn, over}
 use Rattle.releasing.proofs.Effects.{Occurs, accepted-facts, arrival-occurs}
 use Rattle.releasing.proofs.Tabled.{rank-controllable, rank-uncontrollable, release-tabled, run-over, lent}
 use Rattle.stepping.specs.Stepping.{eventRowBy, stepped, Ready}

@@ -1,11 +1,10 @@
 -- The ways in which an input begins.
-use Prim.Native.Nat.{ℕ, suc, _+_, _-_, _*_, _<_, _≤_}
-use mathlib.Core.Path.{_≡_, refl, sym, _∙_, ap}
-use mathlib.Core.Bool.{Bool, true, false, cond, not}
-use mathlib.Core.List.{List, [], _∷_, _++_, append-nil}
+use Prim.Native.Nat.{ℕ, _+_, _-_, _*_, _<_, _≤_}
+use mathlib.Core.Path.{_≡_, sym, _∙_}
+use mathlib.Core.Bool.{true, cond}
+use mathlib.Core.List.{List, [], _++_, append-nil}
 use native.Mathlib.Omega.{arith}
 use lib.ListN.{length, take, drop}
-use lib.Dec.{eqb, ltb}
 use borrow.Author.Tests.{lt-ltb, le-ltb, eq-eqb, ne-eqb}
 use Rattle.base.specs.Rows.{first}
 use Rattle.base.proofs.Bools.{by}
@@ -14,7 +13,7 @@ use Rattle.varint.specs.Varint.{read}
 use Rattle.automaton.specs.declared.Automaton.{Automaton}
 use Rattle.automaton.specs.Automaton.{valid}
 use Rattle.encoding.specs.declared.Parsed.{Parsed}
-use Rattle.encoding.specs.Reading.{refused, parsed, parse}
+use Rattle.encoding.specs.Reading.{refused, parse}
 use Rattle.encoding.proofs.Trips.{read-is-valid}
 use Rattle.sets.specs.Table.{buffersCount, short, table, Solved}
 use Rattle.sets.proofs.Tables.{table-is-solved}
@@ -22,13 +21,13 @@ use Rattle.winning.specs.declared.Solution.{Solution}
 use Rattle.winning.specs.Solving.{solveRefusal, solution, solvedTable}
 use Rattle.configuration.specs.declared.Start.{Start}
 use Rattle.configuration.specs.Configuration.{initialAnswer}
-use Rattle.lines.specs.Lines.{faultLine, refusalLine}
-use Rattle.transcript.specs.Transcript.{Run, automatonAt, opening, runFrom, runLines, tooLong, overPlaces, transcript}
+use Rattle.lines.specs.Lines.{refusalLine}
+use Rattle.transcript.specs.Transcript.{automatonAt, opening, runFrom, runLines, tooLong, overPlaces, transcript}
 use Rattle.transcript.specs.Pieces.{Progress, belongs, at, inPhase, toCome, tableAfter, without, opened}
-use Rattle.transcript.specs.declared.Phase.the-variants.{Ended, Refused, Faulted, Opening, Running}
+use Rattle.transcript.specs.declared.Phase.the-variants.{Refused, Faulted, Opening}
 use Rattle.transcript.proofs.Runs.{belongs-of}
 use Rattle.transcript.proofs.Events.{next-inside, run-same}
-use Rattle.transcript.proofs.Parsing.{Sound, parse-sound}
+use Rattle.transcript.proofs.Parsing.{parse-sound}
 
 -- solving into a table of 16,384 places
 module _ (a : Automaton) (v : valid a ≡ true) (t : List ℕ) (long : length t ≡ 16384) where

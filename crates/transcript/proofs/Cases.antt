@@ -1,6 +1,6 @@
 -- The cases are printed as they should be, by computation.
 use Prim.Native.Nat.{ℕ}
-use mathlib.Core.Path.{_≡_, refl}
+use mathlib.Core.Path.{refl}
 use borrow.Author.Tests.{lt-ltb}
 use lib.ListN.{length}
 use Rattle.base.specs.Each.{each, count, those, lastOr}
@@ -12,7 +12,7 @@ use Rattle.automaton.specs.Parts.{controllableIn, stands, placesStand}
 use Rattle.automaton.specs.Automaton.{controllable, controllables, accepts, step, run, shaped, ranged, classesStand, flagsStand, nextStand, valid}
 use Rattle.encoding.specs.Reading.{checked, between, itemRow, numbers, runs, one, many, tables, automatonFrom, parse}
 use Rattle.sets.specs.Sets.{acceptingSet, admits, stays, refine, settle, settled, setsOf, emptySets, into, sets}
-use Rattle.sets.specs.Table.{rank, value, shorter, index, buffersCount, short, controllableTo, extended, buffersAt, buffersTo, pairs, table}
+use Rattle.sets.specs.Table.{rank, value, shorter, index, buffersCount, short, extended, buffersAt, buffersTo, pairs, table}
 use Rattle.configuration.specs.Configuration.{heldEvents, controllableSymbol, placeStands, bufferStands, consistentIn, initialOf}
 use Rattle.releasing.specs.Step.{byTable, qualifies, qualifying, release, remaining, arrival, effect, eventRows}
 use Rattle.answers.specs.Answers.{callRows, isWinning, callRefusal, status, receiveRefusal, received}

@@ -1,5 +1,5 @@
 -- Laws of writing line after line.
-use Prim.Native.Nat.{ℕ, suc, _+_, _<_, _≤_}
+use Prim.Native.Nat.{ℕ, _+_, _<_, _≤_}
 use mathlib.Core.Path.{_≡_, refl, sym, _∙_, ap}
 use mathlib.Core.List.{List, [], _∷_, _++_, append-assoc, append-nil}
 use native.Mathlib.Omega.{arith}
@@ -7,7 +7,7 @@ use lib.ListN.{length, length-append}
 use Rattle.text.specs.Decimal.{Appended}
 use Rattle.text.proofs.Appending.{behind, kept}
 use Rattle.transcript.specs.Transcript.{Run}
-use Rattle.transcript.specs.Pieces.{Progress, Phase, at, toCome, inPhase, Continued, Line}
+use Rattle.transcript.specs.Pieces.{Progress, at, toCome, inPhase, Continued, Line}
 use Rattle.transcript.specs.declared.Phase.the-variants.{Ended, Running}
 
 module _ {t s : List ℕ} {before : Progress} (u : Run) where

@@ -1,17 +1,16 @@
 -- Laws of the events' lines.
 use Prim.Native.Nat.{ℕ, zero, suc, _+_, _-_, _<_, _≤_}
-use mathlib.Core.Path.{_≡_, refl, sym, _∙_, ap, ap₂}
-use mathlib.Core.Bool.{Bool, true, false, cond}
-use mathlib.Core.List.{List, [], _++_}
+use mathlib.Core.Path.{_≡_, refl, sym, _∙_, ap}
+use mathlib.Core.Bool.{true}
+use mathlib.Core.List.{List, _++_}
 use native.Mathlib.Omega.{arith}
 use lib.ListN.{length}
 use lib.Dec.{eqb, ltb}
 use borrow.Author.Tests.{lt-ltb, le-ltb, ltb-true, ltb-false, eq-eqb, ne-eqb, eqb-true, eqb-false}
 use Rattle.base.proofs.Bools.{by}
 use Rattle.varint.specs.declared.Number.{Number}
-use Rattle.varint.specs.Varint.{value, fault, groups, read}
+use Rattle.varint.specs.Varint.{value, read}
 use Rattle.varint.proofs.Trips.{read-after, read-inside}
-use Rattle.automaton.specs.declared.Automaton.{Automaton}
 use Rattle.automaton.specs.Automaton.{valid}
 use Rattle.sets.specs.Table.{Solved}
 use Rattle.answers.specs.declared.Received.{Received}

@@ -1,7 +1,6 @@
 -- Where reading a sheet ends: a fault stands within the bytes, and a record that was read comes with place 0.
-use Prim.Native.Nat.{ℕ, zero, suc, _+_, _-_, _*_, _<_, _≤_}
-use mathlib.Core.Path.{_≡_, refl, sym, _∙_, ap}
-use mathlib.Core.Bool.{Bool, true, false, cond}
+use Prim.Native.Nat.{ℕ, zero, suc, _+_, _-_, _*_, _≤_}
+use mathlib.Core.Path.{_≡_, refl}
 use mathlib.Core.List.{List, [], _∷_, _++_}
 use native.Mathlib.Omega.{arith}
 use lib.ListN.{length, getD}
@@ -10,7 +9,7 @@ use borrow.Author.Tests.{eqb-true, eqb-false}
 use Rattle.base.specs.Pad.{pad}
 use Rattle.base.proofs.Bools.{by}
 use Rattle.varint.specs.declared.Number.{Number}
-use Rattle.varint.specs.Varint.{fault, value, groups, read}
+use Rattle.varint.specs.Varint.{value, groups, read}
 use Rattle.automaton.specs.Automaton.{mostClass}
 use Rattle.encoding.specs.declared.Parsed.{Parsed}
 use Rattle.encoding.specs.Reading.{checked, between, classRow, Numbers, numbers, runs, parsed, refused, one, many, tables, automatonFrom, parse}

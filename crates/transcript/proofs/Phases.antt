@@ -1,7 +1,7 @@
 -- What is to come in each phase.
 use Prim.Native.Nat.{ℕ, suc, _+_, _<_, _≤_}
-use mathlib.Core.Path.{_≡_, refl, sym, _∙_, ap}
-use mathlib.Core.Bool.{Bool, true, false, cond}
+use mathlib.Core.Path.{_≡_, _∙_}
+use mathlib.Core.Bool.{true, false}
 use mathlib.Core.List.{List, [], _++_}
 use native.Mathlib.Omega.{arith}
 use lib.ListN.{length}
@@ -16,7 +16,7 @@ use Rattle.lines.specs.Lines.{refusedEventLine, endLine, faultLine, refusalLine
 use Rattle.status_lines.specs.StatusLines.{automatonLine, eventLine}
 use Rattle.transcript.specs.Transcript.{Run, firstLine, answerLine, after, eventLines, runLines}
 use Rattle.transcript.specs.Pieces.{belongs, at, toCome, inPhase}
-use Rattle.transcript.specs.declared.Phase.the-variants.{Ended, Refused, Faulted, Opening, Running}
+use Rattle.transcript.specs.declared.Phase.the-variants.{Opening, Running}
 use Rattle.transcript.proofs.Runs.{belongs-counts, belongs-after, after-counts}
 use Rattle.transcript.proofs.Events.{next-after, next-inside, step-fault, step-end, event-first}
 

@@ -1,13 +1,13 @@
 -- Laws of a run: which runs belong to an input, and the run after an event.
 use Prim.Native.Nat.{ℕ, _+_, _<_, _≤_}
-use mathlib.Core.Path.{_≡_, refl, sym, _∙_, ap}
-use mathlib.Core.Bool.{Bool, true, false, cond, _&&_}
+use mathlib.Core.Path.{_≡_, sym}
+use mathlib.Core.Bool.{Bool, true, false, cond}
 use native.Mathlib.Nat.{add-zero}
 use native.Mathlib.Omega.{arith}
 use lib.ListN.{take}
 use lib.Dec.{eqb, leb}
 use borrow.Author.Tests.{le-leb, lt-leb, leb-true, eq-eqb, ne-eqb}
-use Rattle.base.proofs.Bools.{and-left, and-right, and-both, and-left-false}
+use Rattle.base.proofs.Bools.{and-left, and-both, and-left-false}
 use Rattle.answers.specs.declared.Received.{Received}
 use Rattle.lines.specs.Lines.{refusedEventLine}
 use Rattle.status_lines.specs.StatusLines.{eventLine}
@@ -26,10 +26,6 @@ module _ (n : ℕ) (u : Run) where
   pub belongs-counts : belongs n u ≡ true → u .accepted + u .refused ≤ u .place
   unfolding belongs
   belongs-counts h = leb-true _ _ (and-left _ (leb (u .place) n) h)
-
-  pub belongs-place : belongs n u ≡ true → u .place ≤ n
-  unfolding belongs
-  belongs-place h = leb-true _ _ (and-right (leb (u .accepted + u .refused) (u .place)) _ h)
 
   pub belongs-of : u .accepted + u .refused ≤ u .place → u .place ≤ n → belongs n u ≡ true
   unfolding belongs

@@ -1,6 +1,6 @@
 use lib.Seq.{sets}
 use lib.ListN.{length, take, drop, length-set}
-use mathlib.Core.Path.{_≡_, refl, _∙_, ap}
+use mathlib.Core.Path.{_≡_, refl}
 use Prim.Native.Nat.{_≤_, _-_}
 use Rattle.base.proofs.Stores.{copy-more}
 use native.Mathlib.Omega.{arith}

@@ -1,7 +1,7 @@
 use Rattle.automaton.proofs.Whole.{shapes}
 use Prim.Native.Nat.{_≤_, _<_, _+_}
 use lib.ListN.{length}
-use mathlib.Core.Path.{_≡_, _∙_, sym, ap}
+use mathlib.Core.Path.{_∙_, sym}
 use Rattle.entering.proofs.Entries.{entered, entered-clear}
 use Rattle.batch.proofs.Days.{run-stands, run-lacks-room, run-goes}
 use native.Mathlib.Omega.{arith}

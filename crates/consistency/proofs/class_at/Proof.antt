@@ -1,5 +1,5 @@
-use lib.ListN.{getD, List·getD-eq-default}
-use mathlib.Core.Path.{_≡_, sym}
+use lib.ListN.{List·getD-eq-default}
+use mathlib.Core.Path.{sym}
 use native.Mathlib.Omega.{arith}
 use borrow.Author.Needs.{needs}
 use Rattle.consistency.proofs.class_at.Statement.{statement}

@@ -1,7 +1,6 @@
-use lib.Seq.{length-sets}
 use lib.ListN.{length}
 use Prim.Native.Nat.{_≤_, _+_, _*_}
-use mathlib.Core.Path.{_≡_, _∙_, ap}
+use mathlib.Core.Path.{_∙_}
 use Rattle.automaton.proofs.Facts.{valid-facts}
 use Rattle.encoding.proofs.Storing.{numbers-length, parts-join}
 use native.Mathlib.Omega.{arith}

@@ -2,7 +2,7 @@ use Prim.Native.Nat.{_*_}
 use Rattle.encoding.specs.Writing.{nextNumbers}
 use lib.Seq.{sets}
 use lib.ListN.{length}
-use mathlib.Core.Path.{_≡_, refl, _∙_, ap}
+use mathlib.Core.Path.{_≡_, refl, _∙_}
 use Prim.Native.Nat.{_≤_, _-_, _+_}
 use Rattle.encoding.proofs.Storing.{row-more, row-within, rows-small}
 use native.Mathlib.Omega.{arith}

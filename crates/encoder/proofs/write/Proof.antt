@@ -1,9 +1,8 @@
-use Prim.Native.Nat.{_≤_, _<_, _+_, _*_}
+use Prim.Native.Nat.{_≤_, _+_, _*_}
 use lib.ListN.{length}
 use Rattle.automaton.specs.Automaton.{valid}
 use borrow.Author.Tests.{not-true, not-false}
-use mathlib.Core.Bool.{true, false}
-use mathlib.Core.Path.{_≡_, _∙_, sym}
+use mathlib.Core.Path.{_∙_, sym}
 use Rattle.automaton.proofs.Facts.{valid-facts}
 use Rattle.encoding.proofs.Storing.{numbers-length, rows-small}
 use Rattle.encoding.proofs.Outcomes.{write-invalid, write-short, write-fits}

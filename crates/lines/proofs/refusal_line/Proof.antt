@@ -1,5 +1,5 @@
 use Rattle.text.proofs.Appending.{behind}
-use Rattle.text.proofs.Digits.{byte-length, word-length}
+use Rattle.text.proofs.Digits.{byte-length}
 use Rattle.lines.specs.Lines.{refusalLine}
 use Rattle.text.specs.Decimal.{ascii}
 use native.Mathlib.Omega.{arith}

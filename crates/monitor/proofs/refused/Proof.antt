@@ -1,7 +1,4 @@
 use mathlib.Core.Path.{refl}
-use Rattle.answers.specs.Answers.{refusedEvent}
-use native.Mathlib.Omega.{arith}
-use borrow.Author.Needs.{needs}
 use Rattle.monitor.proofs.refused.Statement.{statement}
 use Rattle.monitor.proofs.refused.Tie as tie
 

@@ -4,7 +4,7 @@ use Rattle.encoding.specs.Reading.{parse}
 use Rattle.transcript.proofs.Beginning.{begin-long, begin-unread, begin-fewer, begin-faulty, begin-opened, automaton-within, automaton-valid, length-inside}
 use lib.ListN.{length, take, drop}
 use mathlib.Core.Path.{_≡_, _∙_, ap}
-use Prim.Native.Nat.{ℕ, _+_, _-_, _≤_, _<_}
+use Prim.Native.Nat.{_+_, _-_, _≤_}
 use native.Mathlib.Omega.{arith}
 use borrow.Author.Needs.{needs}
 use Rattle.opening.proofs.begin.Statement.{statement}

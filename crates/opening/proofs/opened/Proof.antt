@@ -1,7 +1,6 @@
 use Rattle.transcript.proofs.Beginning.{open-refused, open-solved}
 use lib.ListN.{length}
 use mathlib.Core.Path.{_≡_, _∙_}
-use Prim.Native.Nat.{ℕ}
 use borrow.Author.Needs.{needs}
 use Rattle.opening.proofs.opened.Statement.{statement}
 use Rattle.opening.proofs.opened.Tie as tie

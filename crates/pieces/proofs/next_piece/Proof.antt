@@ -2,7 +2,6 @@ use Rattle.transcript.proofs.Continuing.{begins, kept-length, within, moves, ag
 use Rattle.transcript.specs.Pieces.{Continued}
 use lib.ListN.{length}
 use Prim.Native.Nat.{_-_}
-use borrow.Author.Needs.{needs}
 use native.Mathlib.Omega.{arith}
 use Rattle.pieces.proofs.next_piece.Statement.{statement}
 use Rattle.pieces.proofs.next_piece.Tie as tie

@@ -4,7 +4,7 @@ use Rattle.releasing.specs.Parts.{rankingOf}
 use Rattle.configuration.specs.Configuration.{heldEvents}
 use mathlib.Core.Path.{_≡_, _∙_, sym, ap}
 use lib.ListN.{length, take}
-use Prim.Native.Nat.{_≤_, _<_, _-_, _+_}
+use Prim.Native.Nat.{_<_, _-_}
 use native.Mathlib.Omega.{arith}
 use borrow.Author.Needs.{needs}
 use Rattle.processing.proofs.process.Statement.{statement}

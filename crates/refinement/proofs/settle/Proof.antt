@@ -3,7 +3,6 @@ use Rattle.refinement.specs.Parts.{leftOf, settledOn}
 use Rattle.refinement.proofs.Scanning.{left-le, left-lt}
 use Prim.Native.Nat.{_<_, _^_}
 use native.Mathlib.Omega.{arith}
-use borrow.Author.Needs.{needs}
 use Rattle.refinement.proofs.settle.Statement.{statement}
 use Rattle.refinement.proofs.settle.Tie as tie
 

@@ -1,9 +1,9 @@
 use native.Mathlib.Nat.{mul-le-mul}
 use mathlib.Core.Path.{_∙_, sym}
 use lib.Seq.{length-take-le, getD-take}
-use lib.ListN.{length, getD}
+use lib.ListN.{length}
 use mathlib.Core.Path.{_≡_}
-use Prim.Native.Nat.{_≤_, _-_, _+_, _*_}
+use Prim.Native.Nat.{_≤_, _-_, _*_}
 use lib.ListN.{take}
 use Rattle.releasing.proofs.Numbers.{Placing, placing-begins, placing-goes-on, placing-done, weight-bound, place-bound, grown-bound}
 use native.Mathlib.Omega.{arith}

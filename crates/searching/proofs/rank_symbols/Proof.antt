@@ -1,6 +1,6 @@
 use mathlib.Core.Logic.{⊎-elim}
-use mathlib.Core.Path.{_≡_, refl, _∙_, sym}
-use Prim.Native.Nat.{_≤_, _-_, _+_}
+use mathlib.Core.Path.{_≡_, refl, _∙_}
+use Prim.Native.Nat.{_≤_, _-_}
 use Rattle.base.specs.Each as each
 use Rattle.base.specs.Pad.{pad}
 use Rattle.automaton.proofs.Checks.{counted, passed}

@@ -1,11 +1,9 @@
 use Rattle.releasing.proofs.Searching.{lent-below, lent-rest, lent-step}
-use lib.Seq.{length-take-le, getD-take}
-use lib.ListN.{length, getD, take, drop}
-use mathlib.Core.Path.{_≡_, refl, _∙_, sym, ap}
+use lib.Seq.{length-take-le}
+use lib.ListN.{length, take}
+use mathlib.Core.Path.{_≡_, refl}
 use Prim.Native.Nat.{_≤_, _<_, _-_, _+_, _*_}
-use Rattle.automaton.specs.Automaton.{step}
-use Rattle.releasing.specs.Parts.{restIn, over, placeIn}
-use Rattle.releasing.proofs.Numbers.{place-at}
+use Rattle.releasing.specs.Parts.{restIn, over}
 use Rattle.releasing.proofs.Searching.{Searching, searching-begins, searching-finds, searching-passes, searching-done}
 use native.Mathlib.Omega.{arith}
 use borrow.Author.Needs.{needs}

@@ -2,7 +2,6 @@ use Rattle.status_lines.proofs.Joining.{event-joined}
 use Rattle.text.proofs.Appending.{behind, said}
 use Rattle.text.specs.Decimal.{ascii}
 use lib.ListN.{take}
-use native.Mathlib.Omega.{arith}
 use borrow.Author.Needs.{needs}
 use Rattle.status_lines.proofs.event_line.Statement.{statement}
 use Rattle.status_lines.proofs.event_line.Tie as tie

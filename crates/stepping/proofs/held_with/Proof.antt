@@ -1,4 +1,3 @@
-use native.Mathlib.Omega.{arith}
 use borrow.Author.Needs.{needs}
 use Rattle.stepping.proofs.held_with.Statement.{statement}
 use Rattle.stepping.proofs.held_with.Tie as tie

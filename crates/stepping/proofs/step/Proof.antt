@@ -1,8 +1,8 @@
 use Rattle.stepping.proofs.Steps.{many, rank-class, released-few, step-answers, step-writes, ready-space, ready-arrives, ready-lent}
-use Prim.Native.Nat.{_≤_, _<_, _+_}
-use mathlib.Core.Path.{_≡_, _∙_, ap}
+use Prim.Native.Nat.{_≤_, _+_}
+use mathlib.Core.Path.{_∙_, ap}
 use lib.Dec.{eqb}
-use lib.ListN.{length, getD, take}
+use lib.ListN.{length, getD}
 use native.Mathlib.Omega.{arith}
 use borrow.Author.Needs.{needs}
 use Rattle.stepping.proofs.step.Statement.{statement}

@@ -1,5 +1,5 @@
 use lib.ListN.{replicate}
-use mathlib.Core.Path.{_≡_, refl, _∙_}
+use mathlib.Core.Path.{_≡_, refl}
 use mathlib.Core.List.{_++_}
 use Prim.Native.Nat.{_≤_, _-_}
 use Rattle.automaton.proofs.Checks.{limits-more}

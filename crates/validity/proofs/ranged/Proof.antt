@@ -1,7 +1,6 @@
 use borrow.Author.Tests.{le-leb, lt-leb}
 use Rattle.automaton.specs.Automaton.{ranged}
 use native.Mathlib.Omega.{arith}
-use borrow.Author.Needs.{needs}
 use Rattle.validity.proofs.ranged.Statement.{statement}
 use Rattle.validity.proofs.ranged.Tie as tie
 
