@@ -6,7 +6,7 @@ begin with # are printed alone.
 LIBRARY is the shared object made from the archive. One record, one table and one carried state are kept from line to line. A line is a
 word and numbers; spaces and commas part them.
 
-    sheet BYTES             reads a sheet:      = refusal, place, n, m, B, start
+    sheet BYTES             reads a sheet:      = refusal, place, n, m, B, start, the sum of all bytes of the record
     overwrite PLACE VALUE   changes one byte of the record
     write ROOM              writes the sheet into ROOM bytes that were 9:   = refusal, length, those bytes
     count                   = refusal, T
@@ -26,7 +26,7 @@ import pathlib
 import re
 import sys
 
-sys.path.insert(0, str(pathlib.Path(__file__).parent.parent / "examples"))
+sys.path.insert(0, str(pathlib.Path(__file__).resolve().parent.parent / "examples"))
 from day import AUTOMATON_SIZE, CONFIGURATION_SIZE, NUMBER_SIZE, RAN_SIZE, RECEIVED_SIZE, STATUS_SIZE, VERDICT_SIZE
 from day import lent, library_at, number_at, numbers
 
@@ -54,7 +54,7 @@ class Cases:
     def sheet(self, *data):
         place = answer(NUMBER_SIZE)
         row = self.library.jaxhophasi_read(filled(data), len(data), self.automaton, place)
-        return [row, number_at(place)] + self.automaton[:4]
+        return [row, number_at(place)] + self.automaton[:4] + [sum(self.automaton)]
 
     def overwrite(self, place, value):
         self.automaton[place] = value

@@ -5,7 +5,7 @@ use mathlib.Core.List.{List, []}
 use lib.ListN.{length}
 use lib.Dec.{ltb}
 use Rattle.text.specs.Decimal.{ascii}
-use Rattle.lines.specs.Lines.{faultLine, refusalLine}
+use Rattle.lines.specs.Lines.{faultLine, refusalLine, inputMost}
 use Rattle.notation.specs.Outcomes.{numbers, faulty}
 use Rattle.notation.specs.Packing.{Reading, reading, encoded, refused}
 use Rattle.listing.specs.Unpacking.{Decoded, decoded, lineOf}
@@ -31,17 +31,13 @@ faultNote s (faulty x) = message s (refused (x .0) (x .1))
 unfoldable pub packNote : List ℕ → List ℕ
 packNote s = cond (ltb mostText (length s)) (ascii "more than 262144 bytes of text\n") (faultNote s (reading s))
 
--- the program `unpack`: at most so many bytes, as the day program takes (row 18)
-abbrev pub mostBytes : ℕ
-mostBytes = 60000
-
--- the numbers in decimal
+-- the program `unpack`: the numbers in decimal
 unfoldable pub lineText : Decoded → List ℕ
 lineText (numbers vs) = lineOf vs
 lineText (faulty x) = []
 
 unfoldable pub unpackOutput : List ℕ → List ℕ
-unpackOutput s = cond (ltb mostBytes (length s)) [] (lineText (decoded s))
+unpackOutput s = cond (ltb inputMost (length s)) [] (lineText (decoded s))
 
 -- the first fault, as the day program prints one
 unfoldable pub rowNote : Decoded → List ℕ
@@ -49,4 +45,4 @@ rowNote (numbers vs) = []
 rowNote (faulty x) = faultLine (x .0) (x .1)
 
 unfoldable pub unpackNote : List ℕ → List ℕ
-unpackNote s = cond (ltb mostBytes (length s)) (refusalLine 18) (rowNote (decoded s))
+unpackNote s = cond (ltb inputMost (length s)) (refusalLine 18) (rowNote (decoded s))

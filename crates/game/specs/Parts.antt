@@ -5,12 +5,11 @@ use mathlib.Core.Path.{_≡_}
 use mathlib.Core.List.{List}
 use lib.ListN.{length, getD, take, drop}
 use Rattle.automaton.specs.declared.Automaton.{Automaton}
-use Rattle.automaton.specs.Automaton.{step}
+use Rattle.automaton.specs.Automaton.{step, assembled}
 
 -- an automaton as far as the game reads it: of its capacity and initial state it reads nothing
 abbrev pub arena : ℕ → ℕ → List ℕ → List ℕ → List ℕ → Automaton
-arena states symbols classes accepting next =
-    record { states = states; symbols = symbols; capacity = 0; initial = 0; classes = classes; accepting = accepting; next = next }
+arena states symbols classes accepting next = assembled states symbols 0 0 classes accepting next
 
 -- the held events from a place on
 abbrev pub heldFrom : List ℕ → ℕ → ℕ → List ℕ

@@ -21,3 +21,7 @@ refusalLine row = ascii "refused " ++ (decimal row ++ ascii "\n")
 -- The room that a line can take, whatever its numbers: a number below 2 ^ 64 has 20 digits at most, a byte 3.
 abbrev pub lineRoom : ℕ
 lineRoom = 96
+
+-- row 18: the most bytes that a program takes as its input
+abbrev pub inputMost : ℕ
+inputMost = 60000

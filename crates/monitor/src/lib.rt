@@ -80,6 +80,7 @@ pub fn receive(a: Automaton, table: &[u32], c: Configuration, event: u32) -> Rec
     }
     let ranking = entry.ranking;
     let held = size(c.held);
+    // `process` passes over a refused event without a word, so the row is asked here.
     let row = event_row(&ranking.ranks, a.symbols, size(a.capacity), held, event);
     if row != 0 {
         return refused(row, c);

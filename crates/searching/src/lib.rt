@@ -11,6 +11,7 @@ ghost use Rattle.base.specs.Pad.{pad};
 ghost use Rattle.base.specs.Masks.{has};
 ghost use Rattle.releasing.specs.Parts.{rankingOf, placeIn, placesOf, restIn, over, front, Lent};
 
+// How many of the first m symbols are controllable, and the rank of each.
 pub fn rank_symbols(classes: &[u8; 16], m: usize) -> Ranking
     requires { ⌜ m ≤ 16 ⌝ }
     ensures { λ r. ⌜ r ≡ rankingOf (now (classes .entry)) m ⌝ }
@@ -74,6 +75,8 @@ pub fn rests<'a>(
     in_set(table, left[0], q)
 }
 
+// The longest front part of the buffer that leads to where the monitor may rest with what is left; k is the number of controllable symbols.
+// (The empty front part is not asked about: nothing is released by it either.)
 pub fn release<'a>(
     next: &'a [u8; 512],
     ranks: &'a [u8; 16],

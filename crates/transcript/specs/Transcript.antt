@@ -12,7 +12,7 @@ use Rattle.sets.specs.Table.{buffersCount, table}
 use Rattle.configuration.specs.Configuration.{initialOf}
 use Rattle.answers.specs.declared.Received.{Received}
 use Rattle.answers.specs.Answers.{status, received}
-use Rattle.lines.specs.Lines.{refusedEventLine, endLine, faultLine, refusalLine}
+use Rattle.lines.specs.Lines.{refusedEventLine, endLine, faultLine, refusalLine, inputMost}
 use Rattle.status_lines.specs.StatusLines.{automatonLine, eventLine}
 pub use Rattle.transcript.specs.declared.Run.{Run}
 
@@ -80,7 +80,7 @@ runLines t s u = firstLine t u ++ eventLines (suc (length s)) t s u
 
 -- row 18
 unfoldable pub tooLong : List ℕ → Bool
-tooLong s = ltb 60000 (length s)
+tooLong s = ltb inputMost (length s)
 
 -- row 12: 2T is over the number of places that the program has
 unfoldable pub overPlaces : Automaton → Bool
