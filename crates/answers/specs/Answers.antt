@@ -11,15 +11,22 @@ use Rattle.automaton.specs.declared.Automaton.{Automaton}
 use Rattle.automaton.specs.Automaton.{valid}
 use Rattle.sets.specs.Table.{short}
 use Rattle.configuration.specs.declared.Configuration.{Configuration}
-use Rattle.configuration.specs.Configuration.{configuration, heldEvents, consistent}
-use Rattle.releasing.specs.Step.{byTable, effect, eventRows, runOf}
+use Rattle.configuration.specs.Configuration.{positionOf, configuration, heldEvents, consistent}
+use Rattle.releasing.specs.Step.{byTable, effectFrom, advance, eventRows, runOf}
 pub use Rattle.answers.specs.declared.Status.{Status}
 pub use Rattle.answers.specs.declared.Received.{Received}
 pub use Rattle.answers.specs.declared.Ran.{Ran}
 
+-- the rows of a record and a table, and those of a configuration
+unfoldable pub tableRows : Automaton → List ℕ → List (ℕ × Bool)
+tableRows a t = (11, not (valid a)) ∷ (12, short a t) ∷ []
+
+unfoldable pub configurationRows : Automaton → Configuration → List (ℕ × Bool)
+configurationRows a c = (13, not (consistent a c)) ∷ []
+
 -- the rows that every call on a record, a table and a configuration checks first
 unfoldable pub callRows : Automaton → List ℕ → Configuration → List (ℕ × Bool)
-callRows a t c = (11, not (valid a)) ∷ (12, short a t) ∷ (13, not (consistent a c)) ∷ []
+callRows a t c = tableRows a t ++ configurationRows a c
 
 -- the monitor may rest where it is: a winning configuration (document 01's guarded)
 unfoldable pub isWinning : Automaton → List ℕ → Configuration → Bool
@@ -36,7 +43,7 @@ status a t c =
 
 -- one event
 unfoldable pub receiveRefusal : Automaton → List ℕ → Configuration → ℕ → ℕ
-receiveRefusal a t c e = first (callRows a t c ++ eventRows a (heldEvents c) e)
+receiveRefusal a t c e = first (callRows a t c ++ eventRows (byTable a t) a (positionOf c) e)
 
 -- a refused event
 abbrev pub refusedEvent : ℕ → Configuration → Received
@@ -44,14 +51,15 @@ refusedEvent row c = record { refusal = row; configuration = c; emitted = replic
 
 unfoldable pub received : Automaton → List ℕ → Configuration → ℕ → Received
 received a t c e =
-    let f = effect (byTable a t) a (c .state) (heldEvents c) e in
+    let emitted = effectFrom (byTable a t) a (positionOf c) e .emitted in
+    let next = advance (byTable a t) a (positionOf c) e in
     cond (eqb (receiveRefusal a t c e) 0)
     (record {
       refusal = 0;
-      configuration = configuration (f .state) (f .buffer);
-      emitted = pad 7 (f .emitted);
-      count = length (f .emitted);
-      winning = byTable a t (f .buffer) (f .state);
+      configuration = configuration next;
+      emitted = pad 7 emitted;
+      count = length emitted;
+      winning = byTable a t (next .buffer) (next .state);
     })
     (refusedEvent (receiveRefusal a t c e) c)
 
@@ -70,12 +78,12 @@ runRefusal a t c events out = first (callRows a t c ++ (16, tooShort (length out
 -- one that is not refused, and the lent output after it
 abbrev pub ranOf : Automaton → List ℕ → Configuration → List ℕ → Ran
 ranOf a t c events =
-    let r = runOf (byTable a t) a (c .state) (heldEvents c) events in
-    record { refusal = 0; configuration = configuration (r .state) (r .buffer); length = length (r .emitted); refused = r .refused }
+    let r = runOf (byTable a t) a (positionOf c) events in
+    record { refusal = 0; configuration = configuration (r .last); length = length (r .emitted); refused = r .refused }
 
 abbrev pub ranBufferOf : Automaton → List ℕ → Configuration → List ℕ → List ℕ → List ℕ
 ranBufferOf a t c events out =
-    let r = runOf (byTable a t) a (c .state) (heldEvents c) events in
+    let r = runOf (byTable a t) a (positionOf c) events in
     r .emitted ++ drop (length (r .emitted)) out
 
 -- one that is refused

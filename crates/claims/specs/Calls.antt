@@ -11,9 +11,9 @@ use Rattle.configuration.specs.declared.Configuration.{Configuration}
 use Rattle.configuration.specs.Configuration.{configuration}
 use Rattle.answers.specs.declared.Received.{Received}
 use Rattle.answers.specs.declared.Ran.{Ran}
-use Rattle.releasing.specs.Step.{bySets, eventRefusal}
+use Rattle.releasing.specs.Step.{bySets}
 use Rattle.answers.specs.Answers.{received, ran, ranBuffer}
-use Rattle.claims.specs.Store.{Store, stateOf, store, storeAll, Feed, event, events, lacksRoom, feed, refusedOf}
+use Rattle.claims.specs.Store.{Store, stateOf, positionAt, refusalAt, store, storeAll, Feed, event, events, lacksRoom, feed, refusedOf}
 
 -- one event, or many at once (document 01's whole day): the events and the output lent to it, of any length and contents
 pub data Call : Type 0 where
@@ -60,7 +60,7 @@ fedBy (many es out) = events es (length out)
 
 -- the configuration that it stands for
 unfoldable pub configurationAt : Automaton → Store → Configuration
-configurationAt a s = configuration (stateOf a s) (s .buffer)
+configurationAt a s = configuration (positionAt a s)
 
 -- what it has put out since it was s
 unfoldable pub since : Store → Store → List ℕ
@@ -71,7 +71,7 @@ since s z = drop (length (s .output)) (z .output)
 unfoldable pub expected : Automaton → Store → Call → Reply
 expected a s (one e) =
     let z = store a s e in
-    let n = eventRefusal a (s .buffer) e in
+    let n = refusalAt a s e in
     receive (record {
       refusal = n;
       configuration = configurationAt a z;

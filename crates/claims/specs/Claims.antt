@@ -14,9 +14,9 @@ use Rattle.winning.specs.Solving.{solveRefusal, solvedTable}
 use Rattle.configuration.specs.Configuration.{consistent, initialOf}
 use Rattle.releasing.specs.Step.{byTable, Effect, release, arrival}
 use Rattle.answers.specs.Answers.{isWinning}
-use Rattle.claims.specs.Store.{empty, storeAll, feedAll, acceptedAll}
+use Rattle.claims.specs.Store.{empty, positionAt, storeAll, feedAll, acceptedAll}
 use Rattle.claims.specs.Calls.{Call, replies, configurationAfter, emittedAll, fedBy, configurationAt, expectedAll}
-use Rattle.claims.specs.Moments.{Moment, effectAt, emittedAt, moments}
+use Rattle.claims.specs.Moments.{Moment, effectAt, positionAfter, emittedAt, moments}
 use Rattle.claims.specs.Rival.{Strategy, Lost, lostBound}
 
 -- The replies to any list of calls over a solved table: every call's whole reply is the published function's; all that was emitted,
@@ -42,7 +42,7 @@ AcceptedAlone =
 
 -- winning after an accepted event, by the table's bits
 unfoldable pub winningAfter : Automaton → List ℕ → Moment → Bool
-winningAfter a t m = byTable a t (effectAt a t m .buffer) (effectAt a t m .state)
+winningAfter a t m = byTable a t (positionAfter a t m .buffer) (positionAfter a t m .state)
 
 -- all that was emitted, up to and with an accepted event
 unfoldable pub outputAfter : Automaton → List ℕ → Moment → List ℕ
@@ -50,14 +50,15 @@ outputAfter a t m = m .output ++ effectAt a t m .emitted
 
 -- The accepted events of the calls, one by one, are those that the function accepts; what they emit, end to end, is all that is
 -- emitted; each of them has the events and the output of those before it; the state that it meets is where that output leads; and
--- fed the events before it, the function has the output and buffer that it meets.
+-- fed the events before it, the function has the output and the position that it meets.
 pub record Accounted (a : Automaton) (t : List ℕ) (calls : List Call) : Type 0 where
   pub events : acceptedEvents a t calls ≡ acceptedAll a empty (map fedBy calls)
   pub emitted : emittedAt a t (moments a t (initialOf a) calls) ≡ emittedAll (replies a t (initialOf a) calls)
   pub history : (before : List Moment) (m : Moment) (after : List Moment) → moments a t (initialOf a) calls ≡ before ++ m ∷ after
       → (m .past ≡ map (λ (x : Moment). x .event) before) × (m .output ≡ emittedAt a t before)
-  pub leads : AllOf (λ m. run a (a .initial) (m .output) ≡ m .state) (moments a t (initialOf a) calls)
-  pub fed : AllOf (λ m. storeAll a empty (m .past) ≡ record { output = m .output; buffer = m .buffer }) (moments a t (initialOf a) calls)
+  pub leads : AllOf (λ m. run a (a .initial) (m .output) ≡ m .position .state) (moments a t (initialOf a) calls)
+  pub fed : AllOf (λ m. (storeAll a empty (m .past) .output ≡ m .output) × (positionAt a (storeAll a empty (m .past)) ≡ m .position))
+      (moments a t (initialOf a) calls)
 
 abbrev pub MomentsAccounted : Type 0
 MomentsAccounted = (a : Automaton) (t : List ℕ) → valid a ≡ true → Solved a t → (calls : List Call) → Accounted a t calls
@@ -77,11 +78,13 @@ WinningStays = (a : Automaton) (t : List ℕ) → valid a ≡ true → Solved a 
 
 -- an accepted event before the release
 unfoldable pub arrivalAt : Automaton → Moment → Effect
-arrivalAt a m = arrival a (m .state) (m .buffer) (m .event)
+arrivalAt a m = arrival a (m .position .state) (m .position .buffer) (m .event)
 
 -- the front part of the buffer that a strategy emits then, and the one that we emit
 unfoldable pub rivalRelease : Automaton → Strategy → Moment → List ℕ
-rivalRelease a rule m = take (rule (m .past ++ m .event ∷ []) (m .output ++ arrivalAt a m .emitted)) (arrivalAt a m .buffer)
+rivalRelease a rule m =
+    let x = arrivalAt a m in
+    take (rule (m .past ++ m .event ∷ []) (m .output ++ x .emitted) (x .buffer)) (x .buffer)
 
 unfoldable pub ourRelease : Automaton → List ℕ → Moment → List ℕ
 ourRelease a t m =
@@ -98,18 +101,19 @@ rivalBuffer a rule m = drop (length (rivalRelease a rule m)) (arrivalAt a m .buf
 abbrev pub LongerLoses : Automaton → List ℕ → Moment → Type 0
 LongerLoses a t m =
     (rule : Strategy) → length (ourRelease a t m) < length (rivalRelease a rule m)
-    → Lost a rule (m .past ++ m .event ∷ []) (rivalOutput a rule m) (rivalBuffer a rule m) (lostBound a (rivalBuffer a rule m))
+    → Lost a (a .initial) rule (m .past ++ m .event ∷ []) (rivalOutput a rule m) (rivalBuffer a rule m) (lostBound a (rivalBuffer a rule m))
 
 -- The rival: at every accepted event, also inside a day, whether we are winning or not.
 abbrev pub RivalsLose : Type 0
 RivalsLose =
     (a : Automaton) (t : List ℕ) → valid a ≡ true → Solved a t → (calls : List Call) → AllOf (LongerLoses a t) (moments a t (initialOf a) calls)
 
--- Whoever rests with a buffer in a state outside its S is lost within the bound, whatever its rule and its past.
+-- Whoever rests with a buffer in a state outside its S is lost within the bound, whatever its rule and its past, and from whatever
+-- state its output began.
 abbrev pub DrivenOut : Type 0
 DrivenOut =
     (a : Automaton) → valid a ≡ true → (w : List ℕ) (q : ℕ) → q < a .states → has (sets a w .winning) q ≡ false
-    → (rule : Strategy) (events output : List ℕ) → run a (a .initial) output ≡ q → Lost a rule events output w (lostBound a w)
+    → (start : ℕ) (rule : Strategy) (events output : List ℕ) → run a start output ≡ q → Lost a start rule events output w (lostBound a w)
 
 -- Demand 3 as one statement: for any list of calls over a solved table, all of the above; and all that was emitted and the
 -- configuration handed back are the published function's, worked out afresh from the accepted events alone.

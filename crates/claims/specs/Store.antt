@@ -7,6 +7,7 @@ use lib.ListN.{length, take, drop}
 use lib.Dec.{eqb}
 use Rattle.automaton.specs.declared.Automaton.{Automaton}
 use Rattle.automaton.specs.Automaton.{controllable, run}
+use Rattle.configuration.specs.Configuration.{Position}
 use Rattle.releasing.specs.Step.{bySets, release, remaining, eventRefusal}
 use Rattle.answers.specs.Answers.{tooShort}
 
@@ -22,6 +23,10 @@ empty = record { output = []; buffer = [] }
 unfoldable pub stateOf : Automaton → Store → ℕ
 stateOf a s = run a (a .initial) (s .output)
 
+-- its position
+abbrev pub positionAt : Automaton → Store → Position
+positionAt a s = record { state = stateOf a s; buffer = s .buffer }
+
 -- an accepted event goes to the output's end, or to the buffer's
 unfoldable pub added : Automaton → Store → ℕ → Store
 added a s e =
@@ -35,9 +40,13 @@ moved a s =
     let k = release (bySets a) a (stateOf a s) (s .buffer) in
     record { output = s .output ++ take k (s .buffer); buffer = drop k (s .buffer) }
 
--- an event that a row refuses by this buffer changes nothing
+-- the row that refuses an event, by this buffer and the sets
+abbrev pub refusalAt : Automaton → Store → ℕ → ℕ
+refusalAt a s e = eventRefusal (bySets a) a (positionAt a s) e
+
+-- an event that a row refuses changes nothing
 unfoldable pub store : Automaton → Store → ℕ → Store
-store a s e = cond (eqb (eventRefusal a (s .buffer) e) 0) (moved a (added a s e)) s
+store a s e = cond (eqb (refusalAt a s e) 0) (moved a (added a s e)) s
 
 unfoldable pub storeAll : Automaton → Store → List ℕ → Store
 storeAll a s [] = s
@@ -63,12 +72,12 @@ feedAll a s (x ∷ xs) = feedAll a (feed a s x) xs
 -- how many of a day's events it refuses
 unfoldable pub refusedOf : Automaton → Store → List ℕ → ℕ
 refusedOf a s [] = 0
-refusedOf a s (e ∷ es) = cond (eqb (eventRefusal a (s .buffer) e) 0) 0 1 + refusedOf a (store a s e) es
+refusedOf a s (e ∷ es) = cond (eqb (refusalAt a s e) 0) 0 1 + refusedOf a (store a s e) es
 
 -- the events that it accepts, of a day and of what calls feed it
 unfoldable pub acceptedOf : Automaton → Store → List ℕ → List ℕ
 acceptedOf a s [] = []
-acceptedOf a s (e ∷ es) = cond (eqb (eventRefusal a (s .buffer) e) 0) (e ∷ []) [] ++ acceptedOf a (store a s e) es
+acceptedOf a s (e ∷ es) = cond (eqb (refusalAt a s e) 0) (e ∷ []) [] ++ acceptedOf a (store a s e) es
 
 unfoldable pub acceptedBy : Automaton → Store → Feed → List ℕ
 acceptedBy a s (event e) = acceptedOf a s (e ∷ [])

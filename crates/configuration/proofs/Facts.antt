@@ -17,7 +17,7 @@ use Rattle.automaton.specs.declared.Automaton.{Automaton}
 use Rattle.automaton.specs.Automaton.{controllable}
 use Rattle.automaton.proofs.Facts.{Valid}
 use Rattle.sets.specs.Table.{Controllable, Buffer}
-use Rattle.configuration.specs.Configuration.{Configuration, heldEvents, configuration, controllableSymbol, placeStands, bufferStands, consistentIn, consistent}
+use Rattle.configuration.specs.Configuration.{Configuration, Position, heldEvents, positionOf, configuration, controllableSymbol, placeStands, bufferStands, consistentIn, consistent}
 
 -- a controllable symbol
 abbrev pub ControllableSymbol : Automaton → ℕ → Type 0
@@ -30,7 +30,7 @@ pub record Consistent (a : Automaton) (c : Configuration) : Type 0 where
   pub buffer-length : length (c .buffer) ≡ 6
   pub held-length : length (heldEvents c) ≡ c .held
   pub events : Controllable a (heldEvents c)
-  pub whole : c ≡ configuration (c .state) (heldEvents c)
+  pub whole : c ≡ configuration (positionOf c)
 
 module _ (a : Automaton) where
   -- a list of controllable symbols, by its places
@@ -113,10 +113,16 @@ module _ (a : Automaton) (c : Configuration) where
   pub held-buffer : Consistent a c → Buffer a (heldEvents c)
   held-buffer k = (k .events, omega (arith, k .held-length, k .held-high))
 
--- a configuration that is made of a state and a buffer
-pub configuration-consistent : (a : Automaton) → Valid a → (q : ℕ) (w : List ℕ) → q < a .states → Buffer a w → Consistent a (configuration q w)
+-- the position comes back from the configuration that is made of it
+pub position-made : (p : Position) → positionOf (configuration p) ≡ p
 unfolding heldEvents
-configuration-consistent a v q w l b =
+position-made p = λ i. record { state = p .state; buffer = take-pad 6 (p .buffer) i }
+
+-- a configuration that is made of a position
+pub configuration-consistent : (a : Automaton) → Valid a → (p : Position) → p .state < a .states → Buffer a (p .buffer) → Consistent a (configuration p)
+unfolding heldEvents
+configuration-consistent a v p l b =
+    let w = p .buffer in
     let e : take (length w) (pad 6 w) ≡ w = take-pad 6 w in
     let short : length w ≤ 6 = omega (arith, v .capacity-high, b .1) in
     record {
@@ -126,5 +132,5 @@ configuration-consistent a v q w l b =
       buffer-length = pad-length 6 w short;
       held-length = ap length e;
       events = rw e (b .0);
-      whole = ap (configuration q) (sym e);
+      whole = ap configuration (sym (position-made p));
     }

@@ -16,9 +16,21 @@ pub use Rattle.configuration.specs.declared.Start.{Start}
 unfoldable pub heldEvents : Configuration → List ℕ
 heldEvents c = take (c .held) (c .buffer)
 
--- the configuration with a state and held events
-abbrev pub configuration : ℕ → List ℕ → Configuration
-configuration q w = record { state = q; held = length w; buffer = pad 6 w }
+-- a position: what a configuration says, the state and the held events, first in first
+pub record Position : Type 0 where
+  pub state : ℕ
+  pub buffer : List ℕ
+
+abbrev pub positionOf : Configuration → Position
+positionOf c = record { state = c .state; buffer = heldEvents c }
+
+-- a state with nothing held
+abbrev pub begun : ℕ → Position
+begun q = record { state = q; buffer = [] }
+
+-- the configuration that says so
+abbrev pub configuration : Position → Configuration
+configuration p = record { state = p .state; held = length (p .buffer); buffer = pad 6 (p .buffer) }
 
 -- e is a controllable symbol
 unfoldable pub controllableSymbol : ℕ → List ℕ → ℕ → Bool
@@ -45,11 +57,11 @@ consistent a = consistentIn (a .states) (a .symbols) (a .capacity) (a .classes)
 
 -- the initial configuration (document 01's fresh): the automaton's initial state and nothing held
 unfoldable pub initialOf : Automaton → Configuration
-initialOf a = configuration (a .initial) []
+initialOf a = configuration (begun (a .initial))
 
 -- asked of a record: row 11, with zeros
 unfoldable pub initialAnswer : Automaton → Start
 initialAnswer a =
     cond (valid a)
     (record { refusal = 0; configuration = initialOf a })
-    (record { refusal = 11; configuration = configuration 0 [] })
+    (record { refusal = 11; configuration = configuration (begun 0) })

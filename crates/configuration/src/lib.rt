@@ -1,8 +1,7 @@
 // The configuration of a monitor: its state and the events that it holds back. (The crate `consistency` checks row 13.)
 use automaton::Automaton;
 ghost use mathlib.Core.Path.{_≡_};
-ghost use mathlib.Core.List.{[]};
-ghost use Rattle.configuration.specs.Configuration.{configuration, initialAnswer};
+ghost use Rattle.configuration.specs.Configuration.{begun, configuration, initialAnswer};
 
 // Document 01's carried state: a state, how many events are held, and those events in order; unused places are 0.
 pub struct Configuration {
@@ -18,8 +17,8 @@ pub struct Start {
 }
 
 // A state with nothing held.
-fn empty(state: u8) -> Configuration
-    ensures { λ r. ⌜ r ≡ configuration state [] ⌝ }
+pub fn empty(state: u8) -> Configuration
+    ensures { λ r. ⌜ r ≡ configuration (begun state) ⌝ }
 {
     Configuration {
         state,

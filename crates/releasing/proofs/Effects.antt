@@ -17,7 +17,8 @@ use Rattle.automaton.proofs.Running.{run-append}
 use Rattle.sets.specs.Table.{Buffer}
 use Rattle.sets.proofs.Total.{Total, run-below}
 use Rattle.sets.proofs.Buffers.{buffer-drop, buffer-end}
-use Rattle.releasing.specs.Step.{Rest, release, Effect, remaining, arrival, effect, eventRows, eventRefusal}
+use Rattle.configuration.specs.Configuration.{Position, begun}
+use Rattle.releasing.specs.Step.{Rest, release, Effect, remaining, arrival, effect, effectFrom, advance, eventRows, eventRefusal}
 use Rattle.releasing.proofs.Longest.{release-le, release-same}
 
 -- a state and a buffer that can occur
@@ -25,7 +26,11 @@ pub record Occurs (a : Automaton) (q : ℕ) (w : List ℕ) : Type 0 where
   pub state-below : q < a .states
   pub buffer : Buffer a w
 
-pub initial-occurs : (a : Automaton) → valid a ≡ true → Occurs a (a .initial) []
+-- .. as a position
+abbrev pub OccursAt : Automaton → Position → Type 0
+OccursAt a p = Occurs a (p .state) (p .buffer)
+
+pub initial-occurs : (a : Automaton) → valid a ≡ true → OccursAt a (begun (a .initial))
 initial-occurs a v = record { state-below = valid-facts a v .initial-below; buffer = (tt, omega arith) }
 
 -- two rest tests that answer alike wherever they may be asked
@@ -33,16 +38,26 @@ abbrev pub Agree : Automaton → Rest → Rest → Type 0
 Agree a rest other = (w : List ℕ) (q : ℕ) → Occurs a q w → rest w q ≡ other w q
 
 -- an accepted event: a symbol, and room for it where it is controllable
-pub accepted-facts : (a : Automaton) (w : List ℕ) (e : ℕ) → eventRefusal a w e ≡ 0 → (e < a .symbols) × (controllable a e ≡ true → length w < a .capacity)
+pub record Accepts (a : Automaton) (w : List ℕ) (e : ℕ) : Type 0 where
+  pub symbol : e < a .symbols
+  pub space : controllable a e ≡ true → length w < a .capacity
+
+pub accepted-facts : (rest : Rest) (a : Automaton) (p : Position) (e : ℕ) → eventRefusal rest a p e ≡ 0 → Accepts a (p .buffer) e
 unfolding eventRefusal eventRows first
-accepted-facts a w e h = (
-  by (ltb e (a .symbols)) (ltb-true e (a .symbols)) (λ u. absurd (let z = rw u at h in omega arith)),
-  λ c. by (leb (a .capacity) (length w))
+accepted-facts rest a p e h = record {
+  symbol = by (ltb e (a .symbols)) (ltb-true e (a .symbols)) (λ u. absurd (let z = rw u at h in omega arith));
+  space = λ c. by (leb (a .capacity) (length (p .buffer)))
       (λ u. by (ltb e (a .symbols))
       (λ s. absurd (let z = rw (s, c, u) at h in omega arith))
       (λ s. absurd (let z = rw s at h in omega arith)))
-      (leb-false (a .capacity) (length w)),
-)
+      (leb-false (a .capacity) (length (p .buffer)));
+}
+
+-- two rest tests that agree refuse alike
+pub refusal-same : (rest other : Rest) (a : Automaton) (p : Position) (e : ℕ) → Agree a rest other → Total a → OccursAt a p
+    → eventRefusal rest a p e ≡ eventRefusal other a p e
+unfolding eventRefusal eventRows
+refusal-same rest other a p e agree t o = refl
 
 -- the buffer after an uncontrollable event
 remaining-buffer : (a : Automaton) (e : ℕ) (w : List ℕ) → Buffer a w → Buffer a (remaining a e w)
@@ -55,12 +70,11 @@ remaining-length a e w = refl
 
 -- before the release
 module _ (a : Automaton) (q : ℕ) (w : List ℕ) (e : ℕ) where
-  pub arrival-occurs : Total a → Occurs a q w → eventRefusal a w e ≡ 0 → Occurs a (arrival a q w e .state) (arrival a q w e .buffer)
+  pub arrival-occurs : Total a → Occurs a q w → Accepts a w e → Occurs a (arrival a q w e .state) (arrival a q w e .buffer)
   unfolding arrival
-  arrival-occurs t o h =
-      let f = accepted-facts a w e h in
+  arrival-occurs t o f =
       by (controllable a e)
-      (λ c. rw c (record { state-below = o .state-below; buffer = buffer-end a w e (o .buffer) (f .0) c (f .1 c) }))
+      (λ c. rw c (record { state-below = o .state-below; buffer = buffer-end a w e (o .buffer) (f .symbol) c (f .space c) }))
       (λ c. rw c (record { state-below = t q e; buffer = remaining-buffer a e w (o .buffer) }))
 
   -- what is emitted leads from the state before to the one after
@@ -88,7 +102,7 @@ module _ (rest : Rest) (a : Automaton) (q : ℕ) (w : List ℕ) (e : ℕ) where
   abbrev k : ℕ
   k = release rest a (x .state) (x .buffer)
 
-  pub effect-occurs : Total a → Occurs a q w → eventRefusal a w e ≡ 0 → Occurs a (effect rest a q w e .state) (effect rest a q w e .buffer)
+  pub effect-occurs : Total a → Occurs a q w → Accepts a w e → Occurs a (effect rest a q w e .state) (effect rest a q w e .buffer)
   unfolding effect
   effect-occurs t o h = released-occurs a t (x .state) (x .buffer) (arrival-occurs a q w e t o h) k
 
@@ -103,8 +117,17 @@ module _ (rest : Rest) (a : Automaton) (q : ℕ) (w : List ℕ) (e : ℕ) where
       omega (arith, length-append (x .emitted) (take k (x .buffer)), length-take-le k (x .buffer) few, length-drop k (x .buffer), arrival-length a q w e)
 
   -- the rest test is asked only where it may be
-  pub effect-same : (other : Rest) → Agree a rest other → Total a → Occurs a q w → eventRefusal a w e ≡ 0 → effect rest a q w e ≡ effect other a q w e
+  pub effect-same : (other : Rest) → Agree a rest other → Total a → Occurs a q w → Accepts a w e → effect rest a q w e ≡ effect other a q w e
   unfolding effect
   effect-same other agree t o h =
       let at = released-occurs a t (x .state) (x .buffer) (arrival-occurs a q w e t o h) in
       rw (release-same rest a (x .state) (x .buffer) other λ j _. agree (drop j (x .buffer)) (run a (x .state) (take j (x .buffer))) (at j))
+
+-- the same at a position
+module _ (rest : Rest) (a : Automaton) (p : Position) (e : ℕ) where
+  pub advance-occurs : Total a → OccursAt a p → eventRefusal rest a p e ≡ 0 → OccursAt a (advance rest a p e)
+  advance-occurs t o h = effect-occurs rest a (p .state) (p .buffer) e t o (accepted-facts rest a p e h)
+
+  pub effect-agrees : (other : Rest) → Agree a rest other → Total a → OccursAt a p → eventRefusal rest a p e ≡ 0
+      → effectFrom rest a p e ≡ effectFrom other a p e
+  effect-agrees other agree t o h = effect-same rest a (p .state) (p .buffer) e other agree t o (accepted-facts rest a p e h)

@@ -9,75 +9,77 @@ use Rattle.automaton.specs.declared.Automaton.{Automaton}
 use Rattle.automaton.specs.Automaton.{run}
 use Rattle.automaton.proofs.Running.{run-append}
 use Rattle.sets.proofs.Total.{Total}
-use Rattle.releasing.specs.Step.{Rest, Effect, effect, eventRefusal, Run, runOf}
-use Rattle.releasing.proofs.Effects.{Occurs, Agree, effect-occurs, effect-leads, effect-same}
+use Rattle.configuration.specs.Configuration.{Position}
+use Rattle.releasing.specs.Step.{Rest, Effect, effectFrom, advance, eventRefusal, Run, runOf}
+use Rattle.releasing.proofs.Effects.{OccursAt, Agree, refusal-same, effect-leads, advance-occurs, effect-agrees}
 
 -- no event
-abbrev pub still : ℕ → List ℕ → Run
-still q w = record { emitted = []; refused = 0; state = q; buffer = w }
+abbrev pub still : Position → Run
+still p = record { emitted = []; refused = 0; last = p }
 
 -- an accepted event before others, and a refused one
 abbrev pub after : Effect → Run → Run
-after f r = record { emitted = f .emitted ++ r .emitted; refused = r .refused; state = r .state; buffer = r .buffer }
+after f r = record { emitted = f .emitted ++ r .emitted; refused = r .refused; last = r .last }
 
 abbrev pub passed : Run → Run
-passed r = record { emitted = r .emitted; refused = r .refused + 1; state = r .state; buffer = r .buffer }
+passed r = record { emitted = r .emitted; refused = r .refused + 1; last = r .last }
 
 module _ (rest : Rest) (a : Automaton) where
-  abbrev f : ℕ → List ℕ → ℕ → Effect
-  f = effect rest a
+  abbrev went : Position → ℕ → List ℕ → Run
+  went p e es = runOf rest a (advance rest a p e) es
 
-  abbrev went : ℕ → List ℕ → ℕ → List ℕ → Run
-  went q w e es = runOf rest a (f q w e .state) (f q w e .buffer) es
-
-  pub run-accepts : (q : ℕ) (w : List ℕ) (e : ℕ) (es : List ℕ) → eventRefusal a w e ≡ 0 → runOf rest a q w (e ∷ es) ≡ after (f q w e) (went q w e es)
+  pub run-accepts : (p : Position) (e : ℕ) (es : List ℕ) → eventRefusal rest a p e ≡ 0 → runOf rest a p (e ∷ es) ≡ after (effectFrom rest a p e) (went p e es)
   unfolding runOf
-  run-accepts q w e es h = rw (eq-eqb (eventRefusal a w e) 0 h)
+  run-accepts p e es h = rw (eq-eqb (eventRefusal rest a p e) 0 h)
 
-  pub run-refuses : (q : ℕ) (w : List ℕ) (e : ℕ) (es : List ℕ) → (eventRefusal a w e ≡ 0 → ⊥) → runOf rest a q w (e ∷ es) ≡ passed (runOf rest a q w es)
+  pub run-refuses : (p : Position) (e : ℕ) (es : List ℕ) → (eventRefusal rest a p e ≡ 0 → ⊥) → runOf rest a p (e ∷ es) ≡ passed (runOf rest a p es)
   unfolding runOf
-  run-refuses q w e es h = rw (ne-eqb (eventRefusal a w e) 0 h)
+  run-refuses p e es h = rw (ne-eqb (eventRefusal rest a p e) 0 h)
 
   -- what holds of no event and is kept by one more event in front holds of all
-  pub run-keeps : (P : ℕ → List ℕ → List ℕ → Run → Type 0)
-      → ((q : ℕ) (w : List ℕ) → P q w [] (still q w))
-      → ((q : ℕ) (w : List ℕ) (e : ℕ) (es : List ℕ) (r : Run) → eventRefusal a w e ≡ 0 → P (f q w e .state) (f q w e .buffer) es r
-      → P q w (e ∷ es) (after (f q w e) r))
-      → ((q : ℕ) (w : List ℕ) (e : ℕ) (es : List ℕ) (r : Run) → (eventRefusal a w e ≡ 0 → ⊥) → P q w es r → P q w (e ∷ es) (passed r))
-      → (es : List ℕ) (q : ℕ) (w : List ℕ) → P q w es (runOf rest a q w es)
+  pub run-keeps : (P : Position → List ℕ → Run → Type 0)
+      → ((p : Position) → P p [] (still p))
+      → ((p : Position) (e : ℕ) (es : List ℕ) (r : Run) → eventRefusal rest a p e ≡ 0 → P (advance rest a p e) es r
+      → P p (e ∷ es) (after (effectFrom rest a p e) r))
+      → ((p : Position) (e : ℕ) (es : List ℕ) (r : Run) → (eventRefusal rest a p e ≡ 0 → ⊥) → P p es r → P p (e ∷ es) (passed r))
+      → (es : List ℕ) (p : Position) → P p es (runOf rest a p es)
   unfolding runOf
-  run-keeps P none accept refuse [] q w = none q w
-  run-keeps P none accept refuse (e ∷ es) q w =
-      by (eqb (eventRefusal a w e) 0)
-      (λ h. rw h (accept q w e es (went q w e es) (eqb-true (eventRefusal a w e) 0 h) (run-keeps P none accept refuse es (f q w e .state) (f q w e .buffer))))
-      (λ h. rw h (refuse q w e es (runOf rest a q w es) (eqb-false (eventRefusal a w e) 0 h) (run-keeps P none accept refuse es q w)))
+  run-keeps P none accept refuse [] p = none p
+  run-keeps P none accept refuse (e ∷ es) p =
+      by (eqb (eventRefusal rest a p e) 0)
+      (λ h. rw h (accept p e es (went p e es) (eqb-true (eventRefusal rest a p e) 0 h) (run-keeps P none accept refuse es (advance rest a p e))))
+      (λ h. rw h (refuse p e es (runOf rest a p es) (eqb-false (eventRefusal rest a p e) 0 h) (run-keeps P none accept refuse es p)))
 
-  pub run-occurs : Total a → (es : List ℕ) (q : ℕ) (w : List ℕ) → Occurs a q w → Occurs a (runOf rest a q w es .state) (runOf rest a q w es .buffer)
+  pub run-occurs : Total a → (es : List ℕ) (p : Position) → OccursAt a p → OccursAt a (runOf rest a p es .last)
   run-occurs t =
-      run-keeps (λ q w es r. Occurs a q w → Occurs a (r .state) (r .buffer))
-      (λ q w o. o)
-      (λ q w e es r h k o. k (effect-occurs rest a q w e t o h))
-      (λ q w e es r h k o. k o)
+      run-keeps (λ p es r. OccursAt a p → OccursAt a (r .last))
+      (λ p o. o)
+      (λ p e es r h k o. k (advance-occurs rest a p e t o h))
+      (λ p e es r h k o. k o)
 
   -- what is emitted leads from the state before to the one after
-  pub run-leads : (es : List ℕ) (q : ℕ) (w : List ℕ) → run a q (runOf rest a q w es .emitted) ≡ runOf rest a q w es .state
+  pub run-leads : (es : List ℕ) (p : Position) → run a (p .state) (runOf rest a p es .emitted) ≡ runOf rest a p es .last .state
   unfolding run
   run-leads =
-      run-keeps (λ q w es r. run a q (r .emitted) ≡ r .state)
-      (λ q w. refl)
-      (λ q w e es r h k. run-append a q (f q w e .emitted) (r .emitted) ∙ ap (λ p. run a p (r .emitted)) (effect-leads rest a q w e) ∙ k)
-      (λ q w e es r h k. k)
+      run-keeps (λ p es r. run a (p .state) (r .emitted) ≡ r .last .state)
+      (λ p. refl)
+      (λ p e es r h k.
+      run-append a (p .state) (effectFrom rest a p e .emitted) (r .emitted) ∙
+      ap (λ q. run a q (r .emitted)) (effect-leads rest a (p .state) (p .buffer) e) ∙ k)
+      (λ p e es r h k. k)
 
 -- the rest test is asked only where it may be
-pub run-same : (rest other : Rest) (a : Automaton) → Agree a rest other → Total a → (es : List ℕ) (q : ℕ) (w : List ℕ) → Occurs a q w
-    → runOf rest a q w es ≡ runOf other a q w es
+pub run-same : (rest other : Rest) (a : Automaton) → Agree a rest other → Total a → (es : List ℕ) (p : Position) → OccursAt a p
+    → runOf rest a p es ≡ runOf other a p es
 unfolding runOf
 run-same rest other a agree t =
-    run-keeps rest a (λ q w es r. Occurs a q w → r ≡ runOf other a q w es)
-    (λ q w o. refl)
-    (λ q w e es r h k o.
-    let same = effect-same rest a q w e other agree t o h in
-    ap (after (effect rest a q w e)) (k (effect-occurs rest a q w e t o h)) ∙
-    ap (λ g. after g (runOf other a (g .state) (g .buffer) es)) same ∙
-    sym (run-accepts other a q w e es h))
-    (λ q w e es r h k o. ap passed (k o) ∙ sym (run-refuses other a q w e es h))
+    run-keeps rest a (λ p es r. OccursAt a p → r ≡ runOf other a p es)
+    (λ p o. refl)
+    (λ p e es r h k o.
+    let f = effectFrom rest a p e in
+    let same = effect-agrees rest a p e other agree t o h in
+    ap (after f) (k (advance-occurs rest a p e t o h)) ∙
+    ap (λ (g : Effect). after g (runOf other a (record { state = g .state; buffer = g .buffer }) es)) same ∙
+    sym (run-accepts other a p e es (sym (refusal-same rest other a p e agree t o) ∙ h)))
+    (λ p e es r h k o.
+    ap passed (k o) ∙ sym (run-refuses other a p e es (λ z. h (refusal-same rest other a p e agree t o ∙ z))))

@@ -11,6 +11,7 @@ use Rattle.automaton.specs.declared.Automaton.{Automaton}
 use Rattle.automaton.specs.Automaton.{controllable, step, run}
 use Rattle.sets.specs.Sets.{sets}
 use Rattle.sets.specs.Table.{index}
+use Rattle.configuration.specs.Configuration.{Position}
 
 -- may the monitor rest in a state with a buffer?
 abbrev pub Rest : Type 0
@@ -63,30 +64,36 @@ effect rest a q w e =
       buffer = drop k (x .buffer);
     }
 
+-- the effect at a position, and the position after it
+abbrev pub effectFrom : Rest → Automaton → Position → ℕ → Effect
+effectFrom rest a p e = effect rest a (p .state) (p .buffer) e
+
+abbrev pub advance : Rest → Automaton → Position → ℕ → Position
+advance rest a p e = let f = effectFrom rest a p e in record { state = f .state; buffer = f .buffer }
+
 -- the rows of one event with so many held: 14, no symbol of the automaton; 15, controllable with the buffer full
 abbrev pub eventRowsIn : ℕ → ℕ → Bool → ℕ → ℕ → List (ℕ × Bool)
 eventRowsIn symbols capacity holds held e = (14, not (ltb e symbols)) ∷ (15, holds && leb capacity held) ∷ []
 
-unfoldable pub eventRows : Automaton → List ℕ → ℕ → List (ℕ × Bool)
-eventRows a w e = eventRowsIn (a .symbols) (a .capacity) (controllable a e) (length w) e
+-- at a position, over a rest test (which neither row reads)
+unfoldable pub eventRows : Rest → Automaton → Position → ℕ → List (ℕ × Bool)
+eventRows rest a p e = eventRowsIn (a .symbols) (a .capacity) (controllable a e) (length (p .buffer)) e
 
-unfoldable pub eventRefusal : Automaton → List ℕ → ℕ → ℕ
-eventRefusal a w e = first (eventRows a w e)
+unfoldable pub eventRefusal : Rest → Automaton → Position → ℕ → ℕ
+eventRefusal rest a p e = first (eventRows rest a p e)
 
 -- a list of events (document 01's whole day): what is emitted end to end, how many events were refused and passed over, and the
--- state and buffer after it
+-- position after it
 pub record Run : Type 0 where
   pub emitted : List ℕ
   pub refused : ℕ
-  pub state : ℕ
-  pub buffer : List ℕ
+  pub last : Position
 
-unfoldable pub runOf : Rest → Automaton → ℕ → List ℕ → List ℕ → Run
-runOf rest a q w [] = record { emitted = []; refused = 0; state = q; buffer = w }
-runOf rest a q w (e ∷ es) =
-    let f = effect rest a q w e in
-    let went = runOf rest a (f .state) (f .buffer) es in
-    let passed = runOf rest a q w es in
-    cond (eqb (eventRefusal a w e) 0)
-    (record { emitted = f .emitted ++ went .emitted; refused = went .refused; state = went .state; buffer = went .buffer })
-    (record { emitted = passed .emitted; refused = passed .refused + 1; state = passed .state; buffer = passed .buffer })
+unfoldable pub runOf : Rest → Automaton → Position → List ℕ → Run
+runOf rest a p [] = record { emitted = []; refused = 0; last = p }
+runOf rest a p (e ∷ es) =
+    let went = runOf rest a (advance rest a p e) es in
+    let passed = runOf rest a p es in
+    cond (eqb (eventRefusal rest a p e) 0)
+    (record { emitted = effectFrom rest a p e .emitted ++ went .emitted; refused = went .refused; last = went .last })
+    (record { emitted = passed .emitted; refused = passed .refused + 1; last = passed .last })
