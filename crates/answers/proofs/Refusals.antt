@@ -13,29 +13,29 @@ use Rattle.configuration.specs.declared.Configuration.{Configuration}
 use Rattle.configuration.specs.Configuration.{consistent}
 use Rattle.configuration.proofs.Facts.{Consistent, consistent-facts}
 use Rattle.base.proofs.Bools.{by}
-use Rattle.answers.specs.Answers.{callRows, callRefusal}
+use Rattle.answers.specs.Answers.{tableRows, configurationRows, callRows, callRefusal}
 
 pub rows-pass : (a : Automaton) (t : List ℕ) (c : Configuration) → valid a ≡ true → short a t ≡ false → consistent a c ≡ true
     → (rows : List (ℕ × Bool)) → first (callRows a t c ++ rows) ≡ first rows
-unfolding callRows first
+unfolding tableRows configurationRows callRows first
 rows-pass a t c v s k rows = rw (v, s, k)
 
 module _ (a : Automaton) (t : List ℕ) (c : Configuration) where
   -- the three rows, one after the other
   pub status-invalid : valid a ≡ false → callRefusal a t c ≡ 11
-  unfolding callRefusal callRows first
+  unfolding callRefusal tableRows configurationRows callRows first
   status-invalid v = rw v
 
   pub status-short : valid a ≡ true → short a t ≡ true → callRefusal a t c ≡ 12
-  unfolding callRefusal callRows first
+  unfolding callRefusal tableRows configurationRows callRows first
   status-short v s = rw (v, s)
 
   pub status-inconsistent : valid a ≡ true → short a t ≡ false → consistent a c ≡ false → callRefusal a t c ≡ 13
-  unfolding callRefusal callRows first
+  unfolding callRefusal tableRows configurationRows callRows first
   status-inconsistent v s k = rw (v, s, k)
 
   pub status-clear : valid a ≡ true → short a t ≡ false → consistent a c ≡ true → callRefusal a t c ≡ 0
-  unfolding callRefusal callRows first
+  unfolding callRefusal tableRows configurationRows callRows first
   status-clear v s k = rw (v, s, k)
 
   -- no row stands
@@ -56,7 +56,7 @@ module _ (a : Automaton) (t : List ℕ) (c : Configuration) where
 
   -- a row that stands also stands before further rows
   pub rows-stand : (rows : List (ℕ × Bool)) → (callRefusal a t c ≡ 0 → ⊥) → first (callRows a t c ++ rows) ≡ callRefusal a t c
-  unfolding callRows first callRefusal
+  unfolding tableRows configurationRows callRows first callRefusal
   rows-stand rows z =
       by (valid a)
       (λ v. by (short a t)

@@ -21,6 +21,9 @@ pub use Rattle.answers.specs.declared.Ran.{Ran}
 unfoldable pub tableRows : Automaton → List ℕ → List (ℕ × Bool)
 tableRows a t = (11, not (valid a)) ∷ (12, short a t) ∷ []
 
+unfoldable pub tableRefusal : Automaton → List ℕ → ℕ
+tableRefusal a t = first (tableRows a t)
+
 unfoldable pub configurationRows : Automaton → Configuration → List (ℕ × Bool)
 configurationRows a c = (13, not (consistent a c)) ∷ []
 
