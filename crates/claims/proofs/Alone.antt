@@ -7,8 +7,7 @@ use lib.Dec.{eqb}
 use borrow.Author.Tests.{eqb-false}
 use Rattle.base.proofs.Bools.{by}
 use Rattle.automaton.specs.declared.Automaton.{Automaton}
-use Rattle.releasing.specs.Step.{eventRefusal}
-use Rattle.claims.specs.Store.{Store, empty, store, storeAll, Feed, event, events, lacksRoom, feed, feedAll, acceptedOf, acceptedBy, acceptedAll}
+use Rattle.claims.specs.Store.{Store, empty, refusalAt, store, storeAll, Feed, event, events, lacksRoom, feed, feedAll, acceptedOf, acceptedBy, acceptedAll}
 use Rattle.claims.specs.Calls.{fedBy}
 use Rattle.claims.specs.Claims.{AcceptedAlone}
 use Rattle.claims.proofs.Stores.{store-refuses}
@@ -24,7 +23,7 @@ module _ (a : Automaton) where
   unfolding acceptedOf storeAll
   accepted-append [] fs s = refl
   accepted-append (e ∷ es) fs s =
-      let one : List ℕ = cond (eqb (eventRefusal a (s .buffer) e) 0) (e ∷ []) [] in
+      let one : List ℕ = cond (eqb (refusalAt a s e) 0) (e ∷ []) [] in
       ap (λ l. one ++ l) (accepted-append es fs (store a s e)) ∙ sym (append-assoc one (acceptedOf a (store a s e) es) (acceptedOf a (storeAll a (store a s e) es) fs))
 
   -- the accepted ones alone
@@ -32,9 +31,9 @@ module _ (a : Automaton) where
   unfolding acceptedOf storeAll
   alone [] s = refl
   alone (e ∷ es) s =
-      by (eqb (eventRefusal a (s .buffer) e) 0)
+      by (eqb (refusalAt a s e) 0)
       (λ h. rw h (alone es (store a s e)))
-      (λ h. rw (h, store-refuses a s e (eqb-false (eventRefusal a (s .buffer) e) 0 h)) (alone es s))
+      (λ h. rw (h, store-refuses a s e (eqb-false (refusalAt a s e) 0 h)) (alone es s))
 
   feed-alone : (x : Feed) (s : Store) → storeAll a s (acceptedBy a s x) ≡ feed a s x
   unfolding acceptedBy feed storeAll

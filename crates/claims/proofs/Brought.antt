@@ -13,16 +13,16 @@ use Rattle.automaton.specs.Automaton.{run, valid}
 use Rattle.sets.specs.Table.{Solved}
 use Rattle.sets.proofs.Total.{total}
 use Rattle.configuration.specs.Configuration.{initialOf}
-use Rattle.releasing.specs.Step.{bySets, byTable, eventRefusal}
-use Rattle.releasing.proofs.Effects.{effect-same}
+use Rattle.releasing.specs.Step.{bySets, byTable}
+use Rattle.releasing.proofs.Effects.{effect-agrees}
 use Rattle.releasing.proofs.Solved.{solved-agree}
-use Rattle.claims.specs.Store.{Store, empty, stateOf, store, storeAll, lacksRoom, feed, feedAll, acceptedOf, acceptedBy, acceptedAll}
+use Rattle.claims.specs.Store.{Store, empty, positionAt, refusalAt, store, storeAll, lacksRoom, feed, feedAll, acceptedOf, acceptedBy, acceptedAll}
 use Rattle.claims.specs.Calls.{Call, one, many, fedBy, configurationAt}
 use Rattle.claims.specs.Moments.{Moment, effectAt, emittedAt, within, broughtBy, broughtAll, moments}
 use Rattle.claims.specs.Claims.{MomentsAccounted}
 use Rattle.claims.proofs.Stores.{Sound, grown, initially, initial-sound, byStore, store-accepts, store-refuses, store-state, store-sound}
 use Rattle.claims.proofs.Alone.{store-append, accepted-append}
-use Rattle.claims.proofs.Replies.{held, one-refusal, many-refusal, reply-hands, feed-sound, each-reply}
+use Rattle.claims.proofs.Replies.{position-at, by-sets, one-refusal, many-refusal, reply-hands, feed-sound, each-reply}
 use Rattle.claims.proofs.Moments.{moments-all}
 use Rattle.claims.proofs.History.{within-traced, traced-at}
 
@@ -32,27 +32,28 @@ module _ (a : Automaton) (t : List ℕ) (v : valid a ≡ true) (sv : Solved a t)
     events : map (λ (m : Moment). m .event) ms ≡ acceptedOf a s es
     emitted : storeAll a s es .output ≡ s .output ++ emittedAt a t ms
 
-  -- those met from the function's output, state and buffer on
+  -- those met from the function's output and position on
   abbrev from : List ℕ → Store → List ℕ → List Moment
-  from past s es = within a t past (s .output) (stateOf a s) (s .buffer) es
+  from past s es = within a t past (s .output) (positionAt a s) es
 
   module _ (past : List ℕ) (s : Store) (e : ℕ) where
     abbrev m : Moment
-    m = record { past = past; output = s .output; state = stateOf a s; buffer = s .buffer; event = e }
+    m = record { past = past; output = s .output; position = positionAt a s; event = e }
 
     -- an accepted event first
-    module _ (o : Sound a s) (h : eqb (eventRefusal a (s .buffer) e) 0 ≡ true) where
+    module _ (o : Sound a s) (h : eqb (refusalAt a s e) 0 ≡ true) where
       effect-is : effectAt a t m ≡ byStore a s e
       unfolding effectAt
       effect-is =
-          effect-same (byTable a t) a (stateOf a s) (s .buffer) e (bySets a) (solved-agree a t sv) (total a v) o (eqb-true (eventRefusal a (s .buffer) e) 0 h)
+          effect-agrees (byTable a t) a (positionAt a s) e (bySets a) (solved-agree a t sv) (total a v) o
+          (by-sets a t v sv s o e ∙ eqb-true (refusalAt a s e) 0 h)
 
       stored : store a s e ≡ grown s (byStore a s e .emitted) (byStore a s e .buffer)
-      stored = store-accepts a s e (eqb-true (eventRefusal a (s .buffer) e) 0 h)
+      stored = store-accepts a s e (eqb-true (refusalAt a s e) 0 h)
 
       accepts-first : (es : List ℕ) → from past s (e ∷ es) ≡ m ∷ from (past ++ e ∷ []) (store a s e) es
-      unfolding within
-      accepts-first es = rw (h, effect-is, stored, store-state a s e)
+      unfolding within effectAt
+      accepts-first es = rw (by-sets a t v sv s o e, h, effect-is, stored, store-state a s e)
 
       accepts-then : (es : List ℕ) (ms : List Moment) → Within (store a s e) es ms → Within s (e ∷ es) (m ∷ ms)
       unfolding acceptedOf storeAll emittedAt
@@ -65,36 +66,36 @@ module _ (a : Automaton) (t : List ℕ) (v : valid a ≡ true) (sv : Solved a t)
       }
 
     -- a refused one first
-    refuses-then : (es : List ℕ) → eqb (eventRefusal a (s .buffer) e) 0 ≡ false → Within s es (from past s es) → Within s (e ∷ es) (from past s (e ∷ es))
+    refuses-then : (es : List ℕ) → Sound a s → eqb (refusalAt a s e) 0 ≡ false → Within s es (from past s es) → Within s (e ∷ es) (from past s (e ∷ es))
     unfolding within acceptedOf storeAll
-    refuses-then es h k =
-        let stays = store-refuses a s e (eqb-false (eventRefusal a (s .buffer) e) 0 h) in
-        rw h (record { events = rw (h, stays) (k .events); emitted = ap (λ z. storeAll a z es .output) stays ∙ k .emitted })
+    refuses-then es o h k =
+        let stays = store-refuses a s e (eqb-false (refusalAt a s e) 0 h) in
+        rw (by-sets a t v sv s o e, h) (record { events = rw (h, stays) (k .events); emitted = ap (λ z. storeAll a z es .output) stays ∙ k .emitted })
 
   within-is : (es past : List ℕ) (s : Store) → Sound a s → Within s es (from past s es)
   unfolding within acceptedOf storeAll emittedAt
   within-is [] past s o = record { events = refl; emitted = sym (append-nil (s .output)) }
   within-is (e ∷ es) past s o =
-      by (eqb (eventRefusal a (s .buffer) e) 0)
+      by (eqb (refusalAt a s e) 0)
       (λ h.
       rw (accepts-first past s e o h es)
       (accepts-then past s e o h es _ (within-is es (past ++ e ∷ []) (store a s e) (store-sound a (total a v) (e ∷ []) s o))))
-      (λ h. refuses-then past s e es h (within-is es past s o))
+      (λ h. refuses-then past s e es o h (within-is es past s o))
 
-  -- and fed the events before it, the function has the output and buffer that each meets
+  -- and fed the events before it, the function has the output and the position that each meets
   abbrev Fed : Moment → Type 0
-  Fed m = storeAll a empty (m .past) ≡ record { output = m .output; buffer = m .buffer }
+  Fed m = (storeAll a empty (m .past) .output ≡ m .output) × (positionAt a (storeAll a empty (m .past)) ≡ m .position)
 
   within-fed : (es past : List ℕ) (s : Store) → Sound a s → storeAll a empty past ≡ s → AllOf Fed (from past s es)
   unfolding within storeAll
   within-fed [] past s o f = tt
   within-fed (e ∷ es) past s o f =
-      by (eqb (eventRefusal a (s .buffer) e) 0)
+      by (eqb (refusalAt a s e) 0)
       (λ h.
       let on = store-append a past (e ∷ []) empty ∙ ap (λ z. store a z e) f in
       rw (accepts-first past s e o h es)
-      (f, within-fed es (past ++ e ∷ []) (store a s e) (store-sound a (total a v) (e ∷ []) s o) on))
-      (λ h. rw h (within-fed es past s o f))
+      ((ap (λ z. z .output) f, ap (positionAt a) f), within-fed es (past ++ e ∷ []) (store a s e) (store-sound a (total a v) (e ∷ []) s o) on))
+      (λ h. rw (by-sets a t v sv s o e, h) (within-fed es past s o f))
 
   -- the events that a call brings feed the function as the call does
   module _ (s : Store) (o : Sound a s) where
@@ -105,7 +106,7 @@ module _ (a : Automaton) (t : List ℕ) (v : valid a ≡ true) (sv : Solved a t)
     brought-is : (x : Call) → Brought x (broughtBy a t (configurationAt a s) x)
     unfolding broughtBy feed fedBy storeAll acceptedBy acceptedOf
     brought-is (one e) =
-        let n = eventRefusal a (s .buffer) e in
+        let n = refusalAt a s e in
         by (eqb n 0)
         (λ h. rw (one-refusal a t v sv s o e, h) (record { fed = refl; accepted = refl }))
         (λ h. rw (one-refusal a t v sv s o e, h) (record { fed = store-refuses a s e (eqb-false n 0 h); accepted = rw h }))
@@ -140,11 +141,11 @@ moments-accounted a t v sv calls =
     let b = brought-all a t v sv calls empty (initial-sound a v) in
     let es = broughtAll a t (configurationAt a empty) calls in
     let w = within-is a t v sv es [] empty (initial-sound a v) in
-    let go : moments a t (initialOf a) calls ≡ within a t [] [] (stateOf a empty) [] es = rw (initially a, held a empty) in
+    let go : moments a t (initialOf a) calls ≡ within a t [] [] (positionAt a empty) es = rw (initially a, position-at a empty) in
     record {
       events = rw go (w .events ∙ sym (b .accepted));
       emitted = rw go (sym (w .emitted) ∙ ap (λ s. s .output) (sym (b .fed)) ∙ sym (each-reply a t v sv calls .all-emitted));
-      history = λ before m after e. traced-at a t before m after [] [] (rw (sym go ∙ e) at (within-traced a t es [] [] (stateOf a empty) []));
-      leads = moments-all a t v (λ m. run a (a .initial) (m .output) ≡ m .state) (λ m k. k .leads) calls;
+      history = λ before m after e. traced-at a t before m after [] [] (rw (sym go ∙ e) at (within-traced a t es [] [] (positionAt a empty)));
+      leads = moments-all a t v (λ m. run a (a .initial) (m .output) ≡ m .position .state) (λ m k. k .leads) calls;
       fed = rw go (within-fed a t v sv es [] empty (initial-sound a v) refl);
     }

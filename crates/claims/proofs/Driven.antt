@@ -24,16 +24,16 @@ use Rattle.claims.specs.Rival.{Strategy, play, Lost, lostBound}
 use Rattle.claims.specs.Claims.{DrivenOut}
 use Rattle.claims.proofs.Resting.{by-comes}
 
-module _ (a : Automaton) (rule : Strategy) where
+module _ (a : Automaton) (start : ℕ) (rule : Strategy) where
   -- a longer bound
-  pub lost-sooner : {events output buffer : List ℕ} {b c : ℕ} → b ≤ c → Lost a rule events output buffer b → Lost a rule events output buffer c
+  pub lost-sooner : {events output buffer : List ℕ} {b c : ℕ} → b ≤ c → Lost a start rule events output buffer b → Lost a start rule events output buffer c
   lost-sooner l k = record { list = k .list; uncontrollable = k .uncontrollable; short = omega (arith, k .short); outside = k .outside }
 
   -- lost after one more uncontrollable event and the release that follows it
   lost-before : (events output w : List ℕ) (u b : ℕ) → Uncontrollable a u
-      → (let k = rule (events ++ u ∷ []) (output ++ u ∷ []) in
-      Lost a rule (events ++ u ∷ []) ((output ++ u ∷ []) ++ take k w) (drop k w) b)
-      → Lost a rule events output w (b + 1)
+      → (let k = rule (events ++ u ∷ []) (output ++ u ∷ []) w in
+      Lost a start rule (events ++ u ∷ []) ((output ++ u ∷ []) ++ take k w) (drop k w) b)
+      → Lost a start rule events output w (b + 1)
   unfolding play remaining
   lost-before events output w u b h k = record { list = u ∷ k .list; uncontrollable = (h, k .uncontrollable); short = omega (arith, k .short); outside = k .outside }
 
@@ -43,7 +43,7 @@ module _ (a : Automaton) (t : Total a) where
 
   -- whoever rests at q with a buffer is lost
   abbrev LostFrom : ℕ → List ℕ → ℕ → Type 0
-  LostFrom q w bound = (rule : Strategy) (events output : List ℕ) → run a (a .initial) output ≡ q → Lost a rule events output w bound
+  LostFrom q w bound = (start : ℕ) (rule : Strategy) (events output : List ℕ) → run a start output ≡ q → Lost a start rule events output w bound
 
   -- outside S of the buffer
   abbrev pub Driven : List ℕ → Type 0
@@ -63,34 +63,34 @@ module _ (a : Automaton) (t : Total a) where
       let few : length (drop k w) ≤ length w = omega (arith, length-drop k w) in
       let less : lostBound a (drop k w) ≤ suc (length w) * F = omega (arith, mul-le-mul-right F few, suc-mul (length (drop k w)) F, suc-mul (length w) F) in
       let out = refuted (has (sets a (drop k w) .winning) p) (λ x. clash (first-intermediate a e w q l (by-comes a t w k (step a q e) (t q e) x)) h) in
-      inr (λ rule events output led.
-      lost-sooner a rule less (driven k p (run-below a t (step a q e) (take k w) (t q e)) out rule events output led))
+      inr (λ start rule events output led.
+      lost-sooner a start rule less (driven k p (run-below a t (step a q e) (take k w) (t q e)) out start rule events output led))
 
   -- one more event
   back : (w : List ℕ) → Releasing w → (r q u : ℕ) → Uncontrollable a u → has (sets a w .intermediate) (step a q u) ≡ false
       → LostFrom (step a q u) w (length w * F + r) → LostFrom q w (length w * F + (r + 1))
-  back w releases r q u un out lost rule events output led =
-      let k = rule (events ++ u ∷ []) (output ++ u ∷ []) in
-      let on : run a (a .initial) (output ++ u ∷ []) ≡ step a q u = run-end a (a .initial) output u ∙ ap (λ p. step a p u) led in
-      lost-sooner a rule (omega arith)
-      (lost-before a rule events output w u (length w * F + r) un
+  back w releases r q u un out lost start rule events output led =
+      let k = rule (events ++ u ∷ []) (output ++ u ∷ []) w in
+      let on : run a start (output ++ u ∷ []) ≡ step a q u = run-end a start output u ∙ ap (λ p. step a p u) led in
+      lost-sooner a start rule (omega arith)
+      (lost-before a start rule events output w u (length w * F + r) un
       (either (releases k (step a q u) (t q u) out)
-      (λ none. rw (none .0, none .1, append-nil (output ++ u ∷ [])) (lost rule (events ++ u ∷ []) (output ++ u ∷ []) on))
-      (λ gone. lost-sooner a rule (omega arith)
-      (gone rule (events ++ u ∷ []) ((output ++ u ∷ []) ++ take k w)
-      (run-append a (a .initial) (output ++ u ∷ []) (take k w) ∙ ap (λ p. run a p (take k w)) on)))))
+      (λ none. rw (none .0, none .1, append-nil (output ++ u ∷ [])) (lost start rule (events ++ u ∷ []) (output ++ u ∷ []) on))
+      (λ gone. lost-sooner a start rule (omega arith)
+      (gone start rule (events ++ u ∷ []) ((output ++ u ∷ []) ++ take k w)
+      (run-append a start (output ++ u ∷ []) (take k w) ∙ ap (λ p. run a p (take k w)) on)))))
 
   -- one buffer, over the rounds in which its states were struck
   level : (w : List ℕ) → Releasing w → Driven w
   unfolding lostBound play
-  level w releases q l h rule events output led =
+  level w releases q l h start rule events output led =
       let s = sets-are a w in
-      lost-sooner a rule (omega (arith, s .few, suc-mul (length w) F))
+      lost-sooner a start rule (omega (arith, s .few, suc-mul (length w) F))
       (s .lost t (λ r q. LostFrom q w (length w * F + r))
-      (λ r q lost rule events output led. lost-sooner a rule (omega arith) (lost rule events output led))
-      (λ q l no rule events output led. record { list = []; uncontrollable = tt; short = omega arith; outside = ap (accepts a) led ∙ no })
+      (λ r q lost start rule events output led. lost-sooner a start rule (omega arith) (lost start rule events output led))
+      (λ q l no start rule events output led. record { list = []; uncontrollable = tt; short = omega arith; outside = ap (accepts a) led ∙ no })
       (λ r q u l. back w releases r q u)
-      q l h rule events output led)
+      q l h start rule events output led)
 
   -- every rest of a buffer
   driven : (w : List ℕ) (k : ℕ) → Driven (drop k w)

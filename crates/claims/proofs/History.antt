@@ -5,7 +5,8 @@ use mathlib.Core.List.{List, [], _∷_, _++_, map, append-assoc, append-nil}
 use lib.Dec.{eqb}
 use Rattle.base.proofs.Bools.{by}
 use Rattle.automaton.specs.declared.Automaton.{Automaton}
-use Rattle.releasing.specs.Step.{eventRefusal}
+use Rattle.configuration.specs.Configuration.{Position}
+use Rattle.releasing.specs.Step.{byTable, eventRefusal}
 use Rattle.claims.specs.Moments.{Moment, effectAt, emittedAt, within}
 
 module _ (a : Automaton) (t : List ℕ) where
@@ -15,13 +16,13 @@ module _ (a : Automaton) (t : List ℕ) where
   Traced past output (m ∷ ms) =
       (m .past ≡ past) × (m .output ≡ output) × Traced (past ++ m .event ∷ []) (output ++ effectAt a t m .emitted) ms
 
-  pub within-traced : (es past output : List ℕ) (q : ℕ) (w : List ℕ) → Traced past output (within a t past output q w es)
+  pub within-traced : (es past output : List ℕ) (p : Position) → Traced past output (within a t past output p es)
   unfolding within
-  within-traced [] past output q w = tt
-  within-traced (e ∷ es) past output q w =
-      by (eqb (eventRefusal a w e) 0)
-      (λ h. rw h (refl, refl, within-traced es _ _ _ _))
-      (λ h. rw h (within-traced es past output q w))
+  within-traced [] past output p = tt
+  within-traced (e ∷ es) past output p =
+      by (eqb (eventRefusal (byTable a t) a p e) 0)
+      (λ h. rw h (refl, refl, within-traced es _ _ _))
+      (λ h. rw h (within-traced es past output p))
 
   pub traced-at : (before : List Moment) (m : Moment) (after : List Moment) (past output : List ℕ) → Traced past output (before ++ m ∷ after)
       → (m .past ≡ past ++ map (λ (x : Moment). x .event) before) × (m .output ≡ output ++ emittedAt a t before)

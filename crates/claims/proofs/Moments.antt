@@ -12,11 +12,11 @@ use Rattle.automaton.specs.declared.Automaton.{Automaton}
 use Rattle.automaton.specs.Automaton.{run, valid}
 use Rattle.automaton.proofs.Running.{run-append}
 use Rattle.sets.proofs.Total.{Total, total}
-use Rattle.configuration.specs.Configuration.{heldEvents, initialOf}
+use Rattle.configuration.specs.Configuration.{Position, begun, heldEvents, initialOf}
 use Rattle.releasing.specs.Step.{byTable, eventRefusal}
-use Rattle.releasing.proofs.Effects.{Occurs, initial-occurs, effect-occurs, effect-leads}
+use Rattle.releasing.proofs.Effects.{OccursAt, initial-occurs, effect-leads, advance-occurs}
 use Rattle.claims.specs.Calls.{Call}
-use Rattle.claims.specs.Moments.{Moment, effectAt, within, moments}
+use Rattle.claims.specs.Moments.{Moment, effectAt, positionAfter, within, moments}
 use Rattle.claims.specs.Claims.{outputAfter}
 
 -- a fact of each of them with those after it
@@ -35,49 +35,50 @@ all-of P (m ∷ ms) h = (h .0, all-of P ms (h .1))
 module _ (a : Automaton) (t : List ℕ) where
   -- what holds of an accepted event
   pub record Met (m : Moment) : Type 0 where
-    pub occurs : Occurs a (m .state) (m .buffer)
-    pub leads : run a (a .initial) (m .output) ≡ m .state
-    pub accepted : eventRefusal a (m .buffer) (m .event) ≡ 0
+    pub occurs : OccursAt a (m .position)
+    pub leads : run a (a .initial) (m .output) ≡ m .position .state
+    pub accepted : eventRefusal (byTable a t) a (m .position) (m .event) ≡ 0
 
   -- those that come after it
   abbrev pub following : Moment → List ℕ → List Moment
-  following m es = within a t (m .past ++ m .event ∷ []) (outputAfter a t m) (effectAt a t m .state) (effectAt a t m .buffer) es
+  following m es = within a t (m .past ++ m .event ∷ []) (outputAfter a t m) (positionAfter a t m) es
 
   -- where the output leads then
-  pub output-leads : (m : Moment) → Met m → run a (a .initial) (outputAfter a t m) ≡ effectAt a t m .state
+  pub output-leads : (m : Moment) → Met m → run a (a .initial) (outputAfter a t m) ≡ positionAfter a t m .state
   unfolding outputAfter effectAt
   output-leads m k =
       run-append a (a .initial) (m .output) (effectAt a t m .emitted) ∙
       ap (λ q. run a q (effectAt a t m .emitted)) (k .leads) ∙
-      effect-leads (byTable a t) a (m .state) (m .buffer) (m .event)
+      effect-leads (byTable a t) a (m .position .state) (m .position .buffer) (m .event)
 
-  pub effect-met : Total a → (m : Moment) → Met m → Occurs a (effectAt a t m .state) (effectAt a t m .buffer)
-  unfolding effectAt
-  effect-met total m k = effect-occurs (byTable a t) a (m .state) (m .buffer) (m .event) total (k .occurs) (k .accepted)
+  pub position-met : Total a → (m : Moment) → Met m → OccursAt a (positionAfter a t m)
+  position-met total m k = advance-occurs (byTable a t) a (m .position) (m .event) total (k .occurs) (k .accepted)
 
   -- what is kept by each accepted event gives a fact of each
-  module _ (total : Total a) (I : ℕ → List ℕ → Type 0) (Q : Moment → List Moment → Type 0)
-      (keep : (m : Moment) → Met m → I (m .state) (m .buffer) → I (effectAt a t m .state) (effectAt a t m .buffer))
-      (fact : (m : Moment) (es : List ℕ) → Met m → I (m .state) (m .buffer) → Q m (following m es)) where
-    pub within-each : (es past out : List ℕ) (q : ℕ) (w : List ℕ) → Occurs a q w → run a (a .initial) out ≡ q → I q w
-        → Suffixes Q (within a t past out q w es)
+  module _ (total : Total a) (I : Position → Type 0) (Q : Moment → List Moment → Type 0)
+      (keep : (m : Moment) → Met m → I (m .position) → I (positionAfter a t m))
+      (fact : (m : Moment) (es : List ℕ) → Met m → I (m .position) → Q m (following m es)) where
+    pub within-each : (es past out : List ℕ) (p : Position) → OccursAt a p → run a (a .initial) out ≡ p .state → I p
+        → Suffixes Q (within a t past out p es)
     unfolding within outputAfter
-    within-each [] past out q w o l i = tt
-    within-each (e ∷ es) past out q w o l i =
-        by (eqb (eventRefusal a w e) 0)
+    within-each [] past out p o l i = tt
+    within-each (e ∷ es) past out p o l i =
+        by (eqb (eventRefusal (byTable a t) a p e) 0)
         (λ h.
-        let m : Moment = record { past = past; output = out; state = q; buffer = w; event = e } in
-        let k : Met m = record { occurs = o; leads = l; accepted = eqb-true (eventRefusal a w e) 0 h } in
-        let f = effectAt a t m in
-        rw h (fact m es k i, within-each es (past ++ e ∷ []) (out ++ f .emitted) (f .state) (f .buffer) (effect-met total m k) (output-leads m k) (keep m k i)))
-        (λ h. rw h (within-each es past out q w o l i))
+        let m : Moment = record { past = past; output = out; position = p; event = e } in
+        let k : Met m = record { occurs = o; leads = l; accepted = eqb-true (eventRefusal (byTable a t) a p e) 0 h } in
+        rw h (
+          fact m es k i,
+          within-each es (past ++ e ∷ []) (out ++ effectAt a t m .emitted) (positionAfter a t m) (position-met total m k) (output-leads m k) (keep m k i),
+        ))
+        (λ h. rw h (within-each es past out p o l i))
 
-    pub moments-each : (calls : List Call) → Occurs a (a .initial) [] → I (a .initial) [] → Suffixes Q (moments a t (initialOf a) calls)
+    pub moments-each : (calls : List Call) → OccursAt a (begun (a .initial)) → I (begun (a .initial)) → Suffixes Q (moments a t (initialOf a) calls)
     unfolding moments initialOf heldEvents pad run
-    moments-each calls o i = within-each _ [] [] (a .initial) [] o refl i
+    moments-each calls o i = within-each _ [] [] (begun (a .initial)) o refl i
 
 pub moments-all : (a : Automaton) (t : List ℕ) → valid a ≡ true → (P : Moment → Type 0) → ((m : Moment) → Met a t m → P m) → (calls : List Call)
     → AllOf P (moments a t (initialOf a) calls)
 moments-all a t v P h calls =
     all-of P (moments a t (initialOf a) calls)
-    (moments-each a t (total a v) (λ _ _. Unit {0}) (λ m _. P m) (λ m k i. tt) (λ m es k i. h m k) calls (initial-occurs a v) tt)
+    (moments-each a t (total a v) (λ _. Unit {0}) (λ m _. P m) (λ m k i. tt) (λ m es k i. h m k) calls (initial-occurs a v) tt)

@@ -17,23 +17,24 @@ use Rattle.automaton.proofs.Facts.{valid-facts}
 use Rattle.sets.specs.Table.{short, Solved}
 use Rattle.sets.proofs.Total.{total}
 use Rattle.configuration.specs.declared.Configuration.{Configuration}
-use Rattle.configuration.specs.Configuration.{heldEvents, configuration, consistent}
-use Rattle.configuration.proofs.Facts.{configuration-consistent, consistent-of}
+use Rattle.configuration.specs.Configuration.{Position, positionOf, configuration, consistent}
+use Rattle.configuration.proofs.Facts.{position-made, configuration-consistent, consistent-of}
 use Rattle.answers.specs.declared.Received.{Received}
-use Rattle.releasing.specs.Step.{bySets, byTable, effect, eventRows, eventRefusal, runOf}
+use Rattle.releasing.specs.Step.{bySets, byTable, effectFrom, advance, eventRows, eventRefusal, runOf}
 use Rattle.answers.specs.Answers.{receiveRefusal, received, room, runRefusal, ran, ranBuffer}
-use Rattle.releasing.proofs.Effects.{effect-occurs, effect-same}
+use Rattle.releasing.proofs.Effects.{refusal-same, advance-occurs, effect-agrees}
 use Rattle.releasing.proofs.Runs.{run-same}
 use Rattle.answers.proofs.Refusals.{rows-pass}
 use Rattle.releasing.proofs.Solved.{solved-agree}
-use Rattle.claims.specs.Store.{Store, empty, stateOf, store, storeAll, lacksRoom, feed, feedAll}
+use Rattle.claims.specs.Store.{Store, empty, positionAt, refusalAt, store, storeAll, lacksRoom, feed, feedAll}
 use Rattle.claims.specs.Calls.{Call, one, many, handedBack, emittedBy, reply, replies, configurationAfter, emittedAll, fedBy, configurationAt, since, expected, expectedAll}
 use Rattle.claims.specs.Claims.{EachReply}
 use Rattle.claims.proofs.Stores.{Sound, initially, initial-sound, store-since, store-sound, since-grown, since-same, byStore, runStore, store-accepts, store-refuses, store-state, runs-state, store-runs}
 
-pub held : (a : Automaton) (s : Store) → heldEvents (configurationAt a s) ≡ s .buffer
-unfolding heldEvents configurationAt
-held a s = take-pad 6 (s .buffer)
+-- the position that its configuration says is its own
+pub position-at : (a : Automaton) (s : Store) → positionOf (configurationAt a s) ≡ positionAt a s
+unfolding configurationAt
+position-at a s = position-made (positionAt a s)
 
 module _ (a : Automaton) (t : List ℕ) (v : valid a ≡ true) (sv : Solved a t) where
   not-short : short a t ≡ false
@@ -43,51 +44,57 @@ module _ (a : Automaton) (t : List ℕ) (v : valid a ≡ true) (sv : Solved a t)
   pub consistent-at : (s : Store) → Sound a s → consistent a (configurationAt a s) ≡ true
   unfolding configurationAt
   consistent-at s o =
-      consistent-of a (configurationAt a s) (configuration-consistent a (valid-facts a v) (stateOf a s) (s .buffer) (o .state-below) (o .buffer))
+      consistent-of a (configurationAt a s) (configuration-consistent a (valid-facts a v) (positionAt a s) (o .state-below) (o .buffer))
 
   module _ (s : Store) (o : Sound a s) where
     abbrev c : Configuration
     c = configurationAt a s
 
-    pub one-refusal : (e : ℕ) → receiveRefusal a t c e ≡ eventRefusal a (s .buffer) e
+    -- the rows by the table and by the sets
+    pub by-sets : (e : ℕ) → eventRefusal (byTable a t) a (positionAt a s) e ≡ refusalAt a s e
+    by-sets e = refusal-same (byTable a t) (bySets a) a (positionAt a s) e (solved-agree a t sv) (total a v) o
+
+    pub one-refusal : (e : ℕ) → receiveRefusal a t c e ≡ refusalAt a s e
     unfolding receiveRefusal eventRefusal
-    one-refusal e = rows-pass a t c v not-short (consistent-at s o) (eventRows a (heldEvents c) e) ∙ ap (λ w. first (eventRows a w e)) (held a s)
+    one-refusal e =
+        rows-pass a t c v not-short (consistent-at s o) (eventRows (byTable a t) a (positionOf c) e) ∙
+        ap (λ p. first (eventRows (byTable a t) a p e)) (position-at a s) ∙
+        by-sets e
 
     pub many-refusal : (es out : List ℕ) → runRefusal a t c es out ≡ cond (lacksRoom s es (length out)) 16 0
     unfolding runRefusal lacksRoom configurationAt first
     many-refusal es out = rows-pass a t c v not-short (consistent-at s o) ((16, ltb (length out) (room es (c .held))) ∷ [])
 
-    one-effect : (e : ℕ) → eventRefusal a (s .buffer) e ≡ 0 → effect (byTable a t) a (c .state) (heldEvents c) e ≡ byStore a s e
-    unfolding configurationAt
+    one-effect : (e : ℕ) → refusalAt a s e ≡ 0 → effectFrom (byTable a t) a (positionOf c) e ≡ byStore a s e
     one-effect e h =
-        ap (λ w. effect (byTable a t) a (stateOf a s) w e) (held a s) ∙
-        effect-same (byTable a t) a (stateOf a s) (s .buffer) e (bySets a) (solved-agree a t sv) (total a v) o h
+        ap (λ p. effectFrom (byTable a t) a p e) (position-at a s) ∙
+        effect-agrees (byTable a t) a (positionAt a s) e (bySets a) (solved-agree a t sv) (total a v) o (by-sets e ∙ h)
 
-    many-run : (es : List ℕ) → runOf (byTable a t) a (c .state) (heldEvents c) es ≡ runStore a s es
-    unfolding configurationAt
+    many-run : (es : List ℕ) → runOf (byTable a t) a (positionOf c) es ≡ runStore a s es
     many-run es =
-        ap (λ w. runOf (byTable a t) a (stateOf a s) w es) (held a s) ∙
-        run-same (byTable a t) (bySets a) a (solved-agree a t sv) (total a v) es (stateOf a s) (s .buffer) o
+        ap (λ p. runOf (byTable a t) a p es) (position-at a s) ∙
+        run-same (byTable a t) (bySets a) a (solved-agree a t sv) (total a v) es (positionAt a s) o
 
-    abbrev answer : ℕ → ℕ → List ℕ → List ℕ → Bool → Received
-    answer n q w out b = record { refusal = n; configuration = configuration q w; emitted = pad 7 out; count = length out; winning = b }
+    abbrev answer : ℕ → Position → List ℕ → Bool → Received
+    answer n p out b = record { refusal = n; configuration = configuration p; emitted = pad 7 out; count = length out; winning = b }
 
-    one-accepted : (e : ℕ) → eventRefusal a (s .buffer) e ≡ 0
-        → let f = byStore a s e in received a t c e ≡ answer 0 (f .state) (f .buffer) (f .emitted) (bySets a (f .buffer) (f .state))
+    one-accepted : (e : ℕ) → refusalAt a s e ≡ 0
+        → let p = advance (bySets a) a (positionAt a s) e in
+        received a t c e ≡ answer 0 p (byStore a s e .emitted) (bySets a (p .buffer) (p .state))
     unfolding received
     one-accepted e h =
-        let f = byStore a s e in
-        let b = solved-agree a t sv (f .buffer) (f .state) (effect-occurs (bySets a) a (stateOf a s) (s .buffer) e (total a v) o h) in
+        let p = advance (bySets a) a (positionAt a s) e in
+        let b = solved-agree a t sv (p .buffer) (p .state) (advance-occurs (bySets a) a (positionAt a s) e (total a v) o h) in
         rw (one-refusal e ∙ h, one-effect e h, b)
 
-    one-refused : (e : ℕ) → eqb (eventRefusal a (s .buffer) e) 0 ≡ false → received a t c e ≡ answer (eventRefusal a (s .buffer) e) (stateOf a s) (s .buffer) [] false
+    one-refused : (e : ℕ) → eqb (refusalAt a s e) 0 ≡ false → received a t c e ≡ answer (refusalAt a s e) (positionAt a s) [] false
     unfolding received configurationAt pad
     one-refused e h = rw (one-refusal e, h)
 
     one-reply : (e : ℕ) → reply a t c (one e) ≡ expected a s (one e)
     unfolding reply expected configurationAt
     one-reply e =
-        let n = eventRefusal a (s .buffer) e in
+        let n = refusalAt a s e in
         let f = byStore a s e in
         by (eqb n 0)
         (λ h.
@@ -102,7 +109,7 @@ module _ (a : Automaton) (t : List ℕ) (v : valid a ≡ true) (sv : Solved a t)
         let r = runStore a s es in
         by (lacksRoom s es (length out))
         (λ h. rw (many-refusal es out, h) refl)
-        (λ h. rw (many-refusal es out, h, many-run es, k .whole, since-grown s (r .emitted) (r .buffer), k .refused, runs-state a s es))
+        (λ h. rw (many-refusal es out, h, many-run es, k .whole, since-grown s (r .emitted) (r .last .buffer), k .refused, runs-state a s es))
 
     -- one call: its reply is the function's, ..
     reply-is : (x : Call) → reply a t c x ≡ expected a s x

@@ -17,7 +17,7 @@ use Rattle.sets.specs.Table.{Solved}
 use Rattle.sets.proofs.Total.{total}
 use Rattle.releasing.specs.Step.{bySets, byTable, qualifies, release, arrival}
 use Rattle.releasing.proofs.Longest.{release-le, release-longest}
-use Rattle.releasing.proofs.Effects.{arrival-occurs, arrival-leads, released-occurs}
+use Rattle.releasing.proofs.Effects.{accepted-facts, arrival-occurs, arrival-leads, released-occurs}
 use Rattle.releasing.proofs.Solved.{solved-agree}
 use Rattle.claims.specs.Moments.{Moment}
 use Rattle.claims.specs.Claims.{arrivalAt, rivalRelease, ourRelease, rivalOutput, rivalBuffer, LongerLoses, RivalsLose}
@@ -27,19 +27,22 @@ use Rattle.claims.proofs.Driven.{driven-out}
 longer-loses : (a : Automaton) (t : List ℕ) → valid a ≡ true → Solved a t → (m : Moment) → Met a t m → LongerLoses a t m
 unfolding arrivalAt rivalRelease ourRelease rivalOutput rivalBuffer qualifies bySets
 longer-loses a t v sv m k rule h =
-    let x = arrival a (m .state) (m .buffer) (m .event) in
-    let n = rule (m .past ++ m .event ∷ []) (m .output ++ x .emitted) in
+    let q = m .position .state in
+    let w = m .position .buffer in
+    let x = arrival a q w (m .event) in
+    let n = rule (m .past ++ m .event ∷ []) (m .output ++ x .emitted) (x .buffer) in
     let j = length (take n (x .buffer)) in
     let p = run a (x .state) (take j (x .buffer)) in
-    let at = released-occurs a (total a v) (x .state) (x .buffer) (arrival-occurs a (m .state) (m .buffer) (m .event) (total a v) (k .occurs) (k .accepted)) j in
+    let accepted = accepted-facts (byTable a t) a (m .position) (m .event) (k .accepted) in
+    let at = released-occurs a (total a v) (x .state) (x .buffer) (arrival-occurs a q w (m .event) (total a v) (k .occurs) accepted) j in
     let ours = length-take-le (release (byTable a t) a (x .state) (x .buffer)) (x .buffer) (release-le (byTable a t) a (x .state) (x .buffer)) in
     let out = refuted (has (sets a (drop j (x .buffer)) .winning) p) (λ y.
     let z = release-longest (byTable a t) a (x .state) (x .buffer) j (part-length n (x .buffer)) (solved-agree a t sv (drop j (x .buffer)) p at ∙ y) .1 in
     omega arith) in
-    driven-out a v (drop j (x .buffer)) p (at .state-below) out rule (m .past ++ m .event ∷ []) ((m .output ++ x .emitted) ++ take n (x .buffer))
+    driven-out a v (drop j (x .buffer)) p (at .state-below) out (a .initial) rule (m .past ++ m .event ∷ []) ((m .output ++ x .emitted) ++ take n (x .buffer))
     (run-append a (a .initial) (m .output ++ x .emitted) (take n (x .buffer)) ∙
     ap (λ q. run a q (take n (x .buffer)))
-    (run-append a (a .initial) (m .output) (x .emitted) ∙ ap (λ q. run a q (x .emitted)) (k .leads) ∙ arrival-leads a (m .state) (m .buffer) (m .event)) ∙
+    (run-append a (a .initial) (m .output) (x .emitted) ∙ ap (λ q. run a q (x .emitted)) (k .leads) ∙ arrival-leads a q w (m .event)) ∙
     ap (run a (x .state)) (sym (take-part n (x .buffer))))
 
 pub rivals-lose : RivalsLose

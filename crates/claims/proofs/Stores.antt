@@ -14,15 +14,15 @@ use Rattle.automaton.specs.Automaton.{controllable, run, valid}
 use Rattle.automaton.proofs.Running.{run-append}
 use Rattle.sets.proofs.Total.{Total}
 use Rattle.configuration.specs.Configuration.{initialOf}
-use Rattle.releasing.specs.Step.{bySets, Effect, arrival, effect, eventRefusal, Run, runOf}
-use Rattle.releasing.proofs.Effects.{Occurs, initial-occurs, arrival-leads, effect-leads}
+use Rattle.releasing.specs.Step.{bySets, Effect, arrival, effect, effectFrom, Run, runOf}
+use Rattle.releasing.proofs.Effects.{OccursAt, initial-occurs, arrival-leads, effect-leads}
 use Rattle.releasing.proofs.Runs.{after, run-accepts, run-refuses, run-occurs, run-leads}
-use Rattle.claims.specs.Store.{Store, empty, stateOf, added, moved, store, storeAll, refusedOf}
+use Rattle.claims.specs.Store.{Store, empty, stateOf, positionAt, refusalAt, added, moved, store, storeAll, refusedOf}
 use Rattle.claims.specs.Calls.{configurationAt, since}
 
--- the state and buffer of the function can occur
+-- the position of the function can occur
 abbrev pub Sound : Automaton → Store → Type 0
-Sound a s = Occurs a (stateOf a s) (s .buffer)
+Sound a s = OccursAt a (positionAt a s)
 
 -- at first
 module _ (a : Automaton) where
@@ -48,10 +48,10 @@ since-same s = drop-length (s .output)
 
 module _ (a : Automaton) where
   abbrev pub byStore : Store → ℕ → Effect
-  byStore s e = effect (bySets a) a (stateOf a s) (s .buffer) e
+  byStore s e = effectFrom (bySets a) a (positionAt a s) e
 
   abbrev pub runStore : Store → List ℕ → Run
-  runStore s es = runOf (bySets a) a (stateOf a s) (s .buffer) es
+  runStore s es = runOf (bySets a) a (positionAt a s) es
 
   pub grown-state : (s : Store) (out w : List ℕ) → stateOf a (grown s out w) ≡ run a (stateOf a s) out
   unfolding stateOf
@@ -69,58 +69,59 @@ module _ (a : Automaton) where
     added-state : stateOf a (grown s (x .emitted) (x .buffer)) ≡ x .state
     added-state = grown-state s (x .emitted) (x .buffer) ∙ arrival-leads a (stateOf a s) (s .buffer) e
 
-    pub store-accepts : eventRefusal a (s .buffer) e ≡ 0 → store a s e ≡ grown s (byStore s e .emitted) (byStore s e .buffer)
+    pub store-accepts : refusalAt a s e ≡ 0 → store a s e ≡ grown s (byStore s e .emitted) (byStore s e .buffer)
     unfolding store moved effect
     store-accepts h =
-        rw (eq-eqb (eventRefusal a (s .buffer) e) 0 h, added-is, added-state)
+        rw (eq-eqb (refusalAt a s e) 0 h, added-is, added-state)
         (ap (λ out. record { output = out; buffer = byStore s e .buffer }) (append-assoc (s .output) (x .emitted) _))
 
-    pub store-refuses : (eventRefusal a (s .buffer) e ≡ 0 → ⊥) → store a s e ≡ s
+    pub store-refuses : (refusalAt a s e ≡ 0 → ⊥) → store a s e ≡ s
     unfolding store
-    store-refuses h = rw (ne-eqb (eventRefusal a (s .buffer) e) 0 h)
+    store-refuses h = rw (ne-eqb (refusalAt a s e) 0 h)
 
     pub store-state : stateOf a (grown s (byStore s e .emitted) (byStore s e .buffer)) ≡ byStore s e .state
     store-state = grown-state s (byStore s e .emitted) (byStore s e .buffer) ∙ effect-leads (bySets a) a (stateOf a s) (s .buffer) e
 
   -- and so do all events of a day
-  pub runs-state : (s : Store) (es : List ℕ) → stateOf a (grown s (runStore s es .emitted) (runStore s es .buffer)) ≡ runStore s es .state
-  runs-state s es = grown-state s (runStore s es .emitted) (runStore s es .buffer) ∙ run-leads (bySets a) a es (stateOf a s) (s .buffer)
+  pub runs-state : (s : Store) (es : List ℕ)
+      → stateOf a (grown s (runStore s es .emitted) (runStore s es .last .buffer)) ≡ runStore s es .last .state
+  runs-state s es = grown-state s (runStore s es .emitted) (runStore s es .last .buffer) ∙ run-leads (bySets a) a es (positionAt a s)
 
   pub record Stored (s : Store) (es : List ℕ) (r : Run) : Type 0 where
-    pub whole : storeAll a s es ≡ grown s (r .emitted) (r .buffer)
+    pub whole : storeAll a s es ≡ grown s (r .emitted) (r .last .buffer)
     pub refused : refusedOf a s es ≡ r .refused
 
   pub store-runs : (es : List ℕ) (s : Store) → Stored s es (runStore s es)
   unfolding storeAll runOf refusedOf
   store-runs [] s = record { whole = λ i. record { output = sym (append-nil (s .output)) i; buffer = s .buffer }; refused = refl }
   store-runs (e ∷ es) s =
-      let n = eventRefusal a (s .buffer) e in
+      let n = refusalAt a s e in
       by (eqb n 0)
       (λ h.
       let f = byStore s e in
       let z = grown s (f .emitted) (f .buffer) in
       let k = store-runs es z in
       let go : runStore s (e ∷ es) ≡ after f (runStore z es) =
-      run-accepts (bySets a) a (stateOf a s) (s .buffer) e es (eqb-true n 0 h) ∙
-      ap (λ q. after f (runOf (bySets a) a q (f .buffer) es)) (sym (store-state s e)) in
+      run-accepts (bySets a) a (positionAt a s) e es (eqb-true n 0 h) ∙
+      ap (λ q. after f (runOf (bySets a) a (record { state = q; buffer = f .buffer }) es)) (sym (store-state s e)) in
       let stored = store-accepts s e (eqb-true n 0 h) in
       rw go
       (record {
-        whole = rw stored (k .whole ∙ ap (λ out. record { output = out; buffer = runStore z es .buffer }) (append-assoc (s .output) (f .emitted) (runStore z es .emitted)));
+        whole = rw stored (k .whole ∙ ap (λ out. record { output = out; buffer = runStore z es .last .buffer }) (append-assoc (s .output) (f .emitted) (runStore z es .emitted)));
         refused = rw (h, stored) (zero-add (refusedOf a z es) ∙ k .refused);
       }))
       (λ h.
       let k = store-runs es s in
       let stored = store-refuses s e (eqb-false n 0 h) in
-      rw (run-refuses (bySets a) a (stateOf a s) (s .buffer) e es (eqb-false n 0 h))
+      rw (run-refuses (bySets a) a (positionAt a s) e es (eqb-false n 0 h))
       (record { whole = rw stored (k .whole); refused = rw (h, stored) (omega (arith, k .refused)) }))
 
   pub store-since : (es : List ℕ) (s : Store) → storeAll a s es .output ≡ s .output ++ since s (storeAll a s es)
   store-since es s =
       let r = runStore s es in
-      rw (store-runs es s .whole) (ap (λ out. s .output ++ out) (sym (since-grown s (r .emitted) (r .buffer))))
+      rw (store-runs es s .whole) (ap (λ out. s .output ++ out) (sym (since-grown s (r .emitted) (r .last .buffer))))
 
   pub store-sound : Total a → (es : List ℕ) (s : Store) → Sound a s → Sound a (storeAll a s es)
   store-sound t es s o =
       let r = runStore s es in
-      rw (store-runs es s .whole, runs-state s es) (run-occurs (bySets a) a t es (stateOf a s) (s .buffer) o)
+      rw (store-runs es s .whole, runs-state s es) (run-occurs (bySets a) a t es (positionAt a s) o)
