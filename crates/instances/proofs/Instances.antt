@@ -33,7 +33,7 @@ use Rattle.game.proofs.Worded.{as-worded}
 use Rattle.game.proofs.Agreement.{agrees, verdict-agrees}
 use Rattle.configuration.specs.Configuration.{heldEvents, controllableSymbol, placeStands, bufferStands, consistentIn, configuration, initialOf}
 use Rattle.releasing.specs.Step.{byTable, qualifies, qualifying, release, remaining, arrival, effect, eventRows, eventRefusal}
-use Rattle.answers.specs.Answers.{callRows, isWinning, callRefusal, status, receiveRefusal, received, room, runRefusal, ran}
+use Rattle.answers.specs.Answers.{tableRows, configurationRows, tableRows, configurationRows, callRows, isWinning, callRefusal, status, receiveRefusal, received, room, runRefusal, ran}
 use Rattle.claims.specs.Calls.{handedBack, reply}
 use Rattle.claims.specs.Moments.{effectAt, within, broughtBy, broughtAll, moments}
 use Rattle.claims.specs.Claims.{winningAfter, arrivalAt, rivalRelease, ourRelease}
@@ -51,7 +51,7 @@ use Rattle.text.specs.Decimal.{ascii}
 use Rattle.notation.proofs.Laws.{never-longer, room-in-text, read-small, cases-read}
 use Rattle.listing.proofs.Trips.{line-reads-back, packs-shortest, line-bounded, packed-reads-back, cases-unpacked}
 use Rattle.transcript.proofs.Cases.{long-refused}
-use Rattle.instances.proofs.Statements.{filled, paddedV, bytesPadded, tableW, calls, second, eager, Encodings, Solving, Judging, Enforcing, Layouts, textV, Texts}
+use Rattle.instances.proofs.Statements.{filled, paddedV, bytesPadded, tableW, onePage, calls, second, eager, Encodings, Solving, Judging, Enforcing, Layouts, textV, Texts}
 
 valid-w : valid automatonW ≡ true
 valid-w = read-is-valid bytesW automatonW (marked-cases .1 .0)
@@ -162,7 +162,7 @@ solving =
       );
     }
 
-allowed : gameRefusal automatonW (configuration 1 (2 ∷ [])) ≡ 0
+allowed : gameRefusal automatonW onePage ≡ 0
 unfolding gameRefusal first tooLargeIn heldEvents controllableSymbol placeStands bufferStands consistentIn each count automatonW pad
 allowed = rw valid-w refl
 
@@ -172,19 +172,19 @@ judging =
     record {
       as-worded = as-worded automatonW;
       agrees = agrees automatonW valid-w (2 ∷ []) 1 (omega arith) .0;
-      verdict-agrees = verdict-agrees automatonW (configuration 1 (2 ∷ [])) allowed .1;
+      verdict-agrees = verdict-agrees automatonW onePage allowed .1;
     }
 
 -- the events of the calls, as they are met
 met : moments automatonW tableW (initialOf automatonW) calls
-    ≡ record { past = []; output = []; state = 0; buffer = []; event = 0 } ∷ second ∷ []
+    ≡ record { past = []; output = []; position = record { state = 0; buffer = [] }; event = 0 } ∷ second ∷ []
 unfolding
     each count those lastOr first pad has mask step run controllable controllables controllableIn
     stands placesStand shaped ranged classesStand flagsStand nextStand valid
     heldEvents controllableSymbol placeStands bufferStands consistentIn initialOf
     shorter rank value index buffersCount short
     byTable qualifies qualifying release remaining arrival effect eventRows eventRefusal
-    callRows callRefusal receiveRefusal received handedBack reply
+    tableRows configurationRows callRows callRefusal receiveRefusal received handedBack reply
     effectAt within broughtBy broughtAll moments automatonW
 met = refl
 
@@ -217,7 +217,7 @@ unfolding
     heldEvents controllableSymbol placeStands bufferStands consistentIn initialOf
     shorter rank value index buffersCount short
     byTable qualifies qualifying release remaining arrival effect eventRows eventRefusal
-    callRows callRefusal isWinning status receiveRefusal received automatonW
+    tableRows configurationRows callRows callRefusal isWinning status receiveRefusal received automatonW
 begins-winning = refl
 
 says-winning : status automatonW tableW (initialOf automatonW) .winning ≡ true
@@ -227,7 +227,7 @@ unfolding
     heldEvents controllableSymbol placeStands bufferStands consistentIn initialOf
     shorter rank value index buffersCount short
     byTable qualifies qualifying release remaining arrival effect eventRows eventRefusal
-    callRows callRefusal isWinning status receiveRefusal received automatonW
+    tableRows configurationRows callRows callRefusal isWinning status receiveRefusal received automatonW
 says-winning = refl
 
 accepts-sign : received automatonW tableW (initialOf automatonW) 0 .refusal ≡ 0
@@ -237,10 +237,10 @@ unfolding
     heldEvents controllableSymbol placeStands bufferStands consistentIn initialOf
     shorter rank value index buffersCount short
     byTable qualifies qualifying release remaining arrival effect eventRows eventRefusal
-    callRows callRefusal isWinning status receiveRefusal received automatonW
+    tableRows configurationRows callRows callRefusal isWinning status receiveRefusal received automatonW
 accepts-sign = refl
 
-stays-winning : winningAfter automatonW tableW (record { past = []; output = []; state = 0; buffer = []; event = 0 }) ≡ true
+stays-winning : winningAfter automatonW tableW (record { past = []; output = []; position = record { state = 0; buffer = [] }; event = 0 }) ≡ true
 unfolding
     each count those lastOr pad has mask step run controllable controllables controllableIn
     shorter rank value index byTable qualifies qualifying release remaining arrival effect effectAt winningAfter automatonW
@@ -263,7 +263,7 @@ enforcing =
       demand3-solved = demand3-solved automatonW (filled 16 9) solves-w;
       initially-winning = demand3 automatonW tableW valid-w solved-w calls .once-winning .initially begins-winning;
       rivals-lose = rw met at (rivals-lose automatonW tableW valid-w solved-w calls) .1 .0 eager longer;
-      driven-out = driven-out automatonW valid-w [] 2 (omega arith) outside-w eager (0 ∷ 2 ∷ []) (0 ∷ 2 ∷ []) leads-to-two;
+      driven-out = driven-out automatonW valid-w [] 2 (omega arith) outside-w (automatonW .initial) eager (0 ∷ 2 ∷ []) (0 ∷ 2 ∷ []) leads-to-two;
       flag-is-status = flag-is-status automatonW tableW (initialOf automatonW) 0 accepts-sign;
       flag-stays = flag-stays automatonW tableW solved-w (initialOf automatonW) says-winning;
       once-winning-said = once-winning-said automatonW tableW valid-w solved-w calls [] _ (second ∷ []) met stays-winning;
@@ -283,7 +283,7 @@ unfolding
     stands placesStand shaped ranged classesStand flagsStand nextStand valid
     heldEvents controllableSymbol placeStands bufferStands consistentIn part configurationOf
     shorter rank value index buffersCount short
-    eventRows eventRefusal callRows callRefusal receiveRefusal received room runRefusal ran automatonW
+    eventRows eventRefusal tableRows configurationRows callRows callRefusal receiveRefusal received room runRefusal ran automatonW
 refused-14 = refl
 
 refused-16 : ran automatonW tableW (configurationOf (filled 8 0)) (0 ∷ []) [] .refusal ≡ 16
@@ -292,7 +292,7 @@ unfolding
     stands placesStand shaped ranged classesStand flagsStand nextStand valid
     heldEvents controllableSymbol placeStands bufferStands consistentIn part configurationOf
     shorter rank value index buffersCount short
-    eventRows eventRefusal callRows callRefusal receiveRefusal received room runRefusal ran automatonW
+    eventRows eventRefusal tableRows configurationRows callRows callRefusal receiveRefusal received room runRefusal ran automatonW
 refused-16 = refl
 
 pub layouts : Layouts
@@ -301,7 +301,7 @@ layouts =
     record {
       automaton-kept = automaton-kept automatonW shaped-w;
       automaton-bytes-kept = automaton-bytes-kept (filled 564 7) sevens;
-      configuration-kept = configuration-kept (configuration 1 (2 ∷ [])) refl;
+      configuration-kept = configuration-kept onePage refl;
       configuration-bytes-kept = configuration-bytes-kept (filled 8 7) refl;
       number-kept = number-kept 8 60001 (omega arith);
       refused-event-keeps = refused-event-keeps automatonW tableW (filled 8 0) 4 refl (λ h. omega (arith, refused-14));

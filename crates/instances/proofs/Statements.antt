@@ -14,14 +14,15 @@ use Rattle.sets.specs.Sets.{sets}
 use Rattle.sets.specs.Definition6.{States, Definition6}
 use Rattle.sets.specs.Table.{index, buffersCount, Buffer, table, Solved}
 use Rattle.sets.specs.Claims.{Winning, Intermediate, Resting}
-use Rattle.configuration.specs.Configuration.{configuration, initialOf, initialAnswer}
+use Rattle.configuration.specs.declared.Configuration.{Configuration}
+use Rattle.configuration.specs.Configuration.{Position, configuration, initialOf, initialAnswer}
 use Rattle.winning.specs.Solving.{solvedTable}
 use Rattle.game.specs.Game.{mayRest, verdict}
 use Rattle.game.specs.Claims.{Questions}
 use Rattle.answers.specs.Answers.{status, received, ran}
 use Rattle.claims.specs.Calls.{Call, one, replies, configurationAfter}
 use Rattle.claims.specs.Moments.{Moment, moments}
-use Rattle.claims.specs.Rival.{Lost, lostBound}
+use Rattle.claims.specs.Rival.{Strategy, Lost, lostBound}
 use Rattle.claims.specs.Claims.{Enforced, Stays, rivalOutput, rivalBuffer}
 use Rattle.claims.specs.Answers.{SaysWinning, SameAnswers}
 use Rattle.marked_cases.specs.Cases.{bytesV, automatonV, automatonW}
@@ -72,11 +73,15 @@ pub record Solving : Type 1 where
   -- by Definition 6 itself: with Page and Receipt held W may rest in state 0, and not in state 2
   pub solves-definition6 : (S I : List ℕ → States) → Definition6 automatonW S I → S (2 ∷ 3 ∷ []) 0 × (S (2 ∷ 3 ∷ []) 2 → ⊥)
 
+-- W's state 1 with a Page held
+abbrev pub onePage : Configuration
+onePage = configuration (record { state = 1; buffer = 2 ∷ [] })
+
 -- the second judge
 pub record Judging : Type 0 where
   pub as-worded : Questions automatonW
   pub agrees : mayRest automatonW (2 ∷ []) 4 1 ≡ has (sets automatonW (2 ∷ []) .winning) 1
-  pub verdict-agrees : verdict automatonW (configuration 1 (2 ∷ [])) .«can_rest»
+  pub verdict-agrees : verdict automatonW onePage .«can_rest»
       ≡ (has (sets automatonW (2 ∷ []) .winning) 1 || has (sets automatonW (2 ∷ []) .intermediate) 1)
 
 -- Sign, then Page
@@ -85,11 +90,11 @@ calls = one 0 ∷ one 2 ∷ []
 
 -- the second accepted event of theirs
 abbrev pub second : Moment
-second = record { past = 0 ∷ []; output = 0 ∷ []; state = 1; buffer = []; event = 2 }
+second = record { past = 0 ∷ []; output = 0 ∷ []; position = record { state = 1; buffer = [] }; event = 2 }
 
 -- the rule that lets every held request go at once
-abbrev pub eager : List ℕ → List ℕ → ℕ
-eager events output = 6
+abbrev pub eager : Strategy
+eager events output held = 6
 
 -- demand 3
 pub record Enforcing : Type 0 where
@@ -98,9 +103,9 @@ pub record Enforcing : Type 0 where
   pub demand3-solved : (xs : List Call) → Enforced automatonW (solvedTable automatonW (filled 16 9)) xs
   pub initially-winning : Stays automatonW tableW (moments automatonW tableW (initialOf automatonW) calls)
   -- whoever lets the Page go is lost
-  pub rivals-lose : Lost automatonW eager (0 ∷ 2 ∷ []) (rivalOutput automatonW eager second) (rivalBuffer automatonW eager second)
+  pub rivals-lose : Lost automatonW (automatonW .initial) eager (0 ∷ 2 ∷ []) (rivalOutput automatonW eager second) (rivalBuffer automatonW eager second)
       (lostBound automatonW (rivalBuffer automatonW eager second))
-  pub driven-out : Lost automatonW eager (0 ∷ 2 ∷ []) (0 ∷ 2 ∷ []) [] (lostBound automatonW [])
+  pub driven-out : Lost automatonW (automatonW .initial) eager (0 ∷ 2 ∷ []) (0 ∷ 2 ∷ []) [] (lostBound automatonW [])
   pub flag-is-status : status automatonW tableW (received automatonW tableW (initialOf automatonW) 0 .configuration)
       ≡ record { refusal = 0; winning = received automatonW tableW (initialOf automatonW) 0 .winning }
   pub flag-stays : (xs : List Call) → SaysWinning automatonW tableW (configurationAfter automatonW tableW (initialOf automatonW) xs)
@@ -112,7 +117,7 @@ pub record Enforcing : Type 0 where
 pub record Layouts : Type 0 where
   pub automaton-kept : automatonOf (automatonBytes automatonW) ≡ automatonW
   pub automaton-bytes-kept : automatonBytes (automatonOf (filled 564 7)) ≡ filled 564 7
-  pub configuration-kept : configurationOf (configurationBytes (configuration 1 (2 ∷ []))) ≡ configuration 1 (2 ∷ [])
+  pub configuration-kept : configurationOf (configurationBytes onePage) ≡ onePage
   pub configuration-bytes-kept : configurationBytes (configurationOf (filled 8 7)) ≡ filled 8 7
   pub number-kept : numberOf (numberBytes 8 60001) ≡ 60001
   -- an event that W has no kind for

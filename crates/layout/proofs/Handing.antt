@@ -1,14 +1,12 @@
 -- Proofs that what a call hands back is what the next call is given.
-use Prim.Native.Nat.{ℕ, _+_}
-use mathlib.Core.Path.{_≡_, refl, sym, _∙_}
-use mathlib.Core.Bool.{Bool}
-use mathlib.Core.List.{List, [], _∷_, _++_}
+use Prim.Native.Nat.{ℕ}
+use mathlib.Core.Path.{_≡_, refl}
+use mathlib.Core.List.{List}
 use native.Mathlib.Omega.{arith}
 use lib.ListN.{length, drop, length-drop}
 use lib.Seq.{length-take-le}
 use lib.Dec.{eqb}
-use borrow.Author.Tests.{eqb-true, eqb-false}
-use Rattle.base.specs.Rows.{first}
+use borrow.Author.Tests.{eqb-true}
 use Rattle.base.specs.Pad.{pad}
 use Rattle.base.proofs.Bools.{by}
 use Rattle.automaton.specs.declared.Automaton.{Automaton}
@@ -16,13 +14,13 @@ use Rattle.automaton.specs.Automaton.{valid}
 use Rattle.automaton.proofs.Facts.{valid-facts}
 use Rattle.sets.proofs.Total.{total}
 use Rattle.configuration.specs.declared.Configuration.{Configuration}
-use Rattle.configuration.specs.Configuration.{heldEvents, initialAnswer, initialOf}
-use Rattle.configuration.proofs.Facts.{consistent-facts, held-buffer, configuration-consistent}
-use Rattle.releasing.specs.Step.{byTable, eventRows, eventRefusal}
-use Rattle.releasing.proofs.Effects.{Occurs, effect-occurs}
+use Rattle.configuration.specs.Configuration.{positionOf, initialAnswer, initialOf}
+use Rattle.configuration.proofs.Facts.{configuration-consistent}
+use Rattle.releasing.specs.Step.{byTable}
+use Rattle.releasing.proofs.Effects.{advance-occurs}
 use Rattle.releasing.proofs.Runs.{run-occurs}
-use Rattle.answers.specs.Answers.{callRows, callRefusal, receiveRefusal, received, tooShort, runRefusal, ran}
-use Rattle.answers.proofs.Refusals.{Clear, clear, rows-pass, rows-stand}
+use Rattle.answers.specs.Answers.{receiveRefusal, received, runRefusal, ran}
+use Rattle.answers.proofs.Accepted.{clear-occurs, receive-clear, receive-event, run-clear}
 use Rattle.layout.specs.Layout.{part, configurationOf}
 use Rattle.layout.specs.Claims.{InitialHandedOn, EventHandedOn, RunHandedOn}
 use Rattle.layout.proofs.Trips.{configuration-kept}
@@ -33,41 +31,28 @@ unfolding configurationOf part
 six-places bytes long = length-take-le 6 (drop 2 bytes) (rw (length-drop 2 bytes) (omega arith))
 
 module _ (a : Automaton) (t : List ℕ) (c : Configuration) where
-  -- a call that no row refuses passes the first three
-  passes : (rows : List (ℕ × Bool)) → first (callRows a t c ++ rows) ≡ 0 → Clear a t c
-  passes rows h =
-      by (eqb (callRefusal a t c) 0)
-      (λ z. clear a t c (eqb-true (callRefusal a t c) 0 z))
-      (λ z. let n = eqb-false (callRefusal a t c) 0 z in absurd (n (sym (rows-stand a t c rows n) ∙ h)))
-
-  occurs : Clear a t c → Occurs a (c .state) (heldEvents c)
-  occurs k =
-      let p = consistent-facts a c (valid-facts a (k .record-valid)) (k .configuration-consistent) in
-      record { state-below = p .state-below; buffer = held-buffer a c p }
-
   -- the buffer of what is handed back
   pub event-places : (e : ℕ) → length (c .buffer) ≡ 6 → length (received a t c e .configuration .buffer) ≡ 6
-  unfolding received receiveRefusal eventRefusal
+  unfolding received
   event-places e long =
       by (eqb (receiveRefusal a t c e) 0)
       (λ h.
       let z = eqb-true (receiveRefusal a t c e) 0 h in
-      let k = passes (eventRows a (heldEvents c) e) z in
+      let k = receive-clear a t c e z in
       let v = k .record-valid in
-      let accepted : eventRefusal a (heldEvents c) e ≡ 0 = sym (rows-pass a t c v (k .table-long) (k .configuration-consistent) (eventRows a (heldEvents c) e)) ∙ z in
-      let o = effect-occurs (byTable a t) a (c .state) (heldEvents c) e (total a v) (occurs k) accepted in
-      rw h (configuration-consistent a (valid-facts a v) _ _ (o .state-below) (o .buffer) .buffer-length))
+      let o = advance-occurs (byTable a t) a (positionOf c) e (total a v) (clear-occurs a t c k) (receive-event a t c e z) in
+      rw h (configuration-consistent a (valid-facts a v) _ (o .state-below) (o .buffer) .buffer-length))
       (λ h. rw h long)
 
   pub run-places : (events out : List ℕ) → length (c .buffer) ≡ 6 → length (ran a t c events out .configuration .buffer) ≡ 6
-  unfolding ran runRefusal
+  unfolding ran
   run-places events out long =
       by (eqb (runRefusal a t c events out) 0)
       (λ h.
-      let k = passes ((16, tooShort (length out) events (c .held)) ∷ []) (eqb-true (runRefusal a t c events out) 0 h) in
+      let k = run-clear a t c events out (eqb-true (runRefusal a t c events out) 0 h) in
       let v = k .record-valid in
-      let o = run-occurs (byTable a t) a (total a v) events (c .state) (heldEvents c) (occurs k) in
-      rw h (configuration-consistent a (valid-facts a v) _ _ (o .state-below) (o .buffer) .buffer-length))
+      let o = run-occurs (byTable a t) a (total a v) events (positionOf c) (clear-occurs a t c k) in
+      rw h (configuration-consistent a (valid-facts a v) _ (o .state-below) (o .buffer) .buffer-length))
       (λ h. rw h long)
 
 pub initial-handed-on : InitialHandedOn

@@ -72,7 +72,13 @@ sized k b =
 -- the whole answer to an event: refusal, symbols emitted, state, held events, winning (document 01's guarded)
 abbrev pub answer : ℕ → List ℕ → ℕ → List ℕ → Bool → Received
 answer row emitted q held winning =
-    record { refusal = row; configuration = configuration q held; emitted = pad 7 emitted; count = length emitted; winning = winning }
+    record {
+      refusal = row;
+      configuration = configuration (record { state = q; buffer = held });
+      emitted = pad 7 emitted;
+      count = length emitted;
+      winning = winning;
+    }
 
 pub data Case : Type 0 where
   -- bytes of a sheet, its record

@@ -15,7 +15,7 @@ use Rattle.sets.specs.Sets.{acceptingSet, admits, stays, refine, settle, settle
 use Rattle.sets.specs.Table.{rank, value, shorter, index, buffersCount, short, extended, buffersAt, buffersTo, pairs, table}
 use Rattle.configuration.specs.Configuration.{heldEvents, controllableSymbol, placeStands, bufferStands, consistentIn, initialOf}
 use Rattle.releasing.specs.Step.{byTable, qualifies, qualifying, release, remaining, arrival, effect, eventRows}
-use Rattle.answers.specs.Answers.{callRows, isWinning, callRefusal, status, receiveRefusal, received}
+use Rattle.answers.specs.Answers.{tableRows, configurationRows, tableRows, configurationRows, callRows, isWinning, callRefusal, status, receiveRefusal, received}
 use Rattle.text.specs.Decimal.{ascii, digit, digits, decimal}
 use Rattle.lines.specs.Lines.{refusedEventLine, endLine, faultLine, refusalLine}
 use Rattle.status_lines.specs.StatusLines.{winningEnd, automatonLine, spaced, emission, eventLine}
@@ -24,7 +24,7 @@ use Rattle.transcript.specs.Claims.{v, large, lines, CasesPrinted, LongR
 
 -- every definition that the transcript rests on
 unfoldable all : ℕ
-unfolding each count those lastOr has mask pad first groups read controllableIn stands placesStand controllable controllables accepts step run shaped ranged classesStand flagsStand nextStand valid checked between itemRow numbers runs one many tables automatonFrom parse acceptingSet admits stays refine settle settled setsOf emptySets into sets rank value shorter index buffersCount short extended buffersAt buffersTo pairs table heldEvents controllableSymbol placeStands bufferStands consistentIn initialOf byTable qualifies qualifying release remaining arrival effect eventRows callRows isWinning callRefusal status receiveRefusal received ascii digit digits decimal spaced emission eventLine refusedEventLine endLine faultLine refusalLine opening runFrom firstLine answerLine after eventLines runLines tooLong overPlaces transcript v large lines winningEnd automatonLine automatonAt
+unfolding each count those lastOr has mask pad first groups read controllableIn stands placesStand controllable controllables accepts step run shaped ranged classesStand flagsStand nextStand valid checked between itemRow numbers runs one many tables automatonFrom parse acceptingSet admits stays refine settle settled setsOf emptySets into sets rank value shorter index buffersCount short extended buffersAt buffersTo pairs table heldEvents controllableSymbol placeStands bufferStands consistentIn initialOf byTable qualifies qualifying release remaining arrival effect eventRows tableRows configurationRows callRows isWinning callRefusal status receiveRefusal received ascii digit digits decimal spaced emission eventLine refusedEventLine endLine faultLine refusalLine opening runFrom firstLine answerLine after eventLines runLines tooLong overPlaces transcript v large lines winningEnd automatonLine automatonAt
 all = 0
 
 pub cases-printed : CasesPrinted

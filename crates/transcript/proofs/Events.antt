@@ -91,11 +91,11 @@ module _ (s t t′ : List ℕ) where
   unfolding eventLines after
   events-same zero u v y y′ = refl
   events-same (suc k) u v y y′ =
-      let r : answer t s u ≡ answer t′ s u = received-same (u .automaton) v t t′ y y′ (u .configuration) (read s (u .place) .value) in
+      let r : answer t s u ≡ answer t′ s u = received-same (u .automaton) t t′ y y′ (u .configuration) (read s (u .place) .value) in
       let i = events-same k (later t s u) v y y′ in
       rw (i, r)
 
   pub run-same : (u : Run) → valid (u .automaton) ≡ true → Solved (u .automaton) t → Solved (u .automaton) t′
       → runLines t s u ≡ runLines t′ s u
   unfolding runLines firstLine
-  run-same u v y y′ = rw (status-same (u .automaton) v t t′ y y′ (u .configuration), events-same (suc (length s)) u v y y′)
+  run-same u v y y′ = rw (status-same (u .automaton) t t′ y y′ (u .configuration), events-same (suc (length s)) u v y y′)

@@ -1,6 +1,6 @@
 use Rattle.transcript.proofs.Phases.{running-none, end-comes, fault-comes, counted-before, event-comes, end-some, fault-some, answer-some}
 use Rattle.transcript.proofs.Continuing.{line-none, line-last, line-goes-on}
-use Rattle.transcript.proofs.Answers.{received-few}
+use Rattle.answers.proofs.Accepted.{received-few}
 use mathlib.Core.Path.{sym, _∙_}
 use borrow.Author.Tests.{not-true, not-false}
 use borrow.Author.Needs.{needs}
