@@ -13,7 +13,7 @@ use Rattle.base.specs.Each.{each}
 use Rattle.base.proofs.Bools.{by, and-left, and-right, and-both}
 use Rattle.base.proofs.Ranges.{each-split, each-same, each-rows}
 use Rattle.automaton.specs.Parts.{controllableIn, goes, stands, placesStand, belowFrom, limitsOf, rowBelow, rowsBelow}
-use Rattle.automaton.specs.Automaton.{Automaton, shaped, ranged, classesStand, flagsStand, nextStand, tablesStand, valid}
+use Rattle.automaton.specs.Automaton.{Automaton, shaped, ranged, classesStand, flagsStand, nextStand, mostClass, tablesStand, valid}
 
 -- the used places, then the others
 places-are : (l : List ℕ) (used limit : ℕ) → used ≤ length l
@@ -97,11 +97,11 @@ module _ (n m : ℕ) (next : List ℕ) (h : n ≤ 32) (k : m ≤ 16) where
 
 -- rows 7 to 9, in their order
 module _ (n m : ℕ) (classes flags next : List ℕ) where
-  pub tables-classes : placesStand classes m 2 ≡ false → false ≡ tablesStand n m classes flags next
+  pub tables-classes : placesStand classes m (mostClass + 1) ≡ false → false ≡ tablesStand n m classes flags next
   unfolding classesStand
   tables-classes c = rw c
 
-  module _ (c : placesStand classes m 2 ≡ true) where
+  module _ (c : placesStand classes m (mostClass + 1) ≡ true) where
     pub tables-ninth : 8 < controllableIn classes m → false ≡ tablesStand n m classes flags next
     unfolding classesStand
     tables-ninth k = rw (c, lt-leb (controllableIn classes m) 8 k)

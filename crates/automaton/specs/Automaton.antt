@@ -2,7 +2,7 @@
 use Prim.Native.Nat.{ℕ, _+_}
 use mathlib.Core.Bool.{Bool, not, _&&_}
 use mathlib.Core.List.{List, [], _∷_}
-use lib.ListN.{length, getD}
+use lib.ListN.{length, getD, replicate}
 use lib.Dec.{eqb, leb, ltb}
 use Rattle.base.specs.Each.{each}
 pub use Rattle.automaton.specs.declared.Automaton.{Automaton}
@@ -86,3 +86,7 @@ assembled states symbols capacity initial classes accepting next =
       accepting = accepting;
       next = next;
     }
+
+-- the record with 0 everywhere
+abbrev pub blank : Automaton
+blank = assembled 0 0 0 0 (replicate 16 0) (replicate 32 0) (replicate 512 0)

@@ -10,23 +10,11 @@ ghost use lib.Seq.{sets};
 ghost use Rattle.varint.specs.Varint.{read};
 ghost use Rattle.automaton.specs.Automaton.{mostClass};
 ghost use Rattle.base.specs.Pad.{pad};
-ghost use Rattle.encoding.specs.Reading.{blank, checked, between, itemRow, numbers, runs, tables, parse, refused};
+ghost use Rattle.encoding.specs.Reading.{checked, between, itemRow, numbers, runs, tables, parse, refused};
 ghost use Rattle.encoding.specs.Parts.{outcome, oneMore};
 
-// The record with 0 everywhere.
-pub fn blank() -> Automaton
-    ensures { λ r. ⌜ r ≡ blank ⌝ }
-{
-    Automaton {
-        states: 0,
-        symbols: 0,
-        capacity: 0,
-        initial: 0,
-        classes: [0u8; 16],
-        accepting: [0u8; 32],
-        next: [0u8; 512],
-    }
-}
+// How many classes there are.
+const CLASSES: u32 = automaton::CLASSES as u32;
 
 fn refused(row: u8, at: usize) -> Parsed
     ensures { λ r. ⌜ r ≡ refused row at ⌝ }
@@ -34,7 +22,7 @@ fn refused(row: u8, at: usize) -> Parsed
     Parsed {
         refusal: row,
         place: at,
-        automaton: blank(),
+        automaton: automaton::blank(),
     }
 }
 
@@ -140,7 +128,7 @@ fn read_tables(
     let n = states as usize;
     let m = symbols as usize;
     let mut classes = [0u8; 16];
-    let c = fill(s, at, &mut classes, 0, m, 2, 7, 8);
+    let c = fill(s, at, &mut classes, 0, m, CLASSES, 7, 8);
     if c.refusal != 0 {
         return refused(c.refusal, c.place);
     }

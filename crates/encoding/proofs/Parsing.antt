@@ -12,7 +12,7 @@ use Rattle.base.proofs.Bools.{by}
 use Rattle.base.proofs.Padding.{pad-length, pad-inside, pad-outside, pad-take, pad-every, take-pad}
 use Rattle.varint.specs.declared.Number.{Number}
 use Rattle.automaton.specs.declared.Automaton.{Automaton}
-use Rattle.automaton.specs.Automaton.{controllables, flag, step}
+use Rattle.automaton.specs.Automaton.{controllables, flag, step, mostClass}
 use Rattle.encoding.specs.Reading.{between, classRow, tally, numbers, runs, parsed, tables, automatonFrom}
 use Rattle.encoding.specs.Writing.{nextNumbers, recordNumbers}
 use Rattle.automaton.proofs.Facts.{Valid}
@@ -55,10 +55,10 @@ module _ (a : Automaton) (v : Valid a) where
       let e : i / 16 * 16 + i % 16 ≡ i = omega arith in
       rw e at (v .step-no-state (i / 16) (i % 16) (omega arith) (omega arith))
 
-  classes-passes : Passes (classRow 1) [] classes
+  classes-passes : Passes (classRow mostClass) [] classes
   unfolding controllables
   classes-passes =
-      classes-pass 1 classes
+      classes-pass mostClass classes
       (λ i h. rw (getD-take (a .symbols) (a .classes) i 0 (omega (arith, classes-length))) (v .class-high i))
       (rw (tally-count (a .symbols) (a .classes) (omega (arith, v .classes-length, v .symbols-high))) (v .controllables-high))
 
@@ -78,8 +78,8 @@ module _ (a : Automaton) (v : Valid a) where
       }
 
   module _ (from : ℕ → Number) where
-    classes-done : (at stop : ℕ) → Follows from classes at stop → numbers from (classRow 1) (a .symbols) [] at ≡ done classes stop
-    classes-done at stop f = rw classes-length at (numbers-done from (classRow 1) classes [] at stop f classes-passes)
+    classes-done : (at stop : ℕ) → Follows from classes at stop → numbers from (classRow mostClass) (a .symbols) [] at ≡ done classes stop
+    classes-done at stop f = rw classes-length at (numbers-done from (classRow mostClass) classes [] at stop f classes-passes)
 
     flags-done : (at stop : ℕ) → Follows from flags at stop → numbers from (λ _. between 0 2 7) (a .states) [] at ≡ done flags stop
     flags-done at stop f = rw flags-length at (numbers-done from (λ _. between 0 2 7) flags [] at stop f flags-passes)
@@ -119,7 +119,7 @@ module _ (n m b q : ℕ) (cs fs vs : List ℕ) where
   made = record { states = n; symbols = m; capacity = b; initial = q; classes = pad 16 cs; accepting = pad 32 fs; next = pad 512 vs }
 
   module _ (hn : (1 ≤ n) × (n < 33)) (hm : (1 ≤ m) × (m < 17)) (hb : (1 ≤ b) × (b < 7)) (hq : q < n)
-      (lc : length cs ≡ m) (pc : Passes (classRow 1) [] cs) (lf : length fs ≡ n) (pf : Passes (λ _. between 0 2 7) [] fs)
+      (lc : length cs ≡ m) (pc : Passes (classRow mostClass) [] cs) (lf : length fs ≡ n) (pf : Passes (λ _. between 0 2 7) [] fs)
       (r : Rows m (between 0 n 9) n vs) where
     made-count : controllables made ≤ 8
     unfolding controllables
@@ -148,7 +148,7 @@ module _ (n m b q : ℕ) (cs fs vs : List ℕ) where
           capacity-low = hb .0;
           capacity-high = omega arith;
           initial-below = hq;
-          class-high = pad-every (λ c. c ≤ 1) 16 cs (omega arith) (λ i h. class-passed 1 (take i cs) (getD cs i 0) (pc i h) .0);
+          class-high = pad-every (λ c. c ≤ mostClass) 16 cs (omega arith) (λ i h. class-passed mostClass (take i cs) (getD cs i 0) (pc i h) .0);
           class-unused = λ e h. pad-outside 16 cs e (omega arith);
           controllables-high = made-count;
           flag-high = pad-every (λ c. c ≤ 1) 32 fs (omega arith) (λ i h. omega (arith, range-of 0 2 7 (getD fs i 0) (omega arith) (pf i h) .1));
@@ -190,7 +190,7 @@ parsed-facts from end a h =
     let same : made n m b q cs fs vs ≡ a = ap (λ p. p .automaton) (rw u at h7) in
     let n0 = range-of 1 33 3 n (omega arith) c1 in
     let m0 = range-of 1 17 4 m (omega arith) c2 in
-    let c0 = numbers-all from (classRow 1) m cs at4 at5 e5 in
+    let c0 = numbers-all from (classRow mostClass) m cs at4 at5 e5 in
     let f0 = numbers-all from (λ _. between 0 2 7) n fs at5 at6 e6 in
     let r0 = runs-all m (between 0 n 9) (omega arith) from n vs at6 at7 e7 in
     let rest = follows-append from cs (fs ++ nextNumbers vs m n) at4 at5 at7 (c0 .1) (follows-append from fs (nextNumbers vs m n) at5 at6 at7 (f0 .1) (r0 .1)) in

@@ -14,7 +14,7 @@ use Rattle.varint.specs.declared.Number.{Number}
 use Rattle.varint.specs.Varint.{read}
 use Rattle.automaton.specs.declared.Automaton.{Automaton}
 use Rattle.automaton.specs.Automaton.{mostClass}
-use Rattle.encoding.specs.Reading.{between, itemRow, Numbers, numbers, runs, many, tables, parsed, refused, Parsed}
+use Rattle.encoding.specs.Reading.{between, itemRow, classRow, Numbers, numbers, runs, many, tables, parsed, refused, Parsed}
 use Rattle.encoding.specs.Parts.{outcome}
 use Rattle.encoding.proofs.Sections.{items-are, many-refused, many-passes, numbers-most}
 
@@ -59,7 +59,7 @@ module _ (s : List ℕ) (at n m b q : ℕ) (small : m ≤ 16) (few : n ≤ 32) w
   whole = tables (read s) mostClass (length s) n m b q at
 
   abbrev class-numbers : Numbers
-  class-numbers = numbers (read s) (itemRow 2 7 8) m [] at
+  class-numbers = numbers (read s) (classRow mostClass) m [] at
 
   all-parts : whole ≡ many class-numbers flag-part
   unfolding tables flag-part next-part last-part record-of
@@ -105,7 +105,7 @@ module _ (s : List ℕ) (at n m b q : ℕ) (small : m ≤ 16) (few : n ≤ 32) w
               → parsed (record { states = n; symbols = m; capacity = b; initial = q; classes = classes; accepting = flags; next = next }) ≡ whole
           unfolding last-part record-of
           tables-done l classes flags next i j k =
-              let short-c = numbers-most (read s) (itemRow 2 7 8) m [] at in
+              let short-c = numbers-most (read s) (classRow mostClass) m [] at in
               let short-f = numbers-most (read s) (itemRow 2 7 32) n [] (c .place) in
               rw (i, j, k, pad-stored 16 (class-numbers .values) (omega arith), pad-stored 32 (flag-numbers .values) (omega arith))
               (sym (to-last ∙ rw (le-ltb (t .place) (length s) l)))

@@ -10,7 +10,7 @@ use Rattle.varint.specs.declared.Number.{Number}
 use Rattle.varint.specs.Varint.{fault, read}
 use Rattle.automaton.specs.declared.Automaton.{Automaton}
 use Rattle.automaton.specs.Parts.{controllableIn}
-use Rattle.automaton.specs.Automaton.{mostClass}
+use Rattle.automaton.specs.Automaton.{mostClass, blank}
 pub use Rattle.encoding.specs.declared.Parsed.{Parsed}
 
 -- a number that was read at a place, with the row that `check` gives its value (0: none)
@@ -56,19 +56,6 @@ runs from check m (suc k) before at =
     cond (eqb (row .refusal) 0)
     (runs from check m k (before ++ pad 16 (row .values)) (row .place))
     (record { refusal = row .refusal; place = row .place; values = before ++ row .values })
-
--- the record with 0 everywhere
-abbrev pub blank : Automaton
-blank =
-    record {
-      states = 0;
-      symbols = 0;
-      capacity = 0;
-      initial = 0;
-      classes = replicate 16 0;
-      accepting = replicate 32 0;
-      next = replicate 512 0;
-    }
 
 abbrev pub parsed : Automaton → Parsed
 parsed a = record { refusal = 0; place = 0; automaton = a }

@@ -1,6 +1,5 @@
 // The beginning of an input: the number L, then L bytes of sheet.
 use automaton::Automaton;
-use configuration::Configuration;
 use transcript::Phase;
 use transcript::Progress;
 use transcript::Run;
@@ -19,12 +18,8 @@ fn without(phase: Phase) -> Progress
     Progress {
         phase,
         run: Run {
-            automaton: decoder::blank(),
-            configuration: Configuration {
-                state: 0,
-                held: 0,
-                buffer: [0u8; 6],
-            },
+            automaton: automaton::blank(),
+            configuration: configuration::empty(0),
             place: 0,
             accepted: 0,
             refused: 0,

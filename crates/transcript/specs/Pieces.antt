@@ -6,7 +6,7 @@ use mathlib.Core.List.{List, [], _++_}
 use lib.ListN.{length}
 use lib.Dec.{eqb, leb}
 use Rattle.automaton.specs.declared.Automaton.{Automaton}
-use Rattle.encoding.specs.Reading.{blank}
+use Rattle.automaton.specs.Automaton.{blank}
 use Rattle.winning.specs.Solving.{solvedTable}
 use Rattle.text.specs.Decimal.{Appended}
 use Rattle.lines.specs.Lines.{faultLine, refusalLine}

@@ -142,7 +142,7 @@ fn tables_stand<'a>(
     requires { ⌜ (n ≤ 32) × (m ≤ 16) ⌝ }
     ensures { λ r. ⌜ r ≡ tablesStand n m (now (classes .entry)) (now (accepting .entry)) (now (next .entry)) ⌝ }
 {
-    if !places_stand(classes, m, 2) {
+    if !places_stand(classes, m, automaton::CLASSES) {
         return false;
     }
     if 8 < controllable_in(classes, m) {
