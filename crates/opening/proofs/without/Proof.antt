@@ -1,11 +1,10 @@
+use mathlib.Core.Path.{ap₂}
 use Rattle.automaton.specs.declared.Automaton.{Automaton}
-use Rattle.transcript.specs.declared.Progress.{Progress}
-use Rattle.transcript.specs.Pieces.{without, at}
-use Rattle.transcript.specs.Transcript.{runFrom}
+use Rattle.configuration.specs.declared.Configuration.{Configuration}
 use Rattle.configuration.specs.Configuration.{initialOf}
-use Rattle.base.specs.Pad.{pad}
-use mathlib.Core.List.{[], _∷_}
-use mathlib.Core.Path.{ap}
+use Rattle.transcript.specs.declared.Progress.{Progress}
+use Rattle.transcript.specs.Transcript.{runFrom}
+use Rattle.transcript.specs.Pieces.{without, at}
 use borrow.Author.Needs.{needs}
 use Rattle.opening.proofs.without.Statement.{statement}
 use Rattle.opening.proofs.without.Tie as tie
@@ -13,12 +12,15 @@ use Rattle.opening.proofs.without.Tie as tie
 blank-requires : tie.Need-blank-requires
 blank-requires c κs = search needs
 
+empty-requires : tie.Need-empty-requires
+empty-requires c κs = search needs
+
 returns : tie.Need-returns
-unfolding without runFrom initialOf pad
+unfolding without runFrom initialOf
 returns c =
-    let from : Automaton → Progress = λ a.
-    at (c .before .args .phase) (record { automaton = a; configuration = record { state = 0; held = 0; buffer = 0 ∷ 0 ∷ 0 ∷ 0 ∷ 0 ∷ 0 ∷ [] }; place = 0; accepted = 0; refused = 0 })
-    in ap from (c .blank .ensures)
+    let made : Automaton → Configuration → Progress = λ a k.
+    at (c .before .before .args .phase) (record { automaton = a; configuration = k; place = 0; accepted = 0; refused = 0 })
+    in ap₂ made (c .before .blank .ensures) (c .empty .ensures)
 
 pub without-spec : {M : Type 1} → statement M
-without-spec = tie.close (tie.spec blank-requires returns)
+without-spec = tie.close (tie.spec blank-requires empty-requires returns)
