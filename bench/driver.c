@@ -434,21 +434,27 @@ static void best_of(int times, int many, const work *pieces, double *best)
 
 static uint8_t rounds[8], rounds_by_c[8];
 
+/* A small table is solved many times in a row, so that one measurement is long beside the clock's own time. */
+static unsigned repeats;
+
 static void solve_ours(void)
 {
-    jaxhophasi_solve(record, table, places, rounds);
+    for (unsigned i = 0; i < repeats; i++)
+        jaxhophasi_solve(record, table, places, rounds);
 }
 
 static void solve_by_c(void)
 {
     ref_remember = 0;
-    ref_solve(record, table_by_c, places, rounds_by_c);
+    for (unsigned i = 0; i < repeats; i++)
+        ref_solve(record, table_by_c, places, rounds_by_c);
 }
 
 static void solve_by_c_remembering(void)
 {
     ref_remember = 1;
-    ref_solve(record, table_by_c, places, rounds_by_c);
+    for (unsigned i = 0; i < repeats; i++)
+        ref_solve(record, table_by_c, places, rounds_by_c);
 }
 
 static uint8_t state[8], state_by_c[8], answer[16], answer_by_c[16];
@@ -524,7 +530,8 @@ static void measure(const char *name)
         exit(1);
     }
     places = 2 * jaxhophasi_number_at(count);
-    best_of(places > 1000 ? 5 : 200, 3, solving, s);
+    repeats = 1 + (unsigned)(10000 / places);
+    best_of(places > 100000 ? 15 : 60, 3, solving, s);
     equal("table", table, table_by_c, 4 * places);
     equal("rounds", rounds, rounds_by_c, 8);
     best_of(7, 3, one_by_one, e);
@@ -534,9 +541,9 @@ static void measure(const char *name)
     equal("state", state, state_by_c, 8);
     equal("answer", answer, answer_by_c, 16);
     equal("output", output, output_by_c, EVENTS);
-    printf("%-12s | %9.4f  %4.2f  %4.2f | %5.1f  %4.2f  %4.2f | %5.2f  %4.2f | %7lu %7lu\n", name, s[0] / 1e6, s[0] / s[1], s[0] / s[2],
-        e[0] / EVENTS, e[0] / e[1], e[0] / e[2], d[0] / EVENTS, d[0] / d[1], (unsigned long)jaxhophasi_number_at(answer),
-        (unsigned long)jaxhophasi_number_at(answer + 8));
+    printf("%-12s | %6lu  %9.2f  %4.2f  %4.2f | %5.1f  %4.2f  %4.2f | %5.2f  %4.2f | %7lu %7lu\n", name, (unsigned long)places,
+        s[0] / repeats / 1e3, s[0] / s[1], s[0] / s[2], e[0] / EVENTS, e[0] / e[1], e[0] / e[2], d[0] / EVENTS, d[0] / d[1],
+        (unsigned long)jaxhophasi_number_at(answer), (unsigned long)jaxhophasi_number_at(answer + 8));
     fflush(stdout);
 }
 
@@ -557,12 +564,24 @@ static void paired_events(void)
     }
 }
 
+/* Random sheets with 32 states and 16 kinds, k of them controllable, and a hold of b. */
+static void measure_random(unsigned k, unsigned b, const unsigned *seeds, unsigned many)
+{
+    char name[32];
+    for (unsigned i = 0; i < many; i++) {
+        seed = 1000 + seeds[i];
+        make_record(record, 32, 16, b, k, 1);
+        any_events();
+        snprintf(name, sizeof name, "k %u B %u, %u", k, b, seeds[i]);
+        measure(name);
+    }
+}
+
 static int time_all(void)
 {
     static const uint8_t w[] = { 4, 4, 2, 0, 0, 0, 1, 1, 1, 1, 0, 0, 1, 0, 3, 0, 1, 0, 2, 1, 2, 3, 3, 1, 3, 3, 3, 3 };
-    static const unsigned seeds[] = { 4, 8, 18, 39, 54 };
+    static const unsigned seeds[] = { 4, 18, 54, 8, 39 };
     uint8_t place[8];
-    char name[16];
     table = room(4 * JAXHOPHASI_TABLE_MOST);
     table_by_c = room(4 * JAXHOPHASI_TABLE_MOST);
     events = room(4 * EVENTS);
@@ -570,21 +589,19 @@ static int time_all(void)
     output_by_c = room(EVENTS);
     memset(output, 0, EVENTS);
     memset(output_by_c, 0, EVENTS);
-    puts("             |       solving         |     one event      |  a day's event | of the day's events\n"
-         "             |        ms  /C   /C-r  |    ns   /C   /C-v  |   ns   /C      | put out refused");
+    puts("             |            solving            |     one event     | day's event |  of the day's events\n"
+         "             | places         us    /C  /C-r |    ns    /C  /C-v |    ns    /C | put out refused");
     seed = 1;
     jaxhophasi_read(w, sizeof w, record, place);
     any_events();
     measure("W");
     paired_events();
     measure("W, paired");
-    for (unsigned i = 0; i < sizeof seeds / sizeof *seeds; i++) {
-        seed = 1000 + seeds[i];
-        make_record(record, 32, 16, 6, 8, 1);
-        any_events();
-        snprintf(name, sizeof name, "largest %u", seeds[i]);
-        measure(name);
-    }
+    measure_random(0, 6, seeds, 3);
+    measure_random(1, 5, seeds, 3);
+    for (unsigned b = 1; b < 5; b++)
+        measure_random(8, b, seeds, 3);
+    measure_random(8, 6, seeds, 5);
     return 0;
 }
 

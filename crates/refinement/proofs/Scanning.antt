@@ -3,7 +3,7 @@ use Prim.Native.Nat.{ℕ, _+_, _-_, _^_, _<_, _≤_}
 use mathlib.Core.Path.{_≡_, refl, sym, _∙_}
 use mathlib.Core.List.{List}
 use mathlib.Core.Bool.{Bool, true, false, _&&_, _||_, and-true}
-use native.Mathlib.Nat.{mod-eq-of-lt}
+use native.Mathlib.Nat.{mod-le, mod-eq-of-lt}
 use native.Mathlib.Omega.{arith}
 use lib.Bits.{bitOr}
 use lib.Dec.{eqb, leb}
@@ -13,10 +13,10 @@ use Rattle.base.specs.Each.{each, count}
 use Rattle.base.specs.Masks.{has, mask}
 use Rattle.base.proofs.Bools.{by, and-left, and-both}
 use Rattle.base.proofs.Ranges.{each-more, each-false, count-max}
-use Rattle.base.proofs.Masks.{mask-lt, mask-in, mask-part, mask-has, mask-same, mask-without, fewer-states}
+use Rattle.base.proofs.Masks.{has-nothing, mask-lt, mask-in, mask-part, mask-has, mask-same, mask-without, fewer-states}
 use Rattle.sets.proofs.Rounds.{settle-keeps}
 use Rattle.automaton.specs.Parts.{goes}
-use Rattle.refinement.specs.Parts.{leads, leftOf, settledOn}
+use Rattle.refinement.specs.Parts.{leads, leftOf, settledOn, predecessors}
 
 -- the scan of a state's symbols
 module _ (next free : List ℕ) (x q : ℕ) where
@@ -124,3 +124,10 @@ module _ (next free : List ℕ) (n u i : ℕ) where
             (λ r y ne h. (left-lt y, omega (arith, h .1, fewer-states n y (round y) (h .0) (left-lt y) (left-in y) ne)))
             x 0 x (small, omega (arith, count-max n (has x))) .1,
       )
+
+-- nothing leads into the empty set
+pub predecessors-none : (next : List ℕ) (n e : ℕ) → predecessors next n e 0 ≡ 0
+unfolding predecessors
+predecessors-none next n e =
+    let none = mask-same n (λ q. has 0 (goes next q e)) (has 0) (λ q _. has-nothing (goes next q e) ∙ sym (has-nothing q)) in
+    omega (arith, none, mask-has n 0, mod-le 0 (2 ^ n))

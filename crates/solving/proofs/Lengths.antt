@@ -86,7 +86,7 @@ some-buffer a = omega (arith, shorter-one (controllables a), shorter-mono (contr
 
 module _ (a : Automaton) (t : List ℕ) (r : Settled) where
   -- the table with the sets of the empty buffer
-  abbrev begun : List ℕ
+  abbrev pub begun : List ℕ
   begun = set (set t 0 (r .set)) 1 0
 
   twice : set (set begun 0 (r .set)) 1 0 ≡ begun

@@ -45,6 +45,7 @@ fn fill(a: Automaton, table: &mut [u32]) -> u32
             m,
             u,
             accepting,
+            empty,
             table,
             from,
             count,

@@ -10,16 +10,23 @@ use lib.ListN.{length, getD, set, length-append, length-set}
 use lib.Seq.{sets as stores, getD-set-other}
 use Rattle.base.proofs.Stores.{sets-join}
 use Rattle.sets.specs.declared.Sets.{Sets}
+use Rattle.sets.specs.declared.Settled.{Settled}
 use Rattle.sets.specs.Table.{pairs, roundsSum}
 use Rattle.sets.proofs.Tables.{pairs-length}
-use Rattle.refinement.specs.Parts.{predecessors}
-use Rattle.refinement.proofs.Scanning.{settled-few}
+use Rattle.refinement.specs.Parts.{settledOn, predecessors}
+use Rattle.refinement.proofs.Scanning.{settled-few, predecessors-none}
 use Rattle.table.specs.Parts.{setsFrom, goalAt, rowOf, stored}
 
 -- the rounds of a buffer are few
 pub sets-few : (next free : List ℕ) (n u accepting : ℕ) → n ≤ 32 → accepting < 2 ^ n → (e goal : ℕ) → setsFrom next free n u accepting e goal .rounds ≤ 32
 unfolding setsFrom
 sets-few next free n u accepting l small e goal = omega (arith, settled-few next free n u (predecessors next n e goal) accepting small)
+
+-- the sets of goal 0 are the empty buffer's
+pub sets-none : (next free : List ℕ) (n u accepting e : ℕ) (s : Settled) → s ≡ settledOn next free n u 0 accepting
+    → record { winning = s .set; intermediate = 0; rounds = s .rounds } ≡ setsFrom next free n u accepting e 0
+unfolding setsFrom
+sets-none next free n u accepting e s h = rw (h, predecessors-none next n e)
 
 -- lists of sets, one behind the other
 pub pairs-append : (ss ts : List Sets) → pairs (ss ++ ts) ≡ pairs ss ++ pairs ts

@@ -1,13 +1,14 @@
 // The table from one length of buffers to the next. The buffers of one length stand side by side, two places each, and a symbol put in
-// front of each of them gives a row of the next length. `next`, `free`, n and u are as in crate refinement; 262,144 is 8 to the power
-// of 6, the most buffers of one length.
+// front of each of them gives a row of the next length. `next`, `free`, n and u are as in crate refinement, and `empty` is what the
+// empty buffer's rounds gave; 262,144 is 8 to the power of 6, the most buffers of one length.
 use refinement::settle;
 use sets::Sets;
+use sets::Settled;
 use state_sets::predecessors;
 ghost use mathlib.Core.Path.{_≡_};
 ghost use Prim.Native.Nat.{_+_, _*_, _^_, _<_, _≤_};
 ghost use lib.ListN.{length};
-ghost use Rattle.refinement.specs.Parts.{Fits};
+ghost use Rattle.refinement.specs.Parts.{Fits, settledOn};
 ghost use Rattle.table.specs.Parts.{setsFrom, rowOf, levelOf, Filled};
 
 // The sets of a buffer that begins with a symbol, where `goal` has the states of either set of the rest.
@@ -33,24 +34,32 @@ fn sets_from<'a>(
 }
 
 // Puts a symbol in front of the `count` buffers that stand from a place on, and writes their sets from another place on. Neighbours
-// often have the same goal, so the last one's sets are kept.
+// often have the same goal, so the last one's sets are kept: at first those of goal 0, into which nothing leads, as with the empty
+// buffer.
 fn fill_row<'a>(
     next: &'a [u8; 512],
     free: &'a [u8; 16],
     n: usize,
     u: usize,
     accepting: u32,
+    empty: Settled,
     symbol: usize,
     table: &mut [u32],
     from: usize,
     to: usize,
     count: usize,
 ) -> u32
-    requires { ⌜ Fits (now next) (now free) n u × (accepting < 2 ^ n) × (symbol < 16) × (from + 2 * count ≤ to) × (to + 2 * count ≤ length (now table)) × (count ≤ 262144) ⌝ }
-    ensures { λ r. ⌜ Filled (now (table .entry)) to (rowOf (setsFrom (now (next .entry)) (now (free .entry)) n u accepting symbol) (now (table .entry)) from count) (now (table .exit)) r ⌝ }
+    requires { ⌜ Fits (now next) (now free) n u × (accepting < 2 ^ n) × (empty ≡ settledOn (now next) (now free) n u 0 accepting)
+        × (symbol < 16) × (from + 2 * count ≤ to) × (to + 2 * count ≤ length (now table)) × (count ≤ 262144) ⌝ }
+    ensures { λ r. let f = setsFrom (now (next .entry)) (now (free .entry)) n u accepting in
+        ⌜ Filled (now (table .entry)) to (rowOf (f symbol) (now (table .entry)) from count) (now (table .exit)) r ⌝ }
 {
     let mut known: u32 = 0;
-    let mut last = sets_from(next, free, n, u, accepting, symbol, 0);
+    let mut last = Sets {
+        winning: empty.set,
+        intermediate: 0,
+        rounds: empty.rounds,
+    };
     let mut rounds: u32 = 0;
     let mut j: usize = 0;
     while j < count {
@@ -80,19 +89,37 @@ pub fn fill_level<'a>(
     m: usize,
     u: usize,
     accepting: u32,
+    empty: Settled,
     table: &mut [u32],
     from: usize,
     count: usize,
 ) -> u32
-    requires { ⌜ Fits (now next) (now free) n u × (accepting < 2 ^ n) × (m ≤ 16) × (count ≤ 262144) × (from + 2 * count + 2 * length (levelOf (setsFrom (now next) (now free) n u accepting) (now classes) m (now table) from count) ≤ length (now table)) ⌝ }
-    ensures { λ r. ⌜ Filled (now (table .entry)) (from + 2 * count) (levelOf (setsFrom (now (next .entry)) (now (free .entry)) n u accepting) (now (classes .entry)) m (now (table .entry)) from count) (now (table .exit)) r ⌝ }
+    requires { let f = setsFrom (now next) (now free) n u accepting in
+        ⌜ Fits (now next) (now free) n u × (accepting < 2 ^ n) × (empty ≡ settledOn (now next) (now free) n u 0 accepting)
+        × (m ≤ 16) × (count ≤ 262144)
+        × (from + 2 * count + 2 * length (levelOf f (now classes) m (now table) from count) ≤ length (now table)) ⌝ }
+    ensures { λ r. let f = setsFrom (now (next .entry)) (now (free .entry)) n u accepting in
+        let behind = levelOf f (now (classes .entry)) m (now (table .entry)) from count in
+        ⌜ Filled (now (table .entry)) (from + 2 * count) behind (now (table .exit)) r ⌝ }
 {
     let mut at = from + 2 * count;
     let mut rounds: u32 = 0;
     let mut e: usize = 0;
     while e < m {
         if classes[e] == 1 {
-            let more = fill_row(next, free, n, u, accepting, e, table, from, at, count);
+            let more = fill_row(
+                next,
+                free,
+                n,
+                u,
+                accepting,
+                empty,
+                e,
+                table,
+                from,
+                at,
+                count,
+            );
             rounds = rounds + more;
             at = at + 2 * count;
         }

@@ -1,8 +1,10 @@
+-- One round: the scan of a state's symbols, and what the states so far leave.
 use mathlib.Core.Bool.{true, false}
 use mathlib.Core.Path.{_≡_, sym, _∙_, ap}
-use Prim.Native.Nat.{_≤_, _-_, _+_, _*_}
+use Prim.Native.Nat.{_≤_, _<_, _-_, _+_, _*_}
 use borrow.Author.Tests.{not-true, not-false}
 use lib.Bits.{bitOr}
+use lib.ListN.{getD}
 use Rattle.base.specs.Masks.{has}
 use Rattle.automaton.specs.Parts.{goes}
 use Rattle.refinement.specs.Parts.{leads}
@@ -25,6 +27,41 @@ Inv-loop next free n u intermediate set left₀ q₀ left q = (q ≤ n) × Leavi
 abbrev μ-loop : tie.MeasureT-loop
 μ-loop next free n u intermediate set left₀ q₀ left q = n - q
 
+-- The places that later needs look back to, and what stands there.
+
+abbrev start : tie.At-loop Inv-scan μ-scan Inv-loop μ-loop → tie.Start Inv-scan μ-scan Inv-loop μ-loop
+start c = c .before
+
+abbrev state : tie.At-scan Inv-scan μ-scan Inv-loop μ-loop → tie.At-loop Inv-scan μ-scan Inv-loop μ-loop
+state c = c .before .before .before .before
+
+abbrev symbol : tie.After-size Inv-scan μ-scan Inv-loop μ-loop → tie.At-scan Inv-scan μ-scan Inv-loop μ-loop
+symbol c = c .before .before .before
+
+abbrev listed : tie.After-size2 Inv-scan μ-scan Inv-loop μ-loop → tie.After-size Inv-scan μ-scan Inv-loop μ-loop
+listed c = c .before .before
+
+-- where the scan's symbol leads
+next-state : (c : tie.After-size2 Inv-scan μ-scan Inv-loop μ-loop) → let o = symbol (listed c) in
+    let a = start (state o) .args in
+    c .size2 .result ≡ goes (a .next .now) (state o .loop .q) (getD (a .free .now) (o .scan .k) 0)
+next-state c =
+    let o = state (symbol (listed c)) in
+    c .size2 .ensures .0 ∙ ap (λ e. goes (start o .args .next .now) (o .loop .q) e) (listed c .size .ensures .0)
+
+-- the scan was left before its end, so a symbol leads out
+leads-out : (c : tie.Left-scan Inv-scan μ-scan Inv-loop μ-loop) → let o = state (c .before) in
+    let a = start o .args in
+    c .before .scan .k < a .u → leads (a .next .now) (a .free .now) (a .u) (bitOr (a .set) (a .intermediate)) (o .loop .q) ≡ false
+leads-out c h =
+    let o = state (c .before) in
+    let a = start o .args in
+    ⊎-elim
+    (λ x. absurd (omega arith))
+    (λ x. let next = x .4 .ensures .0 ∙ ap (λ e. goes (a .next .now) (o .loop .q) e) (x .2 .ensures .0) in
+    scan-fails _ _ _ _ (c .before .scan .k) _ (x .0 .taken) (sym (x .5 .ensures ∙ ap (has _) next) ∙ not-true _ (x .6 .taken)))
+    (c .scan-test .came)
+
 loop-holds : tie.Need-loop-holds Inv-scan μ-scan Inv-loop μ-loop
 loop-holds c = (omega arith, leave-none _ _ _ _ _ _ (c .pre .1))
 
@@ -44,16 +81,18 @@ size-requires : tie.Need-size-requires Inv-scan μ-scan Inv-loop μ-loop
 size-requires c κs = search needs
 
 add-size : tie.Need-add-size Inv-scan μ-scan Inv-loop μ-loop
-add-size c = omega (arith, c .size .ensures .0, c .before .before .before .before .before .before .before .before .pre .0 .free-below (c .before .before .before .scan .k))
+add-size c = omega (arith, c .size .ensures .0, start (state (symbol c)) .pre .0 .free-below (symbol c .scan .k))
 
 element-copy-out-size-2 : tie.Need-element-copy-out-size-2 Inv-scan μ-scan Inv-loop μ-loop
-element-copy-out-size-2 c = omega (arith, c .size .ensures .0, c .before .before .before .before .before .before .before .before .pre .0 .free-below (c .before .before .before .scan .k))
+element-copy-out-size-2 c = omega (arith, c .size .ensures .0, start (state (symbol c)) .pre .0 .free-below (symbol c .scan .k))
 
 size-requires-2 : tie.Need-size-requires-2 Inv-scan μ-scan Inv-loop μ-loop
 size-requires-2 c κs = search needs
 
 has-requires-2 : tie.Need-has-requires-2 Inv-scan μ-scan Inv-loop μ-loop
-has-requires-2 c κs = omega (arith, c .size2 .ensures .0, c .before .before .before .before .before .before .before .before .before .before .pre .0 .next-below (c .before .before .before .before .before .before .before .before .before .loop .q * 16 + c .before .before .size .result))
+has-requires-2 c κs =
+    let o = state (symbol (listed c)) in
+    omega (arith, c .size2 .ensures .0, start o .pre .0 .next-below (o .loop .q * 16 + listed c .size .result))
 
 add-k : tie.Need-add-k Inv-scan μ-scan Inv-loop μ-loop
 add-k c = search needs
@@ -62,13 +101,18 @@ scan-less : tie.Need-scan-less Inv-scan μ-scan Inv-loop μ-loop
 scan-less c = search needs
 
 scan-again : tie.Need-scan-again Inv-scan μ-scan Inv-loop μ-loop
-scan-again c = let state = c .before .before .size2 .ensures .0 ∙ ap (λ e. goes (c .before .before .before .before .before .before .before .before .before .before .before .before .args .next .now) (c .before .before .before .before .before .before .before .before .before .before .before .loop .q) e) (c .before .before .before .before .size .ensures .0) in (omega arith, scan-more _ _ _ _ _ (c .before .before .before .before .before .before .before .scan .inv .1) (sym (c .before .has2 .ensures ∙ ap (has _) state) ∙ not-false _ (c .if2 .left)))
+scan-again c =
+    let o = c .before .before in
+    (omega arith, scan-more _ _ _ _ _ (symbol (listed o) .scan .inv .1) (sym (c .before .has2 .ensures ∙ ap (has _) (next-state o)) ∙ not-false _ (c .if2 .left)))
 
 bit-requires : tie.Need-bit-requires Inv-scan μ-scan Inv-loop μ-loop
 bit-requires c κs = search needs
 
 sub-left : tie.Need-sub-left Inv-scan μ-scan Inv-loop μ-loop
-sub-left c = let a = c .before .before .before .before .before .before .before .before .args in let q = c .before .before .before .before .before .before .before .loop .q in leave-room _ _ _ _ _ _ _ _ (c .before .before .before .before .before .before .before .loop .inv .1) (omega arith) (sym (c .before .before .before .before .before .has .ensures) ∙ c .before .before .before .before .if1 .taken) (⊎-elim (λ x. absurd {A = leads (a .next .now) (a .free .now) (a .u) (bitOr (a .set) (a .intermediate)) q ≡ false} (omega arith)) (λ x. let state = x .4 .ensures .0 ∙ ap (λ e. goes (a .next .now) q e) (x .2 .ensures .0) in scan-fails _ _ _ _ (c .before .before .before .scan .k) _ (x .0 .taken) (sym (x .5 .ensures ∙ ap (has _) state) ∙ not-true _ (x .6 .taken))) (c .before .before .scan-test .came)) (c .bit .ensures)
+sub-left c =
+    let s = c .before .before in
+    let t = s .before .before in
+    leave-room _ _ _ _ _ _ _ _ (state (s .before) .loop .inv .1) (omega arith) (sym (t .before .has .ensures) ∙ t .if1 .taken) (leads-out s (c .before .if3 .taken)) (c .bit .ensures)
 
 add-q : tie.Need-add-q Inv-scan μ-scan Inv-loop μ-loop
 add-q c = search needs
@@ -77,7 +121,19 @@ loop-less : tie.Need-loop-less Inv-scan μ-scan Inv-loop μ-loop
 loop-less c = search needs
 
 loop-again : tie.Need-loop-again Inv-scan μ-scan Inv-loop μ-loop
-loop-again c = let a = c .before .before .before .before .args in let q = c .before .before .before .loop .q in let s = c .before .before .before .loop .inv .1 in (omega arith, ⊎-elim (λ w. rw (w .5) (leave-taken _ _ _ _ _ _ _ _ s (omega arith) (sym (c .before .has .ensures) ∙ w .0 .taken) (⊎-elim (λ x. absurd {A = leads (a .next .now) (a .free .now) (a .u) (bitOr (a .set) (a .intermediate)) q ≡ false} (omega arith)) (λ x. let state = x .4 .ensures .0 ∙ ap (λ e. goes (a .next .now) q e) (x .2 .ensures .0) in scan-fails _ _ _ _ (w .1 .k) _ (x .0 .taken) (sym (x .5 .ensures ∙ ap (has _) state) ∙ not-true _ (x .6 .taken))) (w .2 .came)) (w .4 .ensures))) (⊎-elim (λ w. let e : w .1 .k ≡ a .u = omega arith in rw (w .4) (leave-stays _ _ _ _ _ _ _ _ s (rw e at (w .1 .inv .1)))) (λ w. rw (w .1) (leave-absent _ _ _ _ _ _ _ _ s (sym (c .before .has .ensures) ∙ w .0 .left)))) (c .if1 .came))
+loop-again c =
+    let h = c .before in
+    let o = h .before .before in
+    let s = o .loop .inv .1 in (
+      omega arith,
+      ⊎-elim
+          (λ w. let l : tie.Left-scan Inv-scan μ-scan Inv-loop μ-loop = record { before = record { before = record { before = h; if1 = w .0 }; scan = w .1 }; scan-test = w .2 } in
+          rw (w .5) (leave-taken _ _ _ _ _ _ _ _ s (omega arith) (sym (h .has .ensures) ∙ w .0 .taken) (leads-out l (w .3 .taken)) (w .4 .ensures)))
+          (⊎-elim
+          (λ w. let e : w .1 .k ≡ start o .args .u = omega arith in rw (w .4) (leave-stays _ _ _ _ _ _ _ _ s (rw e at (w .1 .inv .1))))
+          (λ w. rw (w .1) (leave-absent _ _ _ _ _ _ _ _ s (sym (h .has .ensures) ∙ w .0 .left))))
+          (c .if1 .came),
+    )
 
 returns : tie.Need-returns Inv-scan μ-scan Inv-loop μ-loop
 returns c = leave-all _ _ _ _ _ _ _ _ (c .before .loop .inv .1) (omega arith)

@@ -16,6 +16,17 @@ Inv-loop next n symbol goal set₀ q₀ set q = (q ≤ n) × (set ≡ mask q (λ
 abbrev μ-loop : tie.MeasureT-loop
 μ-loop next n symbol goal set₀ q₀ set q = n - q
 
+-- The places that later needs look back to.
+
+abbrev turn : tie.After-size Inv-loop μ-loop → tie.At-loop Inv-loop μ-loop
+turn c = c .before .before .before
+
+-- whether the state leads into the set
+leads : (c : tie.After-has Inv-loop μ-loop) → let o = turn (c .before) in
+    let a = o .before .args in
+    c .has .result ≡ has (a .goal) (goes (a .next .now) (o .loop .q) (a .symbol))
+leads c = c .has .ensures ∙ ap (has _) (c .before .size .ensures .0)
+
 loop-holds : tie.Need-loop-holds Inv-loop μ-loop
 unfolding mask
 loop-holds c = (omega arith, refl)
@@ -33,13 +44,15 @@ size-requires : tie.Need-size-requires Inv-loop μ-loop
 size-requires c κs = search needs
 
 has-requires : tie.Need-has-requires Inv-loop μ-loop
-has-requires c κs = omega (arith, c .size .ensures .0, c .before .before .before .before .pre .1 (c .before .before .before .loop .q * 16 + c .before .before .before .before .args .symbol))
+has-requires c κs =
+    let o = turn c in
+    omega (arith, c .size .ensures .0, o .before .pre .1 (o .loop .q * 16 + o .before .args .symbol))
 
 bit-requires : tie.Need-bit-requires Inv-loop μ-loop
 bit-requires c κs = search needs
 
 add-set : tie.Need-add-set Inv-loop μ-loop
-add-set c = omega (arith, mask-room _ _ _ (c .before .before .before .before .before .before .loop .inv .1) 32 (omega arith) (c .bit .ensures))
+add-set c = omega (arith, mask-room _ _ _ (turn (c .before .before .before) .loop .inv .1) 32 (omega arith) (c .bit .ensures))
 
 add-q : tie.Need-add-q Inv-loop μ-loop
 add-q c = search needs
@@ -48,7 +61,15 @@ loop-less : tie.Need-loop-less Inv-loop μ-loop
 loop-less c = search needs
 
 loop-again : tie.Need-loop-again Inv-loop μ-loop
-loop-again c = let leads = c .before .has .ensures ∙ ap (has _) (c .before .before .size .ensures .0) in (omega arith, ⊎-elim (λ w. w .2 ∙ mask-adds _ _ _ (c .before .before .before .before .before .loop .inv .1) (w .1 .ensures) (sym leads ∙ w .0 .taken)) (λ w. w .1 ∙ mask-passes _ _ _ (c .before .before .before .before .before .loop .inv .1) (sym leads ∙ w .0 .left)) (c .if1 .came))
+loop-again c =
+    let h = c .before in
+    let v = turn (h .before) .loop .inv .1 in (
+      omega arith,
+      ⊎-elim
+          (λ w. w .2 ∙ mask-adds _ _ _ v (w .1 .ensures) (sym (leads h) ∙ w .0 .taken))
+          (λ w. w .1 ∙ mask-passes _ _ _ v (sym (leads h) ∙ w .0 .left))
+          (c .if1 .came),
+    )
 
 returns : tie.Need-returns Inv-loop μ-loop
 unfolding predecessors

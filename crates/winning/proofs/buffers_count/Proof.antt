@@ -1,11 +1,25 @@
-use mathlib.Core.Path.{sym, _∙_}
+-- Row 11, then the count.
+use mathlib.Core.Bool.{true}
+use mathlib.Core.Path.{_≡_, sym, _∙_}
 use borrow.Author.Tests.{not-true, not-false}
+use Rattle.automaton.specs.Automaton.{valid}
 use Rattle.automaton.proofs.Facts.{valid-facts}
 use Rattle.winning.proofs.Answers.{count-refused, count-given, buffers-few, buffers-all, buffers-fit}
 use native.Mathlib.Omega.{arith}
 use borrow.Author.Needs.{needs}
 use Rattle.winning.proofs.buffers_count.Statement.{statement}
 use Rattle.winning.proofs.buffers_count.Tie as tie
+
+-- The places that later needs look back to, and what stands there.
+
+abbrev passed : tie.After-size → tie.Else1
+passed c = c .before .before .before
+
+abbrev symbols : tie.After-size2 → tie.After-size
+symbols c = c .before .before
+
+stands : (c : tie.Else1) → valid (c .before .before .args .t1) ≡ true
+stands c = sym (c .before .valid .ensures) ∙ not-false _ (c .if1 .left)
 
 valid-requires : tie.Need-valid-requires
 valid-requires c κs = search needs
@@ -17,19 +31,28 @@ size-requires : tie.Need-size-requires
 size-requires c κs = search needs
 
 controllable-in-requires : tie.Need-controllable-in-requires
-controllable-in-requires c κs = omega (arith, c .size .ensures .0, valid-facts _ (sym (c .before .before .before .before .valid .ensures) ∙ not-false _ (c .before .before .before .if1 .left)) .symbols-high)
+controllable-in-requires c κs = omega (arith, c .size .ensures .0, valid-facts _ (stands (passed c)) .symbols-high)
 
 size-requires-2 : tie.Need-size-requires-2
 size-requires-2 c κs = search needs
 
 buffers-to-requires : tie.Need-buffers-to-requires
-buffers-to-requires c κs = buffers-few _ (sym (c .before .before .before .before .before .before .valid .ensures) ∙ not-false _ (c .before .before .before .before .before .if1 .left)) _ _ _ (c .before .before .size .ensures .0) (c .size2 .ensures .0) (c .before .controllable-in .ensures)
+buffers-to-requires c κs =
+    let s = symbols c in
+    buffers-few _ (stands (passed s)) _ _ _ (s .size .ensures .0) (c .size2 .ensures .0) (c .before .controllable-in .ensures)
 
 cast-t11 : tie.Need-cast-t11
-cast-t11 c = omega (arith, c .buffers-to .ensures, buffers-fit _ (sym (c .before .before .before .before .before .before .before .valid .ensures) ∙ not-false _ (c .before .before .before .before .before .before .if1 .left)) _ _ _ (c .before .before .before .size .ensures .0) (c .before .size2 .ensures .0) (c .before .before .controllable-in .ensures))
+cast-t11 c =
+    let o = c .before in
+    let s = symbols o in
+    omega (arith, c .buffers-to .ensures, buffers-fit _ (stands (passed s)) _ _ _ (s .size .ensures .0) (o .size2 .ensures .0) (o .before .controllable-in .ensures))
 
 returns-2 : tie.Need-returns-2
-returns-2 c = let v = sym (c .before .before .before .before .before .before .before .valid .ensures) ∙ not-false _ (c .before .before .before .before .before .before .if1 .left) in count-given _ v _ (c .buffers-to .ensures ∙ buffers-all _ v _ _ _ (c .before .before .before .size .ensures .0) (c .before .size2 .ensures .0) (c .before .before .controllable-in .ensures))
+returns-2 c =
+    let o = c .before in
+    let s = symbols o in
+    let v = stands (passed s) in
+    count-given _ v _ (c .buffers-to .ensures ∙ buffers-all _ v _ _ _ (s .size .ensures .0) (o .size2 .ensures .0) (o .before .controllable-in .ensures))
 
 pub buffers-count-spec : {M : Type 1} → statement M
 buffers-count-spec =
