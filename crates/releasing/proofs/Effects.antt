@@ -4,21 +4,20 @@ use mathlib.Core.Path.{_≡_, refl, _∙_, ap}
 use mathlib.Core.Bool.{true}
 use mathlib.Core.List.{List, [], _∷_}
 use native.Mathlib.Omega.{arith}
-use lib.Dec.{leb, ltb}
 use lib.ListN.{length, take, drop, length-append, length-drop}
 use lib.Seq.{length-take-le}
-use borrow.Author.Tests.{ltb-true, leb-false}
-use Rattle.base.specs.Rows.{first}
-use Rattle.base.proofs.Bools.{by}
+use Rattle.base.proofs.Bools.{by, either}
 use Rattle.automaton.specs.declared.Automaton.{Automaton}
 use Rattle.automaton.specs.Automaton.{controllable, run, valid}
 use Rattle.automaton.proofs.Facts.{valid-facts}
+use Rattle.automaton.proofs.Classes.{class-one}
 use Rattle.automaton.proofs.Running.{run-append}
 use Rattle.sets.specs.Table.{Buffer}
 use Rattle.sets.proofs.Total.{Total, run-below}
 use Rattle.sets.proofs.Buffers.{buffer-drop, buffer-end}
-use Rattle.releasing.specs.Step.{Rest, release, Effect, remaining, arrival, effect, eventRows, eventRefusal}
+use Rattle.releasing.specs.Step.{Rest, release, Effect, remaining, arrival, effect, eventRefusal}
 use Rattle.releasing.proofs.Longest.{release-le, release-same}
+use Rattle.releasing.proofs.Worded.{event-rows-as-worded}
 
 -- a state and a buffer that can occur
 pub record Occurs (a : Automaton) (q : ℕ) (w : List ℕ) : Type 0 where
@@ -34,15 +33,9 @@ Agree a rest other = (w : List ℕ) (q : ℕ) → Occurs a q w → rest w q ≡ 
 
 -- an accepted event: a symbol, and room for it where it is controllable
 pub accepted-facts : (a : Automaton) (w : List ℕ) (e : ℕ) → eventRefusal a w e ≡ 0 → (e < a .symbols) × (controllable a e ≡ true → length w < a .capacity)
-unfolding eventRefusal eventRows first
-accepted-facts a w e h = (
-  by (ltb e (a .symbols)) (ltb-true e (a .symbols)) (λ u. absurd (let z = rw u at h in omega arith)),
-  λ c. by (leb (a .capacity) (length w))
-      (λ u. by (ltb e (a .symbols))
-      (λ s. absurd (let z = rw (s, c, u) at h in omega arith))
-      (λ s. absurd (let z = rw s at h in omega arith)))
-      (leb-false (a .capacity) (length w)),
-)
+accepted-facts a w e h =
+    let f = event-rows-as-worded a w e .accepted .0 h in
+    (f .0, λ c. either (f .1) (λ no. absurd (no (class-one a e .0 c))) (λ l. l))
 
 -- the buffer after an uncontrollable event
 remaining-buffer : (a : Automaton) (e : ℕ) (w : List ℕ) → Buffer a w → Buffer a (remaining a e w)

@@ -1,6 +1,7 @@
 pub mod Numbers
 pub mod Searching
 pub mod Longest
+pub mod Worded
 pub mod Effects
 pub mod Runs
 pub mod Solved

@@ -1,0 +1,131 @@
+-- The rows of one event and the release, in document 01's words.
+use Prim.Native.Nat.{ℕ, _<_, _≤_}
+use mathlib.Core.Path.{_≡_, sym, _∙_, ap}
+use mathlib.Core.Logic.{_⊎_, inl, inr}
+use mathlib.Core.List.{List, [], _++_}
+use native.Mathlib.Omega.{arith}
+use lib.Dec.{eqb, leb, ltb}
+use lib.ListN.{length, take, drop, length-append, take-append-drop}
+use lib.Seq.{take-append-seam, drop-append-seam, length-take-le}
+use borrow.Author.Tests.{eqb-true, eqb-false, ltb-true, ltb-false, leb-true, leb-false, lt-ltb, le-ltb, le-leb, lt-leb}
+use Rattle.base.specs.Rows.{first}
+use Rattle.base.proofs.Bools.{by, either, clash, refuted}
+use Rattle.automaton.specs.declared.Automaton.{Automaton}
+use Rattle.automaton.specs.Automaton.{class, controllable, run}
+use Rattle.automaton.proofs.Classes.{class-one}
+use Rattle.releasing.specs.Step.{Rest, qualifies, release, eventRows, eventRefusal}
+use Rattle.releasing.specs.Claims.{RowsOfEvent, EventRowsAsWorded, Longest, ReleasesLongest, OnlyLongest}
+use Rattle.releasing.proofs.Longest.{release-is, release-le, release-longest}
+
+module _ (a : Automaton) (w : List ℕ) (e : ℕ) where
+  -- the three conditions: of row 14, of row 15, and of neither
+  abbrev Unknown : Type 0
+  Unknown = a .symbols ≤ e
+
+  abbrev Full : Type 0
+  Full = (e < a .symbols) × (class a e ≡ 1) × (a .capacity ≤ length w)
+
+  abbrev Free : Type 0
+  Free = (e < a .symbols) × ((class a e ≡ 1 → ⊥) ⊎ (length w < a .capacity))
+
+  known : e < a .symbols → Full ⊎ Free
+  known l =
+      by (eqb (class a e) 1)
+      (λ c. by (leb (a .capacity) (length w))
+      (λ h. inl (l, eqb-true (class a e) 1 c, leb-true (a .capacity) (length w) h))
+      (λ h. inr (l, inr (leb-false (a .capacity) (length w) h))))
+      (λ c. inr (l, inl (eqb-false (class a e) 1 c)))
+
+  cases : Unknown ⊎ (Full ⊎ Free)
+  cases = by (ltb e (a .symbols)) (λ h. inr (known (ltb-true e (a .symbols) h))) (λ h. inl (ltb-false e (a .symbols) h))
+
+  -- each number, where its condition holds
+  unknown-14 : Unknown → eventRefusal a w e ≡ 14
+  unfolding eventRefusal eventRows first
+  unknown-14 h = rw (le-ltb e (a .symbols) h)
+
+  full-15 : Full → eventRefusal a w e ≡ 15
+  unfolding eventRefusal eventRows first
+  full-15 (l, c, h) = rw (lt-ltb e (a .symbols) l, class-one a e .1 c, le-leb (a .capacity) (length w) h)
+
+  free-0 : Free → eventRefusal a w e ≡ 0
+  unfolding eventRefusal eventRows first
+  free-0 (l, f) =
+      either f
+      (λ c. rw (lt-ltb e (a .symbols) l, refuted (controllable a e) (λ h. c (class-one a e .0 h))))
+      (λ h. by (controllable a e)
+      (λ c. rw (lt-ltb e (a .symbols) l, c, lt-leb (a .capacity) (length w) h))
+      (λ c. rw (lt-ltb e (a .symbols) l, c)))
+
+  -- one of them holds, so no other number is given
+  given-14 : eventRefusal a w e ≡ 14 → Unknown
+  given-14 n =
+      either cases (λ u. u) (λ k. absurd (either k (λ f. omega (arith, full-15 f)) (λ f. omega (arith, free-0 f))))
+
+  given-15 : eventRefusal a w e ≡ 15 → Full
+  given-15 n =
+      either cases (λ u. absurd (omega (arith, unknown-14 u))) (λ k. either k (λ f. f) (λ f. absurd (omega (arith, free-0 f))))
+
+  given-0 : eventRefusal a w e ≡ 0 → Free
+  given-0 n =
+      either cases (λ u. absurd (omega (arith, unknown-14 u))) (λ k. either k (λ f. absurd (omega (arith, full-15 f))) (λ f. f))
+
+pub event-rows-as-worded : EventRowsAsWorded
+event-rows-as-worded a w e = record {
+  row-14 = (given-14 a w e, unknown-14 a w e);
+  row-15 = (given-15 a w e, full-15 a w e);
+  accepted = (given-0 a w e, free-0 a w e);
+}
+
+-- a list that falls into x and y is cut at the length of x
+module _ (w x y : List ℕ) (j : x ++ y ≡ w) where
+  cut-in : length x ≤ length w
+  cut-in = omega (arith, ap length j, length-append x y)
+
+  cut-take : take (length x) w ≡ x
+  cut-take = ap (take (length x)) (sym j) ∙ take-append-seam x y
+
+  cut-drop : drop (length x) w ≡ y
+  cut-drop = ap (drop (length x)) (sym j) ∙ drop-append-seam x y
+
+module _ (rest : Rest) (a : Automaton) (q : ℕ) (w : List ℕ) where
+  -- the front part x qualifies where the state that it leads to rests with y
+  qualifies-at : (x y : List ℕ) → x ++ y ≡ w → qualifies rest a q w (length x) ≡ rest y (run a q x)
+  unfolding qualifies
+  qualifies-at x y j = rw (cut-take w x y j, cut-drop w x y j)
+
+pub releases-longest : ReleasesLongest
+unfolding qualifies
+releases-longest rest a q w =
+    let k = release rest a q w in
+    record {
+      parts = take-append-drop k w;
+      leads = either (release-is rest a q w)
+          (λ g. inl (g .holds))
+          (λ g. inr (
+            ap (λ n. take n w) (g .1),
+            λ x y j h. clash (qualifies-at rest a q w x y j ∙ h) (g .0 (length x) (let l = cut-in w x y j in omega arith)),
+          ));
+      longest = λ x y j h.
+          let m = release-longest rest a q w (length x) (cut-in w x y j) (qualifies-at rest a q w x y j ∙ h) .1 in
+          omega (arith, length-take-le k w (release-le rest a q w));
+    }
+
+-- two that lead so are no longer than one another
+module _ (P : List ℕ → ℕ → Type 0) (a : Automaton) (q : ℕ) (w v r x y : List ℕ) where
+  equally-long : Longest P a q w v r → Longest P a q w x y → length v ≡ length x
+  equally-long f g =
+      either (f .leads)
+      (λ p. either (g .leads)
+      (λ s. omega (arith, f .longest x y (g .parts) s, g .longest v r (f .parts) p))
+      (λ s. absurd (s .1 v r (f .parts) p)))
+      (λ p. either (g .leads)
+      (λ s. absurd (p .1 x y (g .parts) s))
+      (λ s. ap length (p .0 ∙ sym (s .0))))
+
+pub only-longest : OnlyLongest
+only-longest P a q w v r x y f g =
+    let l = equally-long P a q w v r x y f g in (
+      sym (cut-take w v r (f .parts)) ∙ ap (λ n. take n w) l ∙ cut-take w x y (g .parts),
+      sym (cut-drop w v r (f .parts)) ∙ ap (λ n. drop n w) l ∙ cut-drop w x y (g .parts),
+    )
