@@ -1,7 +1,7 @@
+pub mod Worded
 pub mod Numbers
 pub mod Searching
 pub mod Longest
-pub mod Worded
 pub mod Effects
 pub mod Runs
 pub mod Solved

@@ -1,5 +1,5 @@
 -- The rows of one event and the release, in document 01's words.
-use Prim.Native.Nat.{ℕ, _<_, _≤_}
+use Prim.Native.Nat.{ℕ, suc, _<_, _≤_}
 use mathlib.Core.Path.{_≡_, sym, _∙_, ap}
 use mathlib.Core.Logic.{_⊎_, inl, inr}
 use mathlib.Core.List.{List, [], _++_}
@@ -10,71 +10,63 @@ use lib.Seq.{take-append-seam, drop-append-seam, length-take-le}
 use borrow.Author.Tests.{eqb-true, eqb-false, ltb-true, ltb-false, leb-true, leb-false, lt-ltb, le-ltb, le-leb, lt-leb}
 use Rattle.base.specs.Rows.{first}
 use Rattle.base.proofs.Bools.{by, either, clash, refuted}
+use Rattle.base.proofs.Picking.{last-those}
 use Rattle.automaton.specs.declared.Automaton.{Automaton}
 use Rattle.automaton.specs.Automaton.{class, controllable, run}
 use Rattle.automaton.proofs.Classes.{class-one}
-use Rattle.releasing.specs.Step.{Rest, qualifies, release, eventRows, eventRefusal}
-use Rattle.releasing.specs.Claims.{RowsOfEvent, EventRowsAsWorded, Longest, ReleasesLongest, OnlyLongest}
-use Rattle.releasing.proofs.Longest.{release-is, release-le, release-longest}
+use Rattle.releasing.specs.Step.{Rest, qualifies, qualifying, release, eventRows, eventRefusal}
+use Rattle.releasing.specs.Claims.{Unknown, Full, Taken, EventRowsAsWorded, Longest, ReleasesLongest, OnlyLongest}
 
 module _ (a : Automaton) (w : List ℕ) (e : ℕ) where
-  -- the three conditions: of row 14, of row 15, and of neither
-  abbrev Unknown : Type 0
-  Unknown = a .symbols ≤ e
-
-  abbrev Full : Type 0
-  Full = (e < a .symbols) × (class a e ≡ 1) × (a .capacity ≤ length w)
-
-  abbrev Free : Type 0
-  Free = (e < a .symbols) × ((class a e ≡ 1 → ⊥) ⊎ (length w < a .capacity))
-
-  known : e < a .symbols → Full ⊎ Free
-  known l =
+  -- row 14 holds, or row 15, or neither
+  cases : {R : Type 0} → (Unknown a e → R) → (Full a (length w) e → R) → (Taken a (length w) e → R) → R
+  cases unknown full taken =
+      by (ltb e (a .symbols))
+      (λ h.
+      let l = ltb-true e (a .symbols) h in
       by (eqb (class a e) 1)
       (λ c. by (leb (a .capacity) (length w))
-      (λ h. inl (l, eqb-true (class a e) 1 c, leb-true (a .capacity) (length w) h))
-      (λ h. inr (l, inr (leb-false (a .capacity) (length w) h))))
-      (λ c. inr (l, inl (eqb-false (class a e) 1 c)))
-
-  cases : Unknown ⊎ (Full ⊎ Free)
-  cases = by (ltb e (a .symbols)) (λ h. inr (known (ltb-true e (a .symbols) h))) (λ h. inl (ltb-false e (a .symbols) h))
+      (λ k. full (l, eqb-true (class a e) 1 c, leb-true (a .capacity) (length w) k))
+      (λ k. taken (l, inr (leb-false (a .capacity) (length w) k))))
+      (λ c. taken (l, inl (eqb-false (class a e) 1 c))))
+      (λ h. unknown (ltb-false e (a .symbols) h))
 
   -- each number, where its condition holds
-  unknown-14 : Unknown → eventRefusal a w e ≡ 14
+  unknown-14 : Unknown a e → eventRefusal a w e ≡ 14
   unfolding eventRefusal eventRows first
   unknown-14 h = rw (le-ltb e (a .symbols) h)
 
-  full-15 : Full → eventRefusal a w e ≡ 15
+  full-15 : Full a (length w) e → eventRefusal a w e ≡ 15
   unfolding eventRefusal eventRows first
   full-15 (l, c, h) = rw (lt-ltb e (a .symbols) l, class-one a e .1 c, le-leb (a .capacity) (length w) h)
 
-  free-0 : Free → eventRefusal a w e ≡ 0
+  taken-0 : Taken a (length w) e → eventRefusal a w e ≡ 0
   unfolding eventRefusal eventRows first
-  free-0 (l, f) =
+  taken-0 (l, f) =
       either f
       (λ c. rw (lt-ltb e (a .symbols) l, refuted (controllable a e) (λ h. c (class-one a e .0 h))))
       (λ h. by (controllable a e)
       (λ c. rw (lt-ltb e (a .symbols) l, c, lt-leb (a .capacity) (length w) h))
       (λ c. rw (lt-ltb e (a .symbols) l, c)))
 
-  -- one of them holds, so no other number is given
-  given-14 : eventRefusal a w e ≡ 14 → Unknown
-  given-14 n =
-      either cases (λ u. u) (λ k. absurd (either k (λ f. omega (arith, full-15 f)) (λ f. omega (arith, free-0 f))))
+  -- so there is no other number, and each is given only where its condition holds
+  pub event-number : (eventRefusal a w e ≡ 14) ⊎ ((eventRefusal a w e ≡ 15) ⊎ (eventRefusal a w e ≡ 0))
+  event-number = cases (λ u. inl (unknown-14 u)) (λ f. inr (inl (full-15 f))) (λ f. inr (inr (taken-0 f)))
 
-  given-15 : eventRefusal a w e ≡ 15 → Full
-  given-15 n =
-      either cases (λ u. absurd (omega (arith, unknown-14 u))) (λ k. either k (λ f. f) (λ f. absurd (omega (arith, free-0 f))))
+  given-14 : eventRefusal a w e ≡ 14 → Unknown a e
+  given-14 n = cases (λ u. u) (λ f. absurd (omega (arith, full-15 f))) (λ f. absurd (omega (arith, taken-0 f)))
 
-  given-0 : eventRefusal a w e ≡ 0 → Free
-  given-0 n =
-      either cases (λ u. absurd (omega (arith, unknown-14 u))) (λ k. either k (λ f. absurd (omega (arith, full-15 f))) (λ f. f))
+  given-15 : eventRefusal a w e ≡ 15 → Full a (length w) e
+  given-15 n = cases (λ u. absurd (omega (arith, unknown-14 u))) (λ f. f) (λ f. absurd (omega (arith, taken-0 f)))
+
+  given-0 : eventRefusal a w e ≡ 0 → Taken a (length w) e
+  given-0 n = cases (λ u. absurd (omega (arith, unknown-14 u))) (λ f. absurd (omega (arith, full-15 f))) (λ f. f)
 
 pub event-rows-as-worded : EventRowsAsWorded
 event-rows-as-worded a w e = record {
   row-14 = (given-14 a w e, unknown-14 a w e);
   row-15 = (given-15 a w e, full-15 a w e);
-  accepted = (given-0 a w e, free-0 a w e);
+  accepted = (given-0 a w e, taken-0 a w e);
 }
 
 -- a list that falls into x and y is cut at the length of x
@@ -95,20 +87,26 @@ module _ (rest : Rest) (a : Automaton) (q : ℕ) (w : List ℕ) where
   qualifies-at x y j = rw (cut-take w x y j, cut-drop w x y j)
 
 pub releases-longest : ReleasesLongest
-unfolding qualifies
+unfolding release qualifying qualifies
 releases-longest rest a q w =
     let k = release rest a q w in
+    let last = last-those 0 (suc (length w)) (qualifies rest a q w) in
+    let inside : (x y : List ℕ) → x ++ y ≡ w → length x < suc (length w) = λ x y j. let l = cut-in w x y j in omega arith in
     record {
       parts = take-append-drop k w;
-      leads = either (release-is rest a q w)
+      leads = either last
           (λ g. inl (g .holds))
           (λ g. inr (
             ap (λ n. take n w) (g .1),
-            λ x y j h. clash (qualifies-at rest a q w x y j ∙ h) (g .0 (length x) (let l = cut-in w x y j in omega arith)),
+            λ x y j h. clash (qualifies-at rest a q w x y j ∙ h) (g .0 (length x) (inside x y j)),
           ));
       longest = λ x y j h.
-          let m = release-longest rest a q w (length x) (cut-in w x y j) (qualifies-at rest a q w x y j ∙ h) .1 in
-          omega (arith, length-take-le k w (release-le rest a q w));
+          let qualified = qualifies-at rest a q w x y j ∙ h in
+          either last
+          (λ g.
+          let fits : k ≤ length w = omega (arith, g .below) in
+          omega (arith, g .most (length x) (inside x y j) qualified, length-take-le k w fits))
+          (λ g. absurd (clash qualified (g .0 (length x) (inside x y j))));
     }
 
 -- two that lead so are no longer than one another

@@ -9,12 +9,23 @@ use Rattle.automaton.specs.declared.Automaton.{Automaton}
 use Rattle.automaton.specs.Automaton.{class, run}
 use Rattle.releasing.specs.Step.{Rest, release, eventRefusal}
 
--- n is the number of refusal of an event e with so many held: each row's number exactly when the row
--- holds and none before it, and 0 exactly when none does
+-- row 14: the event is no symbol of the automaton
+abbrev pub Unknown : Automaton → ℕ → Type 0
+Unknown a e = a .symbols ≤ e
+
+-- row 15: it is a controllable one, and the capacity is already held
+abbrev pub Full : Automaton → ℕ → ℕ → Type 0
+Full a held e = (e < a .symbols) × (class a e ≡ 1) × (a .capacity ≤ held)
+
+-- neither
+abbrev pub Taken : Automaton → ℕ → ℕ → Type 0
+Taken a held e = (e < a .symbols) × ((class a e ≡ 1 → ⊥) ⊎ (held < a .capacity))
+
+-- n is the number of refusal of an event with so many held: each row's number exactly when it holds
 pub record RowsOfEvent (a : Automaton) (held e n : ℕ) : Type 0 where
-  pub row-14 : (n ≡ 14) ↔ (a .symbols ≤ e)
-  pub row-15 : (n ≡ 15) ↔ ((e < a .symbols) × (class a e ≡ 1) × (a .capacity ≤ held))
-  pub accepted : (n ≡ 0) ↔ ((e < a .symbols) × ((class a e ≡ 1 → ⊥) ⊎ (held < a .capacity)))
+  pub row-14 : (n ≡ 14) ↔ Unknown a e
+  pub row-15 : (n ≡ 15) ↔ Full a held e
+  pub accepted : (n ≡ 0) ↔ Taken a held e
 
 abbrev pub EventRowsAsWorded : Type 0
 EventRowsAsWorded = (a : Automaton) (w : List ℕ) (e : ℕ) → RowsOfEvent a (length w) e (eventRefusal a w e)
