@@ -2,7 +2,7 @@
 use Prim.Native.Nat.{ℕ, zero, suc, _+_, _*_, _<_, _≤_}
 use mathlib.Core.Path.{_≡_, refl, sym, _∙_, ap}
 use mathlib.Core.Bool.{true, false}
-use mathlib.Core.List.{[], _∷_, _++_, append-nil}
+use mathlib.Core.List.{List, [], _∷_, _++_, map, append-nil}
 use mathlib.Core.Logic.{inl}
 use native.Mathlib.Omega.{arith}
 use lib.ListN.{length, getD, length-replicate, List·getD-append}
@@ -26,20 +26,21 @@ use Rattle.sets.proofs.Paper.{satisfy-definition6, only-definition6}
 use Rattle.sets.proofs.Largest.{is-resting, is-largest, rounds-bounded}
 use Rattle.winning.specs.Solving.{solveRefusal, solvedTable}
 use Rattle.winning.proofs.Answers.{leaves-solved, solves-definition6}
-use Rattle.marked_cases.specs.Cases.{bytesV, bytesW, automatonV, automatonW}
+use Rattle.marked_cases.specs.Cases.{bytesV, bytesW, automatonV, automatonW, answer}
 use Rattle.marked_cases.proofs.Cases.{marked-cases}
 use Rattle.game.specs.Game.{tooLargeIn, gameRefusal}
 use Rattle.game.proofs.Worded.{as-worded}
 use Rattle.game.proofs.Agreement.{agrees, verdict-agrees}
 use Rattle.configuration.specs.Configuration.{heldEvents, controllableSymbol, placeStands, bufferStands, consistentIn, configuration, initialOf}
-use Rattle.releasing.specs.Step.{byTable, qualifies, qualifying, release, remaining, arrival, effect, eventRows, eventRefusal}
-use Rattle.answers.specs.Answers.{callRows, isWinning, callRefusal, status, receiveRefusal, received, room, runRefusal, ran}
-use Rattle.claims.specs.Calls.{handedBack, reply}
-use Rattle.claims.specs.Moments.{effectAt, within, broughtBy, broughtAll, moments}
-use Rattle.claims.specs.Claims.{winningAfter, arrivalAt, rivalRelease, ourRelease}
+use Rattle.releasing.specs.Step.{bySets, byTable, qualifies, qualifying, release, remaining, arrival, effect, eventRows, eventRefusal, runOf}
+use Rattle.answers.specs.Answers.{callRows, isWinning, callRefusal, status, receiveRefusal, received, room, refusedRun, runRefusal, ran}
+use Rattle.claims.specs.Store.{empty, stateOf, added, moved, store, storeAll, lacksRoom, feed, feedAll, refusedOf, acceptedOf, acceptedBy, acceptedAll}
+use Rattle.claims.specs.Calls.{Call, receive, handedBack, reply, fedBy, configurationAt, since, expected, expectedAll}
+use Rattle.claims.specs.Moments.{Moment, effectAt, within, broughtBy, broughtAll, moments}
+use Rattle.claims.specs.Claims.{Enforced, winningAfter, outputAfter, arrivalAt, rivalRelease, ourRelease, rivalOutput, rivalBuffer, LongerLoses}
+use Rattle.claims.specs.Rival.{Lost, lostBound}
 use Rattle.claims.proofs.Tables.{table-exists}
 use Rattle.claims.proofs.Demand3.{demand3, demand3-solved}
-use Rattle.claims.proofs.Rivals.{rivals-lose}
 use Rattle.claims.proofs.Driven.{driven-out}
 use Rattle.claims.proofs.Said.{once-winning-said}
 use Rattle.claims.proofs.Answers.{flag-is-status, flag-stays, others-ignored}
@@ -51,7 +52,7 @@ use Rattle.text.specs.Decimal.{ascii}
 use Rattle.notation.proofs.Laws.{never-longer, room-in-text, read-small, cases-read}
 use Rattle.listing.proofs.Trips.{line-reads-back, packs-shortest, line-bounded, packed-reads-back, cases-unpacked}
 use Rattle.transcript.proofs.Cases.{long-refused}
-use Rattle.instances.proofs.Statements.{filled, paddedV, bytesPadded, tableW, calls, second, eager, Encodings, Solving, Judging, Enforcing, Layouts, textV, Texts}
+use Rattle.instances.proofs.Statements.{filled, paddedV, bytesPadded, tableW, calls, longCalls, page, sign, withdraw, ranTo, eager, Encodings, Solving, Judging, Fields, Day, Enforcing, Layouts, textV, Texts}
 
 valid-w : valid automatonW ≡ true
 valid-w = read-is-valid bytesW automatonW (marked-cases .1 .0)
@@ -175,24 +176,26 @@ judging =
       verdict-agrees = verdict-agrees automatonW (configuration 1 (2 ∷ [])) allowed .1;
     }
 
--- the events of the calls, as they are met
-met : moments automatonW tableW (initialOf automatonW) calls
-    ≡ record { past = []; output = []; state = 0; buffer = []; event = 0 } ∷ second ∷ []
+-- what computes the calls over W's table
+unfoldable computing : ℕ
 unfolding
     each count those lastOr first pad has mask step run controllable controllables controllableIn
     stands placesStand shaped ranged classesStand flagsStand nextStand valid
     heldEvents controllableSymbol placeStands bufferStands consistentIn initialOf
     shorter rank value index buffersCount short
     byTable qualifies qualifying release remaining arrival effect eventRows eventRefusal
-    callRows callRefusal receiveRefusal received handedBack reply
-    effectAt within broughtBy broughtAll moments automatonW
+    callRows callRefusal isWinning status receiveRefusal received room runRefusal ran handedBack reply
+    runOf effectAt within broughtBy broughtAll moments winningAfter automatonW
+computing = 0
+
+-- the accepted events of the calls, as they are met
+met : moments automatonW tableW (initialOf automatonW) calls ≡ page ∷ sign ∷ withdraw ∷ []
+unfolding computing
 met = refl
 
--- there we let nothing go, and an eager one the Page
-longer : length (ourRelease automatonW tableW second) < length (rivalRelease automatonW eager second)
-unfolding
-    each count those lastOr has mask step run controllable controllables controllableIn pad rank value shorter index
-    byTable qualifies qualifying release remaining arrival arrivalAt ourRelease rivalRelease automatonW
+-- after Sign we let nothing go, and an eager one the Page
+longer : length (ourRelease automatonW tableW sign) < length (rivalRelease automatonW eager sign)
+unfolding computing arrivalAt ourRelease rivalRelease
 longer = omega arith
 
 -- S of the empty list has W's states 0 and 1, not 2
@@ -211,39 +214,19 @@ solved-v : Solved automatonV (table automatonV)
 solved-v = rw (append-nil (table automatonV)) at (table-is-solved automatonV valid-v .1 [])
 
 begins-winning : isWinning automatonW tableW (initialOf automatonW) ≡ true
-unfolding
-    each count those lastOr first pad has mask step run controllable controllables controllableIn
-    stands placesStand shaped ranged classesStand flagsStand nextStand valid
-    heldEvents controllableSymbol placeStands bufferStands consistentIn initialOf
-    shorter rank value index buffersCount short
-    byTable qualifies qualifying release remaining arrival effect eventRows eventRefusal
-    callRows callRefusal isWinning status receiveRefusal received automatonW
+unfolding computing
 begins-winning = refl
 
 says-winning : status automatonW tableW (initialOf automatonW) .winning ≡ true
-unfolding
-    each count those lastOr first pad has mask step run controllable controllables controllableIn
-    stands placesStand shaped ranged classesStand flagsStand nextStand valid
-    heldEvents controllableSymbol placeStands bufferStands consistentIn initialOf
-    shorter rank value index buffersCount short
-    byTable qualifies qualifying release remaining arrival effect eventRows eventRefusal
-    callRows callRefusal isWinning status receiveRefusal received automatonW
+unfolding computing
 says-winning = refl
 
 accepts-sign : received automatonW tableW (initialOf automatonW) 0 .refusal ≡ 0
-unfolding
-    each count those lastOr first pad has mask step run controllable controllables controllableIn
-    stands placesStand shaped ranged classesStand flagsStand nextStand valid
-    heldEvents controllableSymbol placeStands bufferStands consistentIn initialOf
-    shorter rank value index buffersCount short
-    byTable qualifies qualifying release remaining arrival effect eventRows eventRefusal
-    callRows callRefusal isWinning status receiveRefusal received automatonW
+unfolding computing
 accepts-sign = refl
 
-stays-winning : winningAfter automatonW tableW (record { past = []; output = []; state = 0; buffer = []; event = 0 }) ≡ true
-unfolding
-    each count those lastOr pad has mask step run controllable controllables controllableIn
-    shorter rank value index byTable qualifies qualifying release remaining arrival effect effectAt winningAfter automatonW
+stays-winning : winningAfter automatonW tableW page ≡ true
+unfolding computing
 stays-winning = refl
 
 leads-to-two : run automatonW (automatonW .initial) (0 ∷ 2 ∷ []) ≡ 2
@@ -254,6 +237,103 @@ both-long : short automatonW tableW ≡ short automatonW (tableW ++ 9 ∷ [])
 unfolding short
 both-long = rw buffers-w refl
 
+-- demand 3 at W
+enforced : (xs : List Call) → Enforced automatonW tableW xs
+enforced = demand3 automatonW tableW valid-w solved-w
+
+-- what the published function answers to the calls, and is after them
+unfoldable publishing : ℕ
+unfolding
+    computing acceptingSet admits stays refine settle settled setsOf emptySets into sets accepts bySets
+    stateOf added moved store storeAll lacksRoom feed feedAll refusedOf acceptedOf acceptedBy acceptedAll
+    fedBy configurationAt since expected expectedAll
+publishing = 0
+
+expected-w : expectedAll automatonW empty calls ≡ receive (answer 0 [] 0 (2 ∷ []) true) ∷ ranTo 0 (2 ∷ []) 2 1 (0 ∷ 1 ∷ 9 ∷ 9 ∷ 9 ∷ []) ∷ []
+unfolding publishing
+expected-w = refl
+
+fed-w : feedAll automatonW empty (map fedBy calls) ≡ record { output = 0 ∷ 1 ∷ []; buffer = 2 ∷ [] }
+unfolding publishing
+fed-w = refl
+
+accepted-w : acceptedAll automatonW empty (map fedBy calls) ≡ 2 ∷ 0 ∷ 1 ∷ []
+unfolding publishing
+accepted-w = refl
+
+alone-w : storeAll automatonW empty (2 ∷ 0 ∷ 1 ∷ []) ≡ record { output = 0 ∷ 1 ∷ []; buffer = 2 ∷ [] }
+unfolding publishing
+alone-w = refl
+
+-- where its output leads
+at-w : configurationAt automatonW (record { output = 0 ∷ 1 ∷ []; buffer = 2 ∷ [] }) ≡ configuration 0 (2 ∷ [])
+unfolding publishing
+at-w = refl
+
+-- of Withdraw, by the list of accepted events
+abbrev Fine : Moment → Type 0
+Fine m = (winningAfter automatonW tableW m ≡ true) × (accepts automatonW (run automatonW (automatonW .initial) (outputAfter automatonW tableW m)) ≡ true)
+
+fine-w : Fine withdraw → (winningAfter automatonW tableW withdraw ≡ true) × (accepts automatonW (run automatonW 0 (0 ∷ 1 ∷ [])) ≡ true)
+unfolding computing outputAfter
+fine-w h = h
+
+lost-w : LongerLoses automatonW tableW sign → Lost automatonW eager (2 ∷ 0 ∷ []) (0 ∷ 2 ∷ []) [] 2
+unfolding computing arrivalAt rivalRelease rivalOutput rivalBuffer lostBound accepts
+lost-w h = h eager longer
+
+pub fields : Fields
+unfolding automatonW
+fields =
+    let all = enforced calls in
+    let replies = all .enforces in
+    let events = all .accounted in
+    let accepted = events .events ∙ accepted-w in
+    let afresh = ap (storeAll automatonW empty) accepted ∙ alone-w in
+    record {
+      each-reply = replies .each-reply ∙ expected-w;
+      all-emitted = replies .all-emitted ∙ ap (λ s. s .output) fed-w;
+      last-configuration = replies .last-configuration ∙ ap (configurationAt automatonW) fed-w ∙ at-w;
+      last-consistent = replies .last-consistent;
+      alone-emitted = all .alone-emitted ∙ ap (λ s. s .output) afresh;
+      alone-configuration = all .alone-configuration ∙ ap (configurationAt automatonW) afresh ∙ at-w;
+      events = accepted;
+      emitted = rw met at (events .emitted) ∙ replies .all-emitted ∙ ap (λ s. s .output) fed-w;
+      history = events .history (page ∷ sign ∷ []) withdraw [] met;
+      leads = rw met at (events .leads) .1 .1 .0;
+      fed = rw met at (events .fed) .1 .1 .0;
+      initially = fine-w (rw met at (all .once-winning .initially begins-winning) .1 .1 .0);
+      later = fine-w (all .once-winning .later [] page (sign ∷ withdraw ∷ []) met stays-winning .1 .1 .0);
+      rivals = lost-w (rw met at (all .rivals) .1 .0);
+    }
+
+-- the long day
+expected-long : expectedAll automatonW empty longCalls
+    ≡ receive (answer 0 [] 0 (2 ∷ []) true)
+    ∷ ranTo 0 (2 ∷ 2 ∷ []) 5 2 (0 ∷ 2 ∷ 3 ∷ 1 ∷ 1 ∷ 9 ∷ 9 ∷ 9 ∷ 9 ∷ 9 ∷ [])
+    ∷ Rattle.claims.specs.Calls.run (refusedRun 16 (configuration 0 (2 ∷ 2 ∷ []))) (9 ∷ 9 ∷ [])
+    ∷ receive (answer 0 (0 ∷ []) 1 (2 ∷ 2 ∷ []) true)
+    ∷ []
+unfolding publishing
+expected-long = refl
+
+fed-long : feedAll automatonW empty (map fedBy longCalls) ≡ record { output = 0 ∷ 2 ∷ 3 ∷ 1 ∷ 1 ∷ 0 ∷ []; buffer = 2 ∷ 2 ∷ [] }
+unfolding publishing
+fed-long = refl
+
+at-long : configurationAt automatonW (record { output = 0 ∷ 2 ∷ 3 ∷ 1 ∷ 1 ∷ 0 ∷ []; buffer = 2 ∷ 2 ∷ [] }) ≡ configuration 1 (2 ∷ 2 ∷ [])
+unfolding publishing
+at-long = refl
+
+pub day : Day
+day =
+    let replies = enforced longCalls .enforces in
+    record {
+      each-reply = replies .each-reply ∙ expected-long;
+      all-emitted = replies .all-emitted ∙ ap (λ s. s .output) fed-long;
+      last-configuration = replies .last-configuration ∙ ap (configurationAt automatonW) fed-long ∙ at-long;
+    }
+
 pub enforcing : Enforcing
 unfolding automatonW
 enforcing =
@@ -261,12 +341,10 @@ enforcing =
       demand3 = demand3 automatonV (table automatonV) valid-v solved-v;
       table-exists = table-exists automatonW valid-w;
       demand3-solved = demand3-solved automatonW (filled 16 9) solves-w;
-      initially-winning = demand3 automatonW tableW valid-w solved-w calls .once-winning .initially begins-winning;
-      rivals-lose = rw met at (rivals-lose automatonW tableW valid-w solved-w calls) .1 .0 eager longer;
       driven-out = driven-out automatonW valid-w [] 2 (omega arith) outside-w eager (0 ∷ 2 ∷ []) (0 ∷ 2 ∷ []) leads-to-two;
       flag-is-status = flag-is-status automatonW tableW (initialOf automatonW) 0 accepts-sign;
       flag-stays = flag-stays automatonW tableW solved-w (initialOf automatonW) says-winning;
-      once-winning-said = once-winning-said automatonW tableW valid-w solved-w calls [] _ (second ∷ []) met stays-winning;
+      once-winning-said = once-winning-said automatonW tableW valid-w solved-w calls [] page (sign ∷ withdraw ∷ []) met stays-winning;
       others-ignored = others-ignored automatonW tableW (tableW ++ 9 ∷ []) both-long same-w (initialOf automatonW);
     }
 
@@ -278,21 +356,11 @@ sevens : length (filled 564 7) ≡ 564
 sevens = length-replicate {A = ℕ} 564 7
 
 refused-14 : received automatonW tableW (configurationOf (filled 8 0)) 4 .refusal ≡ 14
-unfolding
-    each count those lastOr first pad has mask step run controllable controllables controllableIn
-    stands placesStand shaped ranged classesStand flagsStand nextStand valid
-    heldEvents controllableSymbol placeStands bufferStands consistentIn part configurationOf
-    shorter rank value index buffersCount short
-    eventRows eventRefusal callRows callRefusal receiveRefusal received room runRefusal ran automatonW
+unfolding computing part configurationOf
 refused-14 = refl
 
 refused-16 : ran automatonW tableW (configurationOf (filled 8 0)) (0 ∷ []) [] .refusal ≡ 16
-unfolding
-    each count those lastOr first pad has mask step run controllable controllables controllableIn
-    stands placesStand shaped ranged classesStand flagsStand nextStand valid
-    heldEvents controllableSymbol placeStands bufferStands consistentIn part configurationOf
-    shorter rank value index buffersCount short
-    eventRows eventRefusal callRows callRefusal receiveRefusal received room runRefusal ran automatonW
+unfolding computing part configurationOf
 refused-16 = refl
 
 pub layouts : Layouts

@@ -7,24 +7,25 @@ use lib.ListN.{length, getD, replicate}
 use Rattle.base.specs.Each.{count}
 use Rattle.base.specs.Masks.{has}
 use Rattle.varint.specs.Varint.{read, bytes, value}
-use Rattle.automaton.specs.Automaton.{accepts, valid}
+use Rattle.automaton.specs.Automaton.{accepts, run, valid}
 use Rattle.encoding.specs.Reading.{parse, parsed}
 use Rattle.encoding.specs.Writing.{recordBytes}
 use Rattle.sets.specs.Sets.{sets}
 use Rattle.sets.specs.Definition6.{States, Definition6}
 use Rattle.sets.specs.Table.{index, buffersCount, Buffer, table, Solved}
 use Rattle.sets.specs.Claims.{Winning, Intermediate, Resting}
-use Rattle.configuration.specs.Configuration.{configuration, initialOf, initialAnswer}
+use Rattle.configuration.specs.Configuration.{configuration, consistent, initialOf, initialAnswer}
 use Rattle.winning.specs.Solving.{solvedTable}
 use Rattle.game.specs.Game.{mayRest, verdict}
 use Rattle.game.specs.Claims.{Questions}
-use Rattle.answers.specs.Answers.{status, received, ran}
-use Rattle.claims.specs.Calls.{Call, one, replies, configurationAfter}
-use Rattle.claims.specs.Moments.{Moment, moments}
+use Rattle.answers.specs.Answers.{status, received, refusedRun, ran}
+use Rattle.claims.specs.Store.{empty, storeAll}
+use Rattle.claims.specs.Calls.{Call, one, many, Reply, receive, replies, configurationAfter, emittedAll}
+use Rattle.claims.specs.Moments.{Moment, emittedAt}
 use Rattle.claims.specs.Rival.{Lost, lostBound}
-use Rattle.claims.specs.Claims.{Enforced, Stays, rivalOutput, rivalBuffer}
+use Rattle.claims.specs.Claims.{Enforced, acceptedEvents, winningAfter}
 use Rattle.claims.specs.Answers.{SaysWinning, SameAnswers}
-use Rattle.marked_cases.specs.Cases.{bytesV, automatonV, automatonW}
+use Rattle.marked_cases.specs.Cases.{bytesV, automatonV, automatonW, answer}
 use Rattle.layout.specs.Layout.{automatonBytes, automatonOf, configurationBytes, configurationOf, numberBytes, numberOf}
 use Rattle.byte_calls.specs.ByteCalls.{laid, leavesAll}
 use Rattle.text.specs.Decimal.{ascii}
@@ -79,32 +80,77 @@ pub record Judging : Type 0 where
   pub verdict-agrees : verdict automatonW (configuration 1 (2 ∷ [])) .«can_rest»
       ≡ (has (sets automatonW (2 ∷ []) .winning) 1 || has (sets automatonW (2 ∷ []) .intermediate) 1)
 
--- Sign, then Page
+-- Page; then a day with a kind that there is not, Sign and Withdraw, and room for five
 abbrev pub calls : List Call
-calls = one 0 ∷ one 2 ∷ []
+calls = one 2 ∷ many (4 ∷ 0 ∷ 1 ∷ []) (filled 5 9) ∷ []
 
--- the second accepted event of theirs
-abbrev pub second : Moment
-second = record { past = 0 ∷ []; output = 0 ∷ []; state = 1; buffer = []; event = 2 }
+-- its accepted events
+abbrev pub page : Moment
+page = record { past = []; output = []; state = 0; buffer = []; event = 2 }
+
+abbrev pub sign : Moment
+sign = record { past = 2 ∷ []; output = []; state = 0; buffer = 2 ∷ []; event = 0 }
+
+abbrev pub withdraw : Moment
+withdraw = record { past = 2 ∷ 0 ∷ []; output = 0 ∷ []; state = 1; buffer = 2 ∷ []; event = 1 }
+
+-- a day's answer, and what it leaves in the lent output
+abbrev pub ranTo : ℕ → List ℕ → ℕ → ℕ → List ℕ → Reply
+ranTo q held written refused out =
+    Rattle.claims.specs.Calls.run (record { refusal = 0; configuration = configuration q held; length = written; refused = refused }) out
 
 -- the rule that lets every held request go at once
 abbrev pub eager : List ℕ → List ℕ → ℕ
 eager events output = 6
+
+-- every field of demand 3, taken out of the one statement at W and these calls, with its values
+pub record Fields : Type 0 where
+  pub each-reply : replies automatonW tableW (initialOf automatonW) calls
+      ≡ receive (answer 0 [] 0 (2 ∷ []) true) ∷ ranTo 0 (2 ∷ []) 2 1 (0 ∷ 1 ∷ 9 ∷ 9 ∷ 9 ∷ []) ∷ []
+  pub all-emitted : emittedAll (replies automatonW tableW (initialOf automatonW) calls) ≡ 0 ∷ 1 ∷ []
+  pub last-configuration : configurationAfter automatonW tableW (initialOf automatonW) calls ≡ configuration 0 (2 ∷ [])
+  pub last-consistent : consistent automatonW (configurationAfter automatonW tableW (initialOf automatonW) calls) ≡ true
+  pub alone-emitted : emittedAll (replies automatonW tableW (initialOf automatonW) calls) ≡ 0 ∷ 1 ∷ []
+  pub alone-configuration : configurationAfter automatonW tableW (initialOf automatonW) calls ≡ configuration 0 (2 ∷ [])
+  pub events : acceptedEvents automatonW tableW calls ≡ 2 ∷ 0 ∷ 1 ∷ []
+  pub emitted : emittedAt automatonW tableW (page ∷ sign ∷ withdraw ∷ []) ≡ 0 ∷ 1 ∷ []
+  -- of Withdraw: before it were Page and Sign, and Sign was put out; that leads to state 1; and fed them, the function holds the Page
+  pub history : (withdraw .past ≡ map (λ (m : Moment). m .event) (page ∷ sign ∷ []))
+      × (withdraw .output ≡ emittedAt automatonW tableW (page ∷ sign ∷ []))
+  pub leads : run automatonW 0 (0 ∷ []) ≡ 1
+  pub fed : storeAll automatonW empty (2 ∷ 0 ∷ []) ≡ record { output = 0 ∷ []; buffer = 2 ∷ [] }
+  -- winning from the start, and from Page on, W is so after Withdraw, and 0 1 leads to an accepting state
+  pub initially : (winningAfter automatonW tableW withdraw ≡ true) × (accepts automatonW (run automatonW 0 (0 ∷ 1 ∷ [])) ≡ true)
+  pub later : (winningAfter automatonW tableW withdraw ≡ true) × (accepts automatonW (run automatonW 0 (0 ∷ 1 ∷ [])) ≡ true)
+  -- whoever lets the Page go after Sign, inside the day, is lost: some uncontrollable events, at most two, end outside
+  pub rivals : Lost automatonW eager (2 ∷ 0 ∷ []) (0 ∷ 2 ∷ []) [] 2
+
+-- Page; a day of Receipt, Sign, Page, Withdraw, Page, Page, a kind that there is not and Withdraw, with room for ten;
+-- a day of Sign with too little room for it and the two held; Sign
+abbrev pub longCalls : List Call
+longCalls = one 2 ∷ many (3 ∷ 0 ∷ 2 ∷ 1 ∷ 2 ∷ 2 ∷ 4 ∷ 1 ∷ []) (filled 10 9) ∷ many (0 ∷ []) (9 ∷ 9 ∷ []) ∷ one 0 ∷ []
+
+-- demand 3 at W and these calls, worked out
+pub record Day : Type 0 where
+  pub each-reply : replies automatonW tableW (initialOf automatonW) longCalls
+      ≡ receive (answer 0 [] 0 (2 ∷ []) true)
+      ∷ ranTo 0 (2 ∷ 2 ∷ []) 5 2 (0 ∷ 2 ∷ 3 ∷ 1 ∷ 1 ∷ 9 ∷ 9 ∷ 9 ∷ 9 ∷ 9 ∷ [])
+      ∷ Rattle.claims.specs.Calls.run (refusedRun 16 (configuration 0 (2 ∷ 2 ∷ []))) (9 ∷ 9 ∷ [])
+      ∷ receive (answer 0 (0 ∷ []) 1 (2 ∷ 2 ∷ []) true)
+      ∷ []
+  pub all-emitted : emittedAll (replies automatonW tableW (initialOf automatonW) longCalls) ≡ 0 ∷ 2 ∷ 3 ∷ 1 ∷ 1 ∷ 0 ∷ []
+  pub last-configuration : configurationAfter automatonW tableW (initialOf automatonW) longCalls ≡ configuration 1 (2 ∷ 2 ∷ [])
 
 -- demand 3
 pub record Enforcing : Type 0 where
   pub demand3 : (xs : List Call) → Enforced automatonV (table automatonV) xs
   pub table-exists : (t : List ℕ) × Solved automatonW t
   pub demand3-solved : (xs : List Call) → Enforced automatonW (solvedTable automatonW (filled 16 9)) xs
-  pub initially-winning : Stays automatonW tableW (moments automatonW tableW (initialOf automatonW) calls)
-  -- whoever lets the Page go is lost
-  pub rivals-lose : Lost automatonW eager (0 ∷ 2 ∷ []) (rivalOutput automatonW eager second) (rivalBuffer automatonW eager second)
-      (lostBound automatonW (rivalBuffer automatonW eager second))
   pub driven-out : Lost automatonW eager (0 ∷ 2 ∷ []) (0 ∷ 2 ∷ []) [] (lostBound automatonW [])
   pub flag-is-status : status automatonW tableW (received automatonW tableW (initialOf automatonW) 0 .configuration)
       ≡ record { refusal = 0; winning = received automatonW tableW (initialOf automatonW) 0 .winning }
   pub flag-stays : (xs : List Call) → SaysWinning automatonW tableW (configurationAfter automatonW tableW (initialOf automatonW) xs)
-  -- Sign leaves W winning, and so it stays
+  -- Page leaves W winning, and so it stays
   pub once-winning-said : SaysWinning automatonW tableW (configurationAfter automatonW tableW (initialOf automatonW) calls)
   pub others-ignored : SameAnswers automatonW tableW (tableW ++ 9 ∷ []) (initialOf automatonW)
 
