@@ -3,10 +3,11 @@ use Prim.Native.Nat.{ℕ, zero, suc, _+_, _*_, _<_, _≤_}
 use mathlib.Core.Path.{_≡_, refl, sym, _∙_, ap}
 use mathlib.Core.Bool.{true, false}
 use mathlib.Core.List.{List, [], _∷_, _++_, map, append-nil}
-use mathlib.Core.Logic.{inl}
+use mathlib.Core.Logic.{inl, inr}
 use native.Mathlib.Omega.{arith}
-use lib.ListN.{length, getD, length-replicate, List·getD-append}
-use Rattle.base.proofs.Bools.{clash}
+use lib.ListN.{length, getD, take, drop, length-replicate, List·getD-append}
+use borrow.Author.Tests.{le-ltb}
+use Rattle.base.proofs.Bools.{either, clash}
 use Rattle.base.specs.Each.{each, count, those, lastOr}
 use Rattle.base.specs.Rows.{first}
 use Rattle.base.specs.Pad.{pad}
@@ -18,6 +19,7 @@ use Rattle.automaton.specs.Automaton.{controllable, controllables, accepts, ste
 use Rattle.encoding.specs.Reading.{checked, between, itemRow, numbers, runs, one, many, tables, automatonFrom, parse}
 use Rattle.encoding.proofs.Trips.{written-reads-back, read-is-valid, read-again}
 use Rattle.sets.specs.Sets.{acceptingSet, admits, stays, refine, settle, settled, setsOf, emptySets, into, sets}
+use Rattle.sets.specs.Claims.{Winning}
 use Rattle.sets.specs.Table.{index, rank, value, shorter, buffersCount, short, table, Solved}
 use Rattle.sets.proofs.Numbering.{numbered, one-to-one, onto}
 use Rattle.sets.proofs.Growth.{union-adds-nothing}
@@ -31,14 +33,21 @@ use Rattle.marked_cases.proofs.Cases.{marked-cases}
 use Rattle.game.specs.Game.{tooLargeIn, gameRefusal}
 use Rattle.game.proofs.Worded.{as-worded}
 use Rattle.game.proofs.Agreement.{agrees, verdict-agrees}
-use Rattle.configuration.specs.Configuration.{heldEvents, controllableSymbol, placeStands, bufferStands, consistentIn, configuration, initialOf}
+use Rattle.configuration.specs.Configuration.{heldEvents, controllableSymbol, placeStands, bufferStands, consistentIn, consistent, configuration, initialOf}
 use Rattle.releasing.specs.Step.{bySets, byTable, qualifies, qualifying, release, remaining, arrival, effect, eventRows, eventRefusal, runOf}
 use Rattle.answers.specs.Answers.{callRows, isWinning, callRefusal, status, receiveRefusal, received, room, refusedRun, runRefusal, ran}
-use Rattle.claims.specs.Store.{empty, stateOf, added, moved, store, storeAll, lacksRoom, feed, feedAll, refusedOf, acceptedOf, acceptedBy, acceptedAll}
+use Rattle.automaton.proofs.Classes.{class-one}
+use Rattle.releasing.proofs.Worded.{event-rows-as-worded, releases-longest, only-longest}
+use Rattle.releasing.specs.Claims.{Longest}
+use Rattle.answers.specs.Claims.{Clear}
+use Rattle.answers.proofs.Worded.{status-rows-as-worded, receive-rows-as-worded, run-rows-as-worded}
+use Rattle.claims.proofs.Published.{follows-published}
+use Rattle.claims.specs.Store.{Store, empty, stateOf, added, moved, store, storeAll, lacksRoom, feed, feedAll, refusedOf, acceptedOf, acceptedBy, acceptedAll}
 use Rattle.claims.specs.Calls.{Call, receive, handedBack, reply, fedBy, configurationAt, since, expected, expectedAll}
 use Rattle.claims.specs.Moments.{Moment, effectAt, within, broughtBy, broughtAll, moments}
 use Rattle.claims.specs.Claims.{Enforced, winningAfter, outputAfter, arrivalAt, rivalRelease, ourRelease, rivalOutput, rivalBuffer, LongerLoses}
 use Rattle.claims.specs.Rival.{Lost, lostBound}
+use Rattle.claims.specs.Published.{Releases}
 use Rattle.claims.proofs.Tables.{table-exists}
 use Rattle.claims.proofs.Demand3.{demand3, demand3-solved}
 use Rattle.claims.proofs.Driven.{driven-out}
@@ -52,7 +61,7 @@ use Rattle.text.specs.Decimal.{ascii}
 use Rattle.notation.proofs.Laws.{never-longer, room-in-text, read-small, cases-read}
 use Rattle.listing.proofs.Trips.{line-reads-back, packs-shortest, line-bounded, packed-reads-back, cases-unpacked}
 use Rattle.transcript.proofs.Cases.{long-refused}
-use Rattle.instances.proofs.Statements.{filled, paddedV, bytesPadded, tableW, calls, longCalls, page, sign, withdraw, ranTo, eager, Encodings, Solving, Judging, Fields, Day, Enforcing, Layouts, textV, Texts}
+use Rattle.instances.proofs.Statements.{filled, paddedV, bytesPadded, tableW, calls, longCalls, page, sign, withdraw, ranTo, eager, Encodings, Solving, Judging, Fields, Day, wideV, Rows, storeOf, Releasing, Enforcing, Layouts, textV, Texts}
 
 valid-w : valid automatonW ≡ true
 valid-w = read-is-valid bytesW automatonW (marked-cases .1 .0)
@@ -346,6 +355,96 @@ enforcing =
       flag-stays = flag-stays automatonW tableW solved-w (initialOf automatonW) says-winning;
       once-winning-said = once-winning-said automatonW tableW valid-w solved-w calls [] page (sign ∷ withdraw ∷ []) met stays-winning;
       others-ignored = others-ignored automatonW tableW (tableW ++ 9 ∷ []) both-long same-w (initialOf automatonW);
+    }
+
+-- V's start, with its table
+clear-v : Clear automatonV (table automatonV) (initialOf automatonV)
+unfolding computing automatonV
+clear-v = record { record-valid = valid-v; table-long = le-ltb (length (table automatonV)) _ (solved-v .long); configuration-consistent = refl }
+
+clear-w : Clear automatonW tableW (configuration 0 (2 ∷ 2 ∷ []))
+unfolding computing
+clear-w = record { record-valid = valid-w; table-long = refl; configuration-consistent = refl }
+
+wide-invalid : valid wideV ≡ false
+unfolding computing automatonV
+wide-invalid = refl
+
+short-v : short automatonV (filled 3 0) ≡ true
+unfolding computing automatonV
+short-v = refl
+
+three-inconsistent : consistent automatonV (configuration 3 []) ≡ false
+unfolding computing automatonV
+three-inconsistent = refl
+
+pub rows : Rows
+unfolding automatonV automatonW pad heldEvents initialOf
+rows =
+    record {
+      class-one = class-one automatonW 2 .1 refl;
+      row-11 = status-rows-as-worded wideV (table automatonV) (initialOf automatonV) .first-rows .row-11 .1 wide-invalid;
+      row-12 = status-rows-as-worded automatonV (filled 3 0) (initialOf automatonV) .first-rows .row-12 .1 (valid-v, short-v);
+      row-13 = status-rows-as-worded automatonV (table automatonV) (configuration 3 []) .first-rows .row-13 .1
+          (valid-v, clear-v .table-long, three-inconsistent);
+      passed = status-rows-as-worded automatonV (table automatonV) (initialOf automatonV) .accepted .1 clear-v;
+      row-14 = receive-rows-as-worded automatonV (table automatonV) (initialOf automatonV) 2 .row-14 .1 (clear-v, omega arith);
+      row-15 = receive-rows-as-worded automatonW tableW (configuration 0 (2 ∷ 2 ∷ [])) 2 .row-15 .1 (clear-w, (omega arith, refl, omega arith));
+      row-16 = run-rows-as-worded automatonV (table automatonV) (initialOf automatonV) (0 ∷ 1 ∷ []) (9 ∷ []) .row-16 .1 (clear-v, omega arith);
+      only-14 = λ w e. event-rows-as-worded automatonW w e .row-14 .0;
+      only-15 = λ w h. event-rows-as-worded automatonW w 2 .row-15 .0 h .2;
+      only-0 = λ w h. either (event-rows-as-worded automatonW w 2 .accepted .0 h .1) (λ c. absurd (c refl)) (λ l. l);
+      only-16 = λ out h. run-rows-as-worded automatonV (table automatonV) (initialOf automatonV) (0 ∷ 1 ∷ []) out .row-16 .0 h .1;
+    }
+
+-- W's longest release
+longest-w : (q : ℕ) (w : List ℕ) → let k = release (bySets automatonW) automatonW q w in Longest (Winning automatonW) automatonW q w (take k w) (drop k w)
+unfolding bySets
+longest-w = releases-longest (bySets automatonW) automatonW
+
+both-go : release (bySets automatonW) automatonW 1 (2 ∷ 3 ∷ []) ≡ 2
+unfolding publishing
+both-go = refl
+
+page-stays : release (bySets automatonW) automatonW 1 (2 ∷ []) ≡ 0
+unfolding publishing
+page-stays = refl
+
+none-goes : release (bySets automatonW) automatonW 3 (2 ∷ []) ≡ 0
+unfolding publishing
+none-goes = refl
+
+signed : run automatonW (automatonW .initial) (0 ∷ []) ≡ 1
+unfolding computing
+signed = refl
+
+-- a release that leads W where it may rest, and is the longest, is the function's
+fixed : (output w v r : List ℕ) (z : Store) → Releases automatonW output w z → Longest (Winning automatonW) automatonW (run automatonW (automatonW .initial) output) w v r
+    → z ≡ storeOf (output ++ v) r
+fixed output w v r z g l =
+    let o = only-longest (Winning automatonW) automatonW (run automatonW (automatonW .initial) output) w (g .front) (z .buffer) v r (g .longest) l in
+    λ i. record { output = (g .put-out ∙ ap (λ x. output ++ x) (o .0)) i; buffer = o .1 i }
+
+pub releasing : Releasing
+unfolding automatonW pad storeAll
+releasing =
+    let go = rw both-go at (longest-w 1 (2 ∷ 3 ∷ [])) in
+    let stay = rw page-stays at (longest-w 1 (2 ∷ [])) in
+    let free = follows-published automatonW (storeOf [] (2 ∷ 3 ∷ [])) in
+    let signed-on = follows-published automatonW (storeOf (0 ∷ []) []) in
+    let full = follows-published automatonW (storeOf [] (2 ∷ 2 ∷ [])) in
+    record {
+      released = go;
+      only = λ v r l. only-longest (Winning automatonW) automatonW 1 (2 ∷ 3 ∷ []) v r (2 ∷ 3 ∷ []) [] l go;
+      none = rw none-goes at (longest-w 3 (2 ∷ []));
+      passes = fixed (0 ∷ []) (2 ∷ 3 ∷ []) (2 ∷ 3 ∷ []) [] _ (free .passes 0 (omega arith) (λ c. omega arith)) (rw signed go);
+      holds = fixed (0 ∷ []) (2 ∷ []) [] (2 ∷ []) _ (signed-on .holds 2 (omega arith) refl (omega arith)) (rw signed stay);
+      full = full .refuses 2 (inr (omega arith, refl, omega arith));
+      unknown = full .refuses 4 (inl (omega arith));
+      day-short = full .day-short (0 ∷ []) 2 (omega arith);
+      day-fed = full .day-fed (0 ∷ []) 3 (omega arith);
+      event-row = full .event-row 2 .row-15 .1 (omega arith, refl, omega arith);
+      day-row = full .day-row (0 ∷ []) (9 ∷ 9 ∷ []) .row-16 .1 (omega arith);
     }
 
 shaped-w : shaped automatonW ≡ true

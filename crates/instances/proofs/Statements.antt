@@ -7,7 +7,8 @@ use lib.ListN.{length, getD, replicate}
 use Rattle.base.specs.Each.{count}
 use Rattle.base.specs.Masks.{has}
 use Rattle.varint.specs.Varint.{read, bytes, value}
-use Rattle.automaton.specs.Automaton.{accepts, run, valid}
+use Rattle.automaton.specs.declared.Automaton.{Automaton}
+use Rattle.automaton.specs.Automaton.{controllable, accepts, run, valid, assembled}
 use Rattle.encoding.specs.Reading.{parse, parsed}
 use Rattle.encoding.specs.Writing.{recordBytes}
 use Rattle.sets.specs.Sets.{sets}
@@ -18,9 +19,11 @@ use Rattle.configuration.specs.Configuration.{configuration, consistent, initia
 use Rattle.winning.specs.Solving.{solvedTable}
 use Rattle.game.specs.Game.{mayRest, verdict}
 use Rattle.game.specs.Claims.{Questions}
-use Rattle.answers.specs.Answers.{status, received, refusedRun, ran}
-use Rattle.claims.specs.Store.{empty, storeAll}
-use Rattle.claims.specs.Calls.{Call, one, many, Reply, receive, replies, configurationAfter, emittedAll}
+use Rattle.releasing.specs.Step.{eventRefusal}
+use Rattle.releasing.specs.Claims.{Longest}
+use Rattle.answers.specs.Answers.{callRefusal, status, receiveRefusal, received, refusedRun, runRefusal, ran}
+use Rattle.claims.specs.Store.{Store, empty, store, storeAll, events, feed}
+use Rattle.claims.specs.Calls.{Call, one, many, Reply, receive, refusalIn, replies, configurationAfter, emittedAll, expected}
 use Rattle.claims.specs.Moments.{Moment, emittedAt}
 use Rattle.claims.specs.Rival.{Lost, lostBound}
 use Rattle.claims.specs.Claims.{Enforced, acceptedEvents, winningAfter}
@@ -101,7 +104,7 @@ ranTo q held written refused out =
 
 -- the rule that lets every held request go at once
 abbrev pub eager : List ℕ → List ℕ → ℕ
-eager events output = 6
+eager past output = 6
 
 -- every field of demand 3, taken out of the one statement at W and these calls, with its values
 pub record Fields : Type 0 where
@@ -153,6 +156,50 @@ pub record Enforcing : Type 0 where
   -- Page leaves W winning, and so it stays
   pub once-winning-said : SaysWinning automatonW tableW (configurationAfter automatonW tableW (initialOf automatonW) calls)
   pub others-ignored : SameAnswers automatonW tableW (tableW ++ 9 ∷ []) (initialOf automatonW)
+
+-- V's record with 40 states
+abbrev pub wideV : Automaton
+wideV =
+    assembled 40 (automatonV .symbols) (automatonV .capacity) (automatonV .initial) (automatonV .classes) (automatonV .accepting)
+    (automatonV .next)
+
+-- the rows of the monitor's calls, the other way too: document 01's examples
+pub record Rows : Type 0 where
+  pub class-one : controllable automatonW 2 ≡ true
+  pub row-11 : callRefusal wideV (table automatonV) (initialOf automatonV) ≡ 11
+  pub row-12 : callRefusal automatonV (filled 3 0) (initialOf automatonV) ≡ 12
+  pub row-13 : callRefusal automatonV (table automatonV) (configuration 3 []) ≡ 13
+  pub passed : callRefusal automatonV (table automatonV) (initialOf automatonV) ≡ 0
+  pub row-14 : receiveRefusal automatonV (table automatonV) (initialOf automatonV) 2 ≡ 14
+  pub row-15 : receiveRefusal automatonW tableW (configuration 0 (2 ∷ 2 ∷ [])) 2 ≡ 15
+  pub row-16 : runRefusal automatonV (table automatonV) (initialOf automatonV) (0 ∷ 1 ∷ []) (9 ∷ []) ≡ 16
+  -- whatever W holds: an event that 14 refuses is none of its four kinds, a Page that 15 refuses finds two held, a Page
+  -- that is accepted finds fewer
+  pub only-14 : (w : List ℕ) (e : ℕ) → eventRefusal automatonW w e ≡ 14 → 4 ≤ e
+  pub only-15 : (w : List ℕ) → eventRefusal automatonW w 2 ≡ 15 → 2 ≤ length w
+  pub only-0 : (w : List ℕ) → eventRefusal automatonW w 2 ≡ 0 → length w < 2
+  pub only-16 : (out : List ℕ) → runRefusal automatonV (table automatonV) (initialOf automatonV) (0 ∷ 1 ∷ []) out ≡ 16 → length out < 2
+
+-- the published function with so much put out and held
+abbrev pub storeOf : List ℕ → List ℕ → Store
+storeOf output buffer = record { output = output; buffer = buffer }
+
+-- the longest release, and the published function by it
+pub record Releasing : Type 0 where
+  -- signed, W lets Page and Receipt go, and nothing else would do; in state 3 no front part does
+  pub released : Longest (Winning automatonW) automatonW 1 (2 ∷ 3 ∷ []) (2 ∷ 3 ∷ []) []
+  pub only : (v r : List ℕ) → Longest (Winning automatonW) automatonW 1 (2 ∷ 3 ∷ []) v r → (v ≡ 2 ∷ 3 ∷ []) × (r ≡ [])
+  pub none : Longest (Winning automatonW) automatonW 3 (2 ∷ []) [] (2 ∷ [])
+  -- Sign passes and takes them along; after it a Page is held; a third Page and an event that is no kind change nothing
+  pub passes : store automatonW (storeOf [] (2 ∷ 3 ∷ [])) 0 ≡ storeOf (0 ∷ 2 ∷ 3 ∷ []) []
+  pub holds : store automatonW (storeOf (0 ∷ []) []) 2 ≡ storeOf (0 ∷ []) (2 ∷ [])
+  pub full : store automatonW (storeOf [] (2 ∷ 2 ∷ [])) 2 ≡ storeOf [] (2 ∷ 2 ∷ [])
+  pub unknown : store automatonW (storeOf [] (2 ∷ 2 ∷ [])) 4 ≡ storeOf [] (2 ∷ 2 ∷ [])
+  -- a day of Sign with two held wants room for three
+  pub day-short : feed automatonW (storeOf [] (2 ∷ 2 ∷ [])) (events (0 ∷ []) 2) ≡ storeOf [] (2 ∷ 2 ∷ [])
+  pub day-fed : feed automatonW (storeOf [] (2 ∷ 2 ∷ [])) (events (0 ∷ []) 3) ≡ store automatonW (storeOf [] (2 ∷ 2 ∷ [])) 0
+  pub event-row : refusalIn (expected automatonW (storeOf [] (2 ∷ 2 ∷ [])) (one 2)) ≡ 15
+  pub day-row : refusalIn (expected automatonW (storeOf [] (2 ∷ 2 ∷ [])) (many (0 ∷ []) (9 ∷ 9 ∷ []))) ≡ 16
 
 -- what lies where in lent bytes
 pub record Layouts : Type 0 where
