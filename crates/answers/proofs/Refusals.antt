@@ -14,6 +14,7 @@ use Rattle.configuration.specs.Configuration.{consistent}
 use Rattle.configuration.proofs.Facts.{Consistent, consistent-facts}
 use Rattle.base.proofs.Bools.{by}
 use Rattle.answers.specs.Answers.{tableRows, configurationRows, callRows, callRefusal}
+pub use Rattle.answers.specs.Claims.{Clear}
 
 pub rows-pass : (a : Automaton) (t : List ℕ) (c : Configuration) → valid a ≡ true → short a t ≡ false → consistent a c ≡ true
     → (rows : List (ℕ × Bool)) → first (callRows a t c ++ rows) ≡ first rows
@@ -39,12 +40,7 @@ module _ (a : Automaton) (t : List ℕ) (c : Configuration) where
   status-clear v s k = rw (v, s, k)
 
   -- no row stands
-  pub record Clear : Type 0 where
-    pub record-valid : valid a ≡ true
-    pub table-long : short a t ≡ false
-    pub configuration-consistent : consistent a c ≡ true
-
-  pub clear : callRefusal a t c ≡ 0 → Clear
+  pub clear : callRefusal a t c ≡ 0 → Clear a t c
   clear h =
       by (valid a)
       (λ v. by (short a t)
@@ -64,7 +60,7 @@ module _ (a : Automaton) (t : List ℕ) (c : Configuration) where
       (λ s. by (consistent a c) (λ k. absurd (z (status-clear v s k))) (λ k. rw (v, s, k))))
       (λ v. rw v)
 
-  module _ (k : Clear) where
+  module _ (k : Clear a t c) where
     pub facts : Valid a
     facts = valid-facts a (k .record-valid)
 

@@ -1,3 +1,4 @@
+pub mod Published
 pub mod Stores
 pub mod Alone
 pub mod Replies

@@ -29,6 +29,11 @@ unfoldable pub handedBack : Reply → Configuration
 handedBack (receive r) = r .configuration
 handedBack (run r out) = r .configuration
 
+-- its number of refusal
+unfoldable pub refusalIn : Reply → ℕ
+refusalIn (receive r) = r .refusal
+refusalIn (run r out) = r .refusal
+
 -- the symbols that it emitted
 unfoldable pub emittedBy : Reply → List ℕ
 emittedBy (receive r) = take (r .count) (r .emitted)

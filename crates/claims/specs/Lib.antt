@@ -4,3 +4,4 @@ pub mod Moments
 pub mod Rival
 pub mod Claims
 pub mod Answers
+pub mod Published

@@ -1,48 +1,36 @@
 -- The instances.
-use Prim.Native.Nat.{ℕ, zero, suc, _+_, _*_, _<_, _≤_}
-use mathlib.Core.Path.{_≡_, refl, sym, _∙_, ap}
+use Prim.Native.Nat.{ℕ, zero, suc, _*_, _<_, _≤_}
+use mathlib.Core.Path.{_≡_, refl, _∙_, ap}
 use mathlib.Core.Bool.{true, false}
-use mathlib.Core.List.{[], _∷_, _++_, append-nil}
+use mathlib.Core.List.{[], _∷_}
 use mathlib.Core.Logic.{inl}
 use native.Mathlib.Omega.{arith}
-use lib.ListN.{length, getD, length-replicate, List·getD-append}
+use lib.ListN.{length, getD, length-replicate}
 use Rattle.base.proofs.Bools.{clash}
-use Rattle.base.specs.Each.{each, count, those, lastOr}
+use Rattle.base.specs.Each.{each, count}
 use Rattle.base.specs.Rows.{first}
 use Rattle.base.specs.Pad.{pad}
 use Rattle.base.specs.Masks.{has, mask}
 use Rattle.varint.specs.Varint.{groups, read}
 use Rattle.varint.proofs.Trips.{reads-back, fewest}
-use Rattle.automaton.specs.Parts.{controllableIn, stands, placesStand}
-use Rattle.automaton.specs.Automaton.{controllable, controllables, accepts, step, run, shaped, ranged, classesStand, flagsStand, nextStand, valid}
-use Rattle.encoding.specs.Reading.{checked, between, itemRow, numbers, runs, one, many, tables, automatonFrom, parse}
-use Rattle.encoding.proofs.Trips.{written-reads-back, read-is-valid, read-again}
+use Rattle.automaton.specs.Parts.{controllableIn}
+use Rattle.automaton.specs.Automaton.{controllable, controllables, accepts, step, shaped}
+use Rattle.encoding.proofs.Trips.{written-reads-back, read-again}
 use Rattle.sets.specs.Sets.{acceptingSet, admits, stays, refine, settle, settled, setsOf, emptySets, into, sets}
-use Rattle.sets.specs.Table.{index, rank, value, shorter, buffersCount, short, table, Solved}
+use Rattle.sets.specs.Table.{index, rank, value, shorter, buffersCount}
 use Rattle.sets.proofs.Numbering.{numbered, one-to-one, onto}
 use Rattle.sets.proofs.Growth.{union-adds-nothing}
 use Rattle.sets.proofs.Tables.{table-is-solved}
 use Rattle.sets.proofs.Paper.{satisfy-definition6, only-definition6}
 use Rattle.sets.proofs.Largest.{is-resting, is-largest, rounds-bounded}
-use Rattle.winning.specs.Solving.{solveRefusal, solvedTable}
-use Rattle.winning.proofs.Answers.{leaves-solved, solves-definition6}
-use Rattle.marked_cases.specs.Cases.{bytesV, bytesW, automatonV, automatonW}
-use Rattle.marked_cases.proofs.Cases.{marked-cases}
+use Rattle.winning.specs.Solving.{solvedTable}
+use Rattle.winning.proofs.Answers.{solves-definition6}
+use Rattle.marked_cases.specs.Cases.{bytesV, automatonV, automatonW}
 use Rattle.game.specs.Game.{tooLargeIn, gameRefusal}
 use Rattle.game.proofs.Worded.{as-worded}
 use Rattle.game.proofs.Agreement.{agrees, verdict-agrees}
-use Rattle.configuration.specs.Configuration.{heldEvents, controllableSymbol, placeStands, bufferStands, consistentIn, configuration, initialOf}
-use Rattle.releasing.specs.Step.{byTable, qualifies, qualifying, release, remaining, arrival, effect, eventRows, eventRefusal}
-use Rattle.answers.specs.Answers.{tableRows, configurationRows, tableRows, configurationRows, callRows, isWinning, callRefusal, status, receiveRefusal, received, room, runRefusal, ran}
-use Rattle.claims.specs.Calls.{handedBack, reply}
-use Rattle.claims.specs.Moments.{effectAt, within, broughtBy, broughtAll, moments}
-use Rattle.claims.specs.Claims.{winningAfter, arrivalAt, rivalRelease, ourRelease}
-use Rattle.claims.proofs.Tables.{table-exists}
-use Rattle.claims.proofs.Demand3.{demand3, demand3-solved}
-use Rattle.claims.proofs.Rivals.{rivals-lose}
-use Rattle.claims.proofs.Driven.{driven-out}
-use Rattle.claims.proofs.Said.{once-winning-said}
-use Rattle.claims.proofs.Answers.{flag-is-status, flag-stays, others-ignored}
+use Rattle.configuration.specs.Configuration.{heldEvents, controllableSymbol, placeStands, bufferStands, consistentIn, configuration}
+use Rattle.answers.specs.Answers.{received, ran}
 use Rattle.layout.proofs.Trips.{automaton-kept, automaton-bytes-kept, configuration-kept, configuration-bytes-kept, number-kept, refused-event-keeps, refused-run-keeps}
 use Rattle.layout.proofs.Handing.{initial-handed-on, event-handed-on, run-handed-on}
 use Rattle.byte_calls.proofs.ByteCalls.{as-by-value, bytes-enforced}
@@ -51,17 +39,8 @@ use Rattle.text.specs.Decimal.{ascii}
 use Rattle.notation.proofs.Laws.{never-longer, room-in-text, read-small, cases-read}
 use Rattle.listing.proofs.Trips.{line-reads-back, packs-shortest, line-bounded, packed-reads-back, cases-unpacked}
 use Rattle.transcript.proofs.Cases.{long-refused}
-use Rattle.instances.proofs.Statements.{filled, paddedV, bytesPadded, tableW, onePage, calls, second, eager, Encodings, Solving, Judging, Enforcing, Layouts, textV, Texts}
-
-valid-w : valid automatonW ≡ true
-valid-w = read-is-valid bytesW automatonW (marked-cases .1 .0)
-
-read-v : parse paddedV ≡ Rattle.encoding.specs.Reading.parsed automatonV
-unfolding each count pad groups read controllableIn checked between itemRow numbers runs one many tables automatonFrom parse automatonV first
-read-v = refl
-
-valid-v : valid automatonV ≡ true
-valid-v = read-is-valid paddedV automatonV read-v
+use Rattle.instances.proofs.Sheets.{valid-w, read-v, valid-v, solves-w, buffers-w, table-w, solved-w, computing}
+use Rattle.instances.proofs.Statements.{filled, paddedV, bytesPadded, tableW, onePage, Encodings, Solving, Judging, Layouts, textV, Texts}
 
 two-bytes : Rattle.varint.specs.Claims.AreBytes (128 ∷ 0 ∷ [])
 two-bytes zero h = omega arith
@@ -100,29 +79,12 @@ two-rests =
       leads = λ q e _ x u. inl (ap (λ p. step automatonV p e) x ∙ from-two e (u .0));
     }
 
--- what the solver asks of W's table
-solves-w : solveRefusal automatonW (filled 16 9) ≡ 0
-unfolding solveRefusal first short buffersCount shorter controllables controllableIn count automatonW pad
-solves-w = rw valid-w refl
-
 buffer-w : Rattle.sets.specs.Table.Buffer automatonW (2 ∷ 3 ∷ [])
 unfolding controllable automatonW pad
 buffer-w = (((omega arith, refl), ((omega arith, refl), tt)), omega arith)
 
-buffers-w : buffersCount automatonW ≡ 7
-unfolding buffersCount shorter controllables controllableIn count automatonW pad
-buffers-w = refl
-
 five-w : 5 < buffersCount automatonW
 five-w = omega (arith, buffers-w)
-
--- W's table is that of the marked cases
-table-w : solvedTable automatonW (filled 16 9) ≡ tableW
-unfolding solvedTable buffersCount shorter controllables controllableIn count automatonW pad
-table-w = rw (solves-w, marked-cases .1 .1 .1 .0 .0) refl
-
-solved-w : Solved automatonW tableW
-solved-w = rw table-w at (leaves-solved automatonW (filled 16 9) solves-w)
 
 -- S of Page and Receipt has W's state 0
 inside-w : has (sets automatonW (2 ∷ 3 ∷ []) .winning) 0 ≡ true
@@ -175,101 +137,6 @@ judging =
       verdict-agrees = verdict-agrees automatonW onePage allowed .1;
     }
 
--- the events of the calls, as they are met
-met : moments automatonW tableW (initialOf automatonW) calls
-    ≡ record { past = []; output = []; position = record { state = 0; buffer = [] }; event = 0 } ∷ second ∷ []
-unfolding
-    each count those lastOr first pad has mask step run controllable controllables controllableIn
-    stands placesStand shaped ranged classesStand flagsStand nextStand valid
-    heldEvents controllableSymbol placeStands bufferStands consistentIn initialOf
-    shorter rank value index buffersCount short
-    byTable qualifies qualifying release remaining arrival effect eventRows eventRefusal
-    tableRows configurationRows callRows callRefusal receiveRefusal received handedBack reply
-    effectAt within broughtBy broughtAll moments automatonW
-met = refl
-
--- there we let nothing go, and an eager one the Page
-longer : length (ourRelease automatonW tableW second) < length (rivalRelease automatonW eager second)
-unfolding
-    each count those lastOr has mask step run controllable controllables controllableIn pad rank value shorter index
-    byTable qualifies qualifying release remaining arrival arrivalAt ourRelease rivalRelease automatonW
-longer = omega arith
-
--- S of the empty list has W's states 0 and 1, not 2
-outside-w : has (sets automatonW [] .winning) 2 ≡ false
-unfolding each count has mask acceptingSet admits stays refine settle settled setsOf emptySets into sets accepts step controllable automatonW pad
-outside-w = refl
-
--- a longer table has the same bits
-same-w : Rattle.claims.specs.Answers.SameBits automatonW tableW (tableW ++ 9 ∷ [])
-same-w w b q h =
-    let l : 2 * index automatonW w < length tableW = omega (arith, numbered automatonW valid-w w b, buffers-w) in
-    ap (λ x. has x q) (sym (List·getD-append tableW (9 ∷ []) 0 (2 * index automatonW w) l))
-
--- the table that document 01 has for V
-solved-v : Solved automatonV (table automatonV)
-solved-v = rw (append-nil (table automatonV)) at (table-is-solved automatonV valid-v .1 [])
-
-begins-winning : isWinning automatonW tableW (initialOf automatonW) ≡ true
-unfolding
-    each count those lastOr first pad has mask step run controllable controllables controllableIn
-    stands placesStand shaped ranged classesStand flagsStand nextStand valid
-    heldEvents controllableSymbol placeStands bufferStands consistentIn initialOf
-    shorter rank value index buffersCount short
-    byTable qualifies qualifying release remaining arrival effect eventRows eventRefusal
-    tableRows configurationRows callRows callRefusal isWinning status receiveRefusal received automatonW
-begins-winning = refl
-
-says-winning : status automatonW tableW (initialOf automatonW) .winning ≡ true
-unfolding
-    each count those lastOr first pad has mask step run controllable controllables controllableIn
-    stands placesStand shaped ranged classesStand flagsStand nextStand valid
-    heldEvents controllableSymbol placeStands bufferStands consistentIn initialOf
-    shorter rank value index buffersCount short
-    byTable qualifies qualifying release remaining arrival effect eventRows eventRefusal
-    tableRows configurationRows callRows callRefusal isWinning status receiveRefusal received automatonW
-says-winning = refl
-
-accepts-sign : received automatonW tableW (initialOf automatonW) 0 .refusal ≡ 0
-unfolding
-    each count those lastOr first pad has mask step run controllable controllables controllableIn
-    stands placesStand shaped ranged classesStand flagsStand nextStand valid
-    heldEvents controllableSymbol placeStands bufferStands consistentIn initialOf
-    shorter rank value index buffersCount short
-    byTable qualifies qualifying release remaining arrival effect eventRows eventRefusal
-    tableRows configurationRows callRows callRefusal isWinning status receiveRefusal received automatonW
-accepts-sign = refl
-
-stays-winning : winningAfter automatonW tableW (record { past = []; output = []; position = record { state = 0; buffer = [] }; event = 0 }) ≡ true
-unfolding
-    each count those lastOr pad has mask step run controllable controllables controllableIn
-    shorter rank value index byTable qualifies qualifying release remaining arrival effect effectAt winningAfter automatonW
-stays-winning = refl
-
-leads-to-two : run automatonW (automatonW .initial) (0 ∷ 2 ∷ []) ≡ 2
-unfolding run step automatonW pad
-leads-to-two = refl
-
-both-long : short automatonW tableW ≡ short automatonW (tableW ++ 9 ∷ [])
-unfolding short
-both-long = rw buffers-w refl
-
-pub enforcing : Enforcing
-unfolding automatonW
-enforcing =
-    record {
-      demand3 = demand3 automatonV (table automatonV) valid-v solved-v;
-      table-exists = table-exists automatonW valid-w;
-      demand3-solved = demand3-solved automatonW (filled 16 9) solves-w;
-      initially-winning = demand3 automatonW tableW valid-w solved-w calls .once-winning .initially begins-winning;
-      rivals-lose = rw met at (rivals-lose automatonW tableW valid-w solved-w calls) .1 .0 eager longer;
-      driven-out = driven-out automatonW valid-w [] 2 (omega arith) outside-w (automatonW .initial) eager (0 ∷ 2 ∷ []) (0 ∷ 2 ∷ []) leads-to-two;
-      flag-is-status = flag-is-status automatonW tableW (initialOf automatonW) 0 accepts-sign;
-      flag-stays = flag-stays automatonW tableW solved-w (initialOf automatonW) says-winning;
-      once-winning-said = once-winning-said automatonW tableW valid-w solved-w calls [] _ (second ∷ []) met stays-winning;
-      others-ignored = others-ignored automatonW tableW (tableW ++ 9 ∷ []) both-long same-w (initialOf automatonW);
-    }
-
 shaped-w : shaped automatonW ≡ true
 unfolding shaped automatonW pad
 shaped-w = refl
@@ -278,21 +145,11 @@ sevens : length (filled 564 7) ≡ 564
 sevens = length-replicate {A = ℕ} 564 7
 
 refused-14 : received automatonW tableW (configurationOf (filled 8 0)) 4 .refusal ≡ 14
-unfolding
-    each count those lastOr first pad has mask step run controllable controllables controllableIn
-    stands placesStand shaped ranged classesStand flagsStand nextStand valid
-    heldEvents controllableSymbol placeStands bufferStands consistentIn part configurationOf
-    shorter rank value index buffersCount short
-    eventRows eventRefusal tableRows configurationRows callRows callRefusal receiveRefusal received room runRefusal ran automatonW
+unfolding computing part configurationOf
 refused-14 = refl
 
 refused-16 : ran automatonW tableW (configurationOf (filled 8 0)) (0 ∷ []) [] .refusal ≡ 16
-unfolding
-    each count those lastOr first pad has mask step run controllable controllables controllableIn
-    stands placesStand shaped ranged classesStand flagsStand nextStand valid
-    heldEvents controllableSymbol placeStands bufferStands consistentIn part configurationOf
-    shorter rank value index buffersCount short
-    eventRows eventRefusal tableRows configurationRows callRows callRefusal receiveRefusal received room runRefusal ran automatonW
+unfolding computing part configurationOf
 refused-16 = refl
 
 pub layouts : Layouts

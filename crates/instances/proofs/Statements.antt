@@ -1,4 +1,5 @@
--- Each claim at document 01's sheet V or W, or on bytes of theirs, with its hypotheses met.
+-- Each claim at document 01's sheet V or W, or on bytes of theirs, with its hypotheses met. Those on the monitor's calls are in
+-- MonitorStatements.antt.
 use Prim.Native.Nat.{ℕ, _+_, _*_, _<_, _≤_}
 use mathlib.Core.Path.{_≡_}
 use mathlib.Core.Bool.{true, _||_}
@@ -19,12 +20,9 @@ use Rattle.configuration.specs.Configuration.{Position, configuration, initialO
 use Rattle.winning.specs.Solving.{solvedTable}
 use Rattle.game.specs.Game.{mayRest, verdict}
 use Rattle.game.specs.Claims.{Questions}
-use Rattle.answers.specs.Answers.{status, received, ran}
-use Rattle.claims.specs.Calls.{Call, one, replies, configurationAfter}
-use Rattle.claims.specs.Moments.{Moment, moments}
-use Rattle.claims.specs.Rival.{Strategy, Lost, lostBound}
-use Rattle.claims.specs.Claims.{Enforced, Stays, rivalOutput, rivalBuffer}
-use Rattle.claims.specs.Answers.{SaysWinning, SameAnswers}
+use Rattle.answers.specs.Answers.{received, ran}
+use Rattle.claims.specs.Calls.{Call, replies}
+use Rattle.claims.specs.Claims.{Enforced}
 use Rattle.marked_cases.specs.Cases.{bytesV, automatonV, automatonW}
 use Rattle.layout.specs.Layout.{automatonBytes, automatonOf, configurationBytes, configurationOf, numberBytes, numberOf}
 use Rattle.byte_calls.specs.ByteCalls.{laid, leavesAll}
@@ -73,9 +71,13 @@ pub record Solving : Type 1 where
   -- by Definition 6 itself: with Page and Receipt held W may rest in state 0, and not in state 2
   pub solves-definition6 : (S I : List ℕ → States) → Definition6 automatonW S I → S (2 ∷ 3 ∷ []) 0 × (S (2 ∷ 3 ∷ []) 2 → ⊥)
 
+-- a position
+abbrev pub at : ℕ → List ℕ → Position
+at q w = record { state = q; buffer = w }
+
 -- W's state 1 with a Page held
 abbrev pub onePage : Configuration
-onePage = configuration (record { state = 1; buffer = 2 ∷ [] })
+onePage = configuration (at 1 (2 ∷ []))
 
 -- the second judge
 pub record Judging : Type 0 where
@@ -83,35 +85,6 @@ pub record Judging : Type 0 where
   pub agrees : mayRest automatonW (2 ∷ []) 4 1 ≡ has (sets automatonW (2 ∷ []) .winning) 1
   pub verdict-agrees : verdict automatonW onePage .«can_rest»
       ≡ (has (sets automatonW (2 ∷ []) .winning) 1 || has (sets automatonW (2 ∷ []) .intermediate) 1)
-
--- Sign, then Page
-abbrev pub calls : List Call
-calls = one 0 ∷ one 2 ∷ []
-
--- the second accepted event of theirs
-abbrev pub second : Moment
-second = record { past = 0 ∷ []; output = 0 ∷ []; position = record { state = 1; buffer = [] }; event = 2 }
-
--- the rule that lets every held request go at once
-abbrev pub eager : Strategy
-eager events output held = 6
-
--- demand 3
-pub record Enforcing : Type 0 where
-  pub demand3 : (xs : List Call) → Enforced automatonV (table automatonV) xs
-  pub table-exists : (t : List ℕ) × Solved automatonW t
-  pub demand3-solved : (xs : List Call) → Enforced automatonW (solvedTable automatonW (filled 16 9)) xs
-  pub initially-winning : Stays automatonW tableW (moments automatonW tableW (initialOf automatonW) calls)
-  -- whoever lets the Page go is lost
-  pub rivals-lose : Lost automatonW (automatonW .initial) eager (0 ∷ 2 ∷ []) (rivalOutput automatonW eager second) (rivalBuffer automatonW eager second)
-      (lostBound automatonW (rivalBuffer automatonW eager second))
-  pub driven-out : Lost automatonW (automatonW .initial) eager (0 ∷ 2 ∷ []) (0 ∷ 2 ∷ []) [] (lostBound automatonW [])
-  pub flag-is-status : status automatonW tableW (received automatonW tableW (initialOf automatonW) 0 .configuration)
-      ≡ record { refusal = 0; winning = received automatonW tableW (initialOf automatonW) 0 .winning }
-  pub flag-stays : (xs : List Call) → SaysWinning automatonW tableW (configurationAfter automatonW tableW (initialOf automatonW) xs)
-  -- Sign leaves W winning, and so it stays
-  pub once-winning-said : SaysWinning automatonW tableW (configurationAfter automatonW tableW (initialOf automatonW) calls)
-  pub others-ignored : SameAnswers automatonW tableW (tableW ++ 9 ∷ []) (initialOf automatonW)
 
 -- what lies where in lent bytes
 pub record Layouts : Type 0 where

@@ -4,15 +4,13 @@ use mathlib.Core.Path.{_≡_, refl, _∙_, ap}
 use mathlib.Core.Bool.{true}
 use mathlib.Core.List.{List, [], _∷_}
 use native.Mathlib.Omega.{arith}
-use lib.Dec.{leb, ltb}
 use lib.ListN.{length, take, drop, length-append, length-drop}
 use lib.Seq.{length-take-le}
-use borrow.Author.Tests.{ltb-true, leb-false}
-use Rattle.base.specs.Rows.{first}
-use Rattle.base.proofs.Bools.{by}
+use Rattle.base.proofs.Bools.{by, either}
 use Rattle.automaton.specs.declared.Automaton.{Automaton}
 use Rattle.automaton.specs.Automaton.{controllable, run, valid}
 use Rattle.automaton.proofs.Facts.{valid-facts}
+use Rattle.automaton.proofs.Classes.{class-one}
 use Rattle.automaton.proofs.Running.{run-append}
 use Rattle.sets.specs.Table.{Buffer}
 use Rattle.sets.proofs.Total.{Total, run-below}
@@ -20,6 +18,7 @@ use Rattle.sets.proofs.Buffers.{buffer-drop, buffer-end}
 use Rattle.configuration.specs.Configuration.{Position, begun}
 use Rattle.releasing.specs.Step.{Rest, release, Effect, remaining, arrival, effect, effectFrom, advance, eventRows, eventRefusal}
 use Rattle.releasing.proofs.Longest.{release-le, release-same}
+use Rattle.releasing.proofs.Worded.{event-rows-as-worded}
 
 -- a state and a buffer that can occur
 pub record Occurs (a : Automaton) (q : ℕ) (w : List ℕ) : Type 0 where
@@ -43,15 +42,9 @@ pub record Accepts (a : Automaton) (w : List ℕ) (e : ℕ) : Type 0 where
   pub space : controllable a e ≡ true → length w < a .capacity
 
 pub accepted-facts : (rest : Rest) (a : Automaton) (p : Position) (e : ℕ) → eventRefusal rest a p e ≡ 0 → Accepts a (p .buffer) e
-unfolding eventRefusal eventRows first
-accepted-facts rest a p e h = record {
-  symbol = by (ltb e (a .symbols)) (ltb-true e (a .symbols)) (λ u. absurd (let z = rw u at h in omega arith));
-  space = λ c. by (leb (a .capacity) (length (p .buffer)))
-      (λ u. by (ltb e (a .symbols))
-      (λ s. absurd (let z = rw (s, c, u) at h in omega arith))
-      (λ s. absurd (let z = rw s at h in omega arith)))
-      (leb-false (a .capacity) (length (p .buffer)));
-}
+accepted-facts rest a p e h =
+    let f = event-rows-as-worded rest a p e .accepted .0 h in
+    record { symbol = f .0; space = λ c. either (f .1) (λ no. absurd (no (class-one a e .0 c))) (λ l. l) }
 
 -- two rest tests that agree refuse alike
 pub refusal-same : (rest other : Rest) (a : Automaton) (p : Position) (e : ℕ) → Agree a rest other → Total a → OccursAt a p

@@ -1,3 +1,4 @@
+pub mod Worded
 pub mod Numbers
 pub mod Searching
 pub mod Longest

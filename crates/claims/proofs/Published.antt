@@ -1,0 +1,77 @@
+-- The published function follows Definition 3.10 and the rows.
+use Prim.Native.Nat.{ℕ, _+_, _<_, _≤_}
+use mathlib.Core.Path.{_≡_, refl}
+use mathlib.Core.Logic.{_⊎_, inl, inr}
+use mathlib.Core.List.{List, [], _∷_, _++_}
+use lib.ListN.{length}
+use Rattle.base.proofs.Bools.{either, refuted}
+use Rattle.automaton.specs.declared.Automaton.{Automaton}
+use Rattle.automaton.specs.Automaton.{class, controllable}
+use Rattle.automaton.proofs.Classes.{class-one}
+use Rattle.releasing.specs.Step.{bySets, remaining}
+use Rattle.releasing.specs.Claims.{Unknown, Full, Taken}
+use Rattle.releasing.proofs.Worded.{event-rows-as-worded, releases-longest}
+use Rattle.answers.specs.Claims.{RowOfDay}
+use Rattle.answers.proofs.Worded.{room-as-worded, row-of-day}
+use Rattle.claims.specs.Store.{Store, stateOf, positionAt, added, moved, store, storeAll, events, lacksRoom, feed}
+use Rattle.claims.specs.Calls.{many, refusalIn, expected}
+use Rattle.claims.specs.Published.{Releases, FollowsPublished}
+
+-- the release, from any output and buffer
+moved-releases : (a : Automaton) (s : Store) → Releases a (s .output) (s .buffer) (moved a s)
+unfolding moved stateOf bySets
+moved-releases a s = record { front = _; put-out = refl; longest = releases-longest (bySets a) a (stateOf a s) (s .buffer) }
+
+module _ (a : Automaton) (s : Store) where
+  abbrev held : ℕ
+  held = length (s .buffer)
+
+  -- one event
+  module _ (e : ℕ) where
+    stored : Taken a held e → store a s e ≡ moved a (added a s e)
+    unfolding store
+    stored h = rw (event-rows-as-worded (bySets a) a (positionAt a s) e .accepted .1 h)
+
+    passes : e < a .symbols → (class a e ≡ 1 → ⊥) → Releases a (s .output ++ e ∷ []) (s .buffer) (store a s e)
+    unfolding added remaining
+    passes l c =
+        rw (stored (l, inl c), refuted (controllable a e) (λ h. c (class-one a e .0 h)))
+        (moved-releases a (record { output = s .output ++ e ∷ []; buffer = s .buffer }))
+
+    holds : e < a .symbols → class a e ≡ 1 → held < a .capacity → Releases a (s .output) (s .buffer ++ e ∷ []) (store a s e)
+    unfolding added
+    holds l c h =
+        rw (stored (l, inr h), class-one a e .1 c)
+        (moved-releases a (record { output = s .output; buffer = s .buffer ++ e ∷ [] }))
+
+    refuses : Unknown a e ⊎ Full a held e → store a s e ≡ s
+    unfolding store
+    refuses h =
+        let rows = event-rows-as-worded (bySets a) a (positionAt a s) e in
+        either h (λ u. rw (rows .row-14 .1 u)) (λ f. rw (rows .row-15 .1 f))
+
+  -- a day
+  module _ (es : List ℕ) (size : ℕ) where
+    day-short : size < length es + held → feed a s (events es size) ≡ s
+    unfolding feed lacksRoom
+    day-short h = rw (room-as-worded size es held .lacks .1 h)
+
+    day-fed : length es + held ≤ size → feed a s (events es size) ≡ storeAll a s es
+    unfolding feed lacksRoom
+    day-fed h = rw (room-as-worded size es held .enough .1 h)
+
+  day-row : (es out : List ℕ) → RowOfDay (length out) es held (refusalIn (expected a s (many es out)))
+  unfolding expected refusalIn lacksRoom
+  day-row es out = row-of-day (length out) es held _ (λ h. rw h) (λ h. rw h)
+
+pub follows-published : FollowsPublished
+unfolding expected refusalIn
+follows-published a s = record {
+  passes = passes a s;
+  holds = holds a s;
+  refuses = refuses a s;
+  day-short = day-short a s;
+  day-fed = day-fed a s;
+  event-row = event-rows-as-worded (bySets a) a (positionAt a s);
+  day-row = day-row a s;
+}

@@ -1,0 +1,171 @@
+-- The claims on the monitor's calls and on the published function, at sheet V or W, with their hypotheses met.
+use Prim.Native.Nat.{ℕ, _<_, _≤_}
+use mathlib.Core.Path.{_≡_}
+use mathlib.Core.Bool.{true}
+use mathlib.Core.List.{List, [], _∷_, _++_, map}
+use lib.ListN.{length}
+use Rattle.automaton.specs.declared.Automaton.{Automaton}
+use Rattle.automaton.specs.Automaton.{controllable, accepts, run, assembled}
+use Rattle.sets.specs.Table.{table, Solved}
+use Rattle.sets.specs.Claims.{Winning}
+use Rattle.configuration.specs.declared.Configuration.{Configuration}
+use Rattle.configuration.specs.Configuration.{Position, configuration, consistent, initialOf}
+use Rattle.winning.specs.Solving.{solvedTable}
+use Rattle.releasing.specs.Step.{byTable, eventRefusal}
+use Rattle.releasing.specs.Claims.{Longest}
+use Rattle.answers.specs.Answers.{callRefusal, status, receiveRefusal, received, refusedRun, runRefusal}
+use Rattle.claims.specs.Store.{Store, empty, positionAt, store, storeAll, events, feed}
+use Rattle.claims.specs.Calls.{Call, one, many, Reply, receive, refusalIn, replies, configurationAfter, emittedAll, expected}
+use Rattle.claims.specs.Moments.{Moment, emittedAt}
+use Rattle.claims.specs.Rival.{Strategy, Lost, lostBound}
+use Rattle.claims.specs.Claims.{Enforced, acceptedEvents, winningAfter}
+use Rattle.claims.specs.Answers.{SaysWinning, SameAnswers}
+use Rattle.marked_cases.specs.Cases.{automatonV, automatonW, answer}
+use Rattle.instances.proofs.Statements.{filled, tableW, at}
+
+-- V's record with 40 states
+abbrev pub wideV : Automaton
+wideV =
+    assembled 40 (automatonV .symbols) (automatonV .capacity) (automatonV .initial) (automatonV .classes) (automatonV .accepting)
+    (automatonV .next)
+
+-- V's start
+abbrev pub startV : Configuration
+startV = initialOf automatonV
+
+-- the row that refuses an event of W at a position
+abbrev pub rowW : Position → ℕ → ℕ
+rowW p e = eventRefusal (byTable automatonW tableW) automatonW p e
+
+-- the calls' rows at document 01's examples
+pub record Rows : Type 0 where
+  pub class-one : controllable automatonW 2 ≡ true
+  pub row-11 : callRefusal wideV (table automatonV) startV ≡ 11
+  pub row-12 : callRefusal automatonV (filled 3 0) startV ≡ 12
+  pub row-13 : callRefusal automatonV (table automatonV) (configuration (at 3 [])) ≡ 13
+  pub passed : callRefusal automatonV (table automatonV) startV ≡ 0
+  pub row-14 : receiveRefusal automatonV (table automatonV) startV 2 ≡ 14
+  pub row-15 : receiveRefusal automatonW tableW (configuration (at 0 (2 ∷ 2 ∷ []))) 2 ≡ 15
+  pub row-16 : runRefusal automatonV (table automatonV) startV (0 ∷ 1 ∷ []) (9 ∷ []) ≡ 16
+  -- and the other way: what 14 refuses is none of W's four kinds; a Page that 15 refuses finds two held, and one that is
+  -- accepted fewer; a day of two that 16 refuses has room for less
+  pub only-14 : (p : Position) (e : ℕ) → rowW p e ≡ 14 → 4 ≤ e
+  pub only-15 : (p : Position) → rowW p 2 ≡ 15 → 2 ≤ length (p .buffer)
+  pub only-0 : (p : Position) → rowW p 2 ≡ 0 → length (p .buffer) < 2
+  pub only-16 : (out : List ℕ) → runRefusal automatonV (table automatonV) startV (0 ∷ 1 ∷ []) out ≡ 16 → length out < 2
+
+-- the published function with so much put out and held
+abbrev pub storeOf : List ℕ → List ℕ → Store
+storeOf output buffer = record { output = output; buffer = buffer }
+
+-- two Pages held
+abbrev pub twoHeld : Store
+twoHeld = storeOf [] (2 ∷ 2 ∷ [])
+
+-- the longest release, and the published function by it
+pub record Releasing : Type 0 where
+  -- signed, W lets Page and Receipt go, and nothing else would do; in state 3 no front part does
+  pub released : Longest (Winning automatonW) automatonW 1 (2 ∷ 3 ∷ []) (2 ∷ 3 ∷ []) []
+  pub only : (v r : List ℕ) → Longest (Winning automatonW) automatonW 1 (2 ∷ 3 ∷ []) v r → (v ≡ 2 ∷ 3 ∷ []) × (r ≡ [])
+  pub none : Longest (Winning automatonW) automatonW 3 (2 ∷ []) [] (2 ∷ [])
+  -- Sign passes and takes them along; after it a Page is held; a third Page and an event that is no kind change nothing
+  pub passes : store automatonW (storeOf [] (2 ∷ 3 ∷ [])) 0 ≡ storeOf (0 ∷ 2 ∷ 3 ∷ []) []
+  pub holds : store automatonW (storeOf (0 ∷ []) []) 2 ≡ storeOf (0 ∷ []) (2 ∷ [])
+  pub full : store automatonW twoHeld 2 ≡ twoHeld
+  pub unknown : store automatonW twoHeld 4 ≡ twoHeld
+  -- a day of Sign, with two held, wants room for three
+  pub day-short : feed automatonW twoHeld (events (0 ∷ []) 2) ≡ twoHeld
+  pub day-fed : feed automatonW twoHeld (events (0 ∷ []) 3) ≡ store automatonW twoHeld 0
+  pub event-row : refusalIn (expected automatonW twoHeld (one 2)) ≡ 15
+  pub day-row : refusalIn (expected automatonW twoHeld (many (0 ∷ []) (9 ∷ 9 ∷ []))) ≡ 16
+
+-- what W's monitor answers to calls from its start, and the configuration after them
+abbrev pub repliesW : List Call → List Reply
+repliesW = replies automatonW tableW (initialOf automatonW)
+
+abbrev pub afterW : List Call → Configuration
+afterW = configurationAfter automatonW tableW (initialOf automatonW)
+
+-- a day's reply: state and buffer, how many bytes were written, how many events refused, and the lent output
+abbrev pub dayReply : ℕ → List ℕ → ℕ → ℕ → List ℕ → Reply
+dayReply q held written refused out =
+    Rattle.claims.specs.Calls.run
+    (record { refusal = 0; configuration = configuration (at q held); length = written; refused = refused })
+    out
+
+-- Page; then a day with a kind that there is not, Sign and Withdraw, and room for five
+abbrev pub calls : List Call
+calls = one 2 ∷ many (4 ∷ 0 ∷ 1 ∷ []) (filled 5 9) ∷ []
+
+-- their accepted events
+abbrev pub page : Moment
+page = record { past = []; output = []; position = at 0 []; event = 2 }
+
+abbrev pub sign : Moment
+sign = record { past = 2 ∷ []; output = []; position = at 0 (2 ∷ []); event = 0 }
+
+abbrev pub withdraw : Moment
+withdraw = record { past = 2 ∷ 0 ∷ []; output = 0 ∷ []; position = at 1 (2 ∷ []); event = 1 }
+
+-- the rule that lets every held request go at once
+abbrev pub eager : Strategy
+eager past output held = 6
+
+-- what they answer
+abbrev pub answers : List Reply
+answers = receive (answer 0 [] 0 (2 ∷ []) true) ∷ dayReply 0 (2 ∷ []) 2 1 (0 ∷ 1 ∷ 9 ∷ 9 ∷ 9 ∷ []) ∷ []
+
+-- every field of demand 3, out of the one statement at W and these calls, its hypotheses met and its values written out
+pub record Fields : Type 0 where
+  pub each-reply : repliesW calls ≡ answers
+  pub all-emitted : emittedAll (repliesW calls) ≡ 0 ∷ 1 ∷ []
+  pub last-configuration : afterW calls ≡ configuration (at 0 (2 ∷ []))
+  pub last-consistent : consistent automatonW (afterW calls) ≡ true
+  pub alone-emitted : emittedAll (repliesW calls) ≡ 0 ∷ 1 ∷ []
+  pub alone-configuration : afterW calls ≡ configuration (at 0 (2 ∷ []))
+  pub events : acceptedEvents automatonW tableW calls ≡ 2 ∷ 0 ∷ 1 ∷ []
+  pub emitted : emittedAt automatonW tableW (page ∷ sign ∷ withdraw ∷ []) ≡ 0 ∷ 1 ∷ []
+  -- of Withdraw, inside the day: Page and Sign were before it and put out Sign, which leads to state 1; fed them, the
+  -- function holds the Page
+  pub history : (withdraw .past ≡ map (λ (m : Moment). m .event) (page ∷ sign ∷ []))
+      × (withdraw .output ≡ emittedAt automatonW tableW (page ∷ sign ∷ []))
+  pub leads : run automatonW 0 (0 ∷ []) ≡ 1
+  pub fed : (storeAll automatonW empty (2 ∷ 0 ∷ []) .output ≡ 0 ∷ []) × (positionAt automatonW (storeAll automatonW empty (2 ∷ 0 ∷ [])) ≡ at 1 (2 ∷ []))
+  -- winning at first, and after Page, W is so after Withdraw, and its output, Sign and Withdraw, leads to an accepting state
+  pub initially : (winningAfter automatonW tableW withdraw ≡ true) × (accepts automatonW (run automatonW 0 (0 ∷ 1 ∷ [])) ≡ true)
+  pub later : (winningAfter automatonW tableW withdraw ≡ true) × (accepts automatonW (run automatonW 0 (0 ∷ 1 ∷ [])) ≡ true)
+  -- whoever lets the Page go after Sign, inside the day, is driven out by at most two events
+  pub rivals : Lost automatonW 0 eager (2 ∷ 0 ∷ []) (0 ∷ 2 ∷ []) [] 2
+
+-- Page; a day of Receipt, Sign, Page, Withdraw, Page, Page, a kind that there is not and Withdraw, with room for ten; a day
+-- of Sign, with room for two; Sign
+abbrev pub longCalls : List Call
+longCalls =
+    one 2 ∷ many (3 ∷ 0 ∷ 2 ∷ 1 ∷ 2 ∷ 2 ∷ 4 ∷ 1 ∷ []) (filled 10 9) ∷ many (0 ∷ []) (filled 2 9) ∷ one 0 ∷ []
+
+-- what they answer: the third is refused by 16, since two are held
+abbrev pub longAnswers : List Reply
+longAnswers =
+    receive (answer 0 [] 0 (2 ∷ []) true) ∷
+    dayReply 0 (2 ∷ 2 ∷ []) 5 2 (0 ∷ 2 ∷ 3 ∷ 1 ∷ 1 ∷ 9 ∷ 9 ∷ 9 ∷ 9 ∷ 9 ∷ []) ∷
+    Rattle.claims.specs.Calls.run (refusedRun 16 (configuration (at 0 (2 ∷ 2 ∷ [])))) (9 ∷ 9 ∷ []) ∷
+    receive (answer 0 (0 ∷ []) 1 (2 ∷ 2 ∷ []) true) ∷ []
+
+-- demand 3 at W and these calls, worked out
+pub record Day : Type 0 where
+  pub each-reply : repliesW longCalls ≡ longAnswers
+  pub all-emitted : emittedAll (repliesW longCalls) ≡ 0 ∷ 2 ∷ 3 ∷ 1 ∷ 1 ∷ 0 ∷ []
+  pub last-configuration : afterW longCalls ≡ configuration (at 1 (2 ∷ 2 ∷ []))
+
+-- demand 3 at V and over what the solver leaves, and the claims beside it
+pub record Enforcing : Type 0 where
+  pub demand3 : (xs : List Call) → Enforced automatonV (table automatonV) xs
+  pub table-exists : (t : List ℕ) × Solved automatonW t
+  pub demand3-solved : (xs : List Call) → Enforced automatonW (solvedTable automatonW (filled 16 9)) xs
+  pub driven-out : Lost automatonW 0 eager (0 ∷ 2 ∷ []) (0 ∷ 2 ∷ []) [] (lostBound automatonW [])
+  pub flag-is-status : status automatonW tableW (received automatonW tableW (initialOf automatonW) 0 .configuration)
+      ≡ record { refusal = 0; winning = received automatonW tableW (initialOf automatonW) 0 .winning }
+  pub flag-stays : (xs : List Call) → SaysWinning automatonW tableW (afterW xs)
+  -- Page leaves W winning, and so it stays
+  pub once-winning-said : SaysWinning automatonW tableW (afterW calls)
+  pub others-ignored : SameAnswers automatonW tableW (tableW ++ 9 ∷ []) (initialOf automatonW)
