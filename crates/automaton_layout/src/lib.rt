@@ -44,7 +44,13 @@ pub fn automaton_bytes(a: Automaton) -> [u8; AUTOMATON_SIZE]
     bytes[AUTOMATON_CAPACITY] = a.capacity;
     bytes[AUTOMATON_INITIAL] = a.initial;
     copy(&a.classes, 0, SYMBOLS_MOST, &mut bytes, AUTOMATON_CLASSES);
-    copy(&a.accepting, 0, STATES_MOST, &mut bytes, AUTOMATON_ACCEPTING);
+    copy(
+        &a.accepting,
+        0,
+        STATES_MOST,
+        &mut bytes,
+        AUTOMATON_ACCEPTING,
+    );
     copy(&a.next, 0, NEXT_MOST, &mut bytes, AUTOMATON_NEXT);
     bytes
 }

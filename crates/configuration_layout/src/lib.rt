@@ -27,6 +27,12 @@ pub fn configuration_bytes(c: Configuration) -> [u8; CONFIGURATION_SIZE]
     let mut bytes = [0u8; CONFIGURATION_SIZE];
     bytes[CONFIGURATION_STATE] = c.state;
     bytes[CONFIGURATION_HELD] = c.held;
-    copy(&c.buffer, 0, CAPACITY_MOST, &mut bytes, CONFIGURATION_BUFFER);
+    copy(
+        &c.buffer,
+        0,
+        CAPACITY_MOST,
+        &mut bytes,
+        CONFIGURATION_BUFFER,
+    );
     bytes
 }

@@ -64,7 +64,10 @@ pub extern "C" fn jaxhophasi_write(
 
 // How many buffers (document 01's held lists) there are: T. The table takes 2 T places.
 #[no_mangle]
-pub extern "C" fn jaxhophasi_buffers_count(automaton: &[u8; AUTOMATON_SIZE], count: &mut [u8; NUMBER_SIZE]) -> u8
+pub extern "C" fn jaxhophasi_buffers_count(
+    automaton: &[u8; AUTOMATON_SIZE],
+    count: &mut [u8; NUMBER_SIZE],
+) -> u8
     ensures { λ r. let x = countAnswer (automatonOf (now (automaton .entry))) in
         ⌜ (r ≡ x .refusal) × (now (count .exit) ≡ numberBytes numberSize (x .count)) ⌝ }
 {

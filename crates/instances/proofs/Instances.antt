@@ -31,7 +31,7 @@ use Rattle.marked_cases.proofs.Cases.{marked-cases}
 use Rattle.game.specs.Game.{tooLargeIn, gameRefusal}
 use Rattle.game.proofs.Worded.{as-worded}
 use Rattle.game.proofs.Agreement.{agrees, verdict-agrees}
-use Rattle.configuration.specs.Configuration.{heldEvents, controllableSymbol, placeStands, bufferStands, consistentIn, configuration, initialOf}
+use Rattle.configuration.specs.Configuration.{heldEvents, controllableSymbol, placeStands, bufferStands, consistentIn, configuration, initialOf, initialAnswer}
 use Rattle.releasing.specs.Step.{byTable, qualifies, qualifying, release, remaining, arrival, effect, eventRows, eventRefusal}
 use Rattle.answers.specs.Answers.{callRows, isWinning, callRefusal, status, receiveRefusal, received, room, runRefusal, ran}
 use Rattle.claims.specs.Calls.{handedBack, reply}
@@ -43,15 +43,20 @@ use Rattle.claims.proofs.Rivals.{rivals-lose}
 use Rattle.claims.proofs.Driven.{driven-out}
 use Rattle.claims.proofs.Said.{once-winning-said}
 use Rattle.claims.proofs.Answers.{flag-is-status, flag-stays, others-ignored}
-use Rattle.layout.proofs.Trips.{automaton-kept, automaton-bytes-kept, configuration-kept, configuration-bytes-kept, number-kept, refused-event-keeps, refused-run-keeps}
+use Rattle.layout.proofs.Offsets.{offsets-hold}
+use Rattle.layout.proofs.Trips.{automaton-kept, automaton-bytes-kept, configuration-kept, configuration-bytes-kept, number-kept}
+use Rattle.layout.proofs.Trips.{refused-initial-keeps, refused-event-keeps, refused-run-keeps}
 use Rattle.layout.proofs.Handing.{initial-handed-on, event-handed-on, run-handed-on}
 use Rattle.byte_calls.proofs.ByteCalls.{as-by-value, bytes-enforced}
-use Rattle.layout.specs.Layout.{part, automatonBytes, configurationOf}
+use Rattle.layout.specs.Offsets.{automatonSize, numberSize}
+use Rattle.layout.specs.Layout.{part, automatonOf, configurationOf}
+use Rattle.layout.specs.Calls.{receivedLeft, ranLeft, receiveLeaves, runLeaves}
 use Rattle.text.specs.Decimal.{ascii}
 use Rattle.notation.proofs.Laws.{never-longer, room-in-text, read-small, cases-read}
 use Rattle.listing.proofs.Trips.{line-reads-back, packs-shortest, line-bounded, packed-reads-back, cases-unpacked}
 use Rattle.transcript.proofs.Cases.{long-refused}
-use Rattle.instances.proofs.Statements.{filled, paddedV, bytesPadded, tableW, calls, second, eager, Encodings, Solving, Judging, Enforcing, Layouts, textV, Texts}
+use Rattle.instances.proofs.Statements.{filled, paddedV, bytesPadded, tableW, calls, second, eager, Encodings, Solving, Judging, Enforcing, textV, Texts}
+use Rattle.instances.proofs.Statements.{recordW, anyRecord, anyBytes, atZero, signed, longDay, later, guarded, Placed, Layouts}
 
 valid-w : valid automatonW ≡ true
 valid-w = read-is-valid bytesW automatonW (marked-cases .1 .0)
@@ -274,45 +279,98 @@ shaped-w : shaped automatonW ≡ true
 unfolding shaped automatonW pad
 shaped-w = refl
 
-sevens : length (filled 564 7) ≡ 564
-sevens = length-replicate {A = ℕ} 564 7
+kept-w : automatonOf recordW ≡ automatonW
+kept-w = automaton-kept automatonW shaped-w
 
-refused-14 : received automatonW tableW (configurationOf (filled 8 0)) 4 .refusal ≡ 14
+sevens : length anyRecord ≡ automatonSize
+sevens = length-replicate {A = ℕ} automatonSize 7
+
+placed : Placed
+unfolding automatonW pad step
+placed =
+    let w = offsets-hold .automaton automatonW shaped-w in
+    let c = offsets-hold .configuration (configuration 1 (2 ∷ [])) refl in
+    let n = offsets-hold .number 60001 in
+    let r = offsets-hold .received signed refl in
+    let d = offsets-hold .ran longDay [] in
+    let v = offsets-hold .verdict later in
+    record {
+      automaton-size = w .size;
+      states = w .states;
+      symbols = w .symbols;
+      capacity = w .capacity;
+      initial = w .initial;
+      classes = w .classes 2 (omega arith);
+      accepting = w .accepting 1 (omega arith);
+      next = w .next 2 3 (omega arith) (omega arith);
+      automaton-out = offsets-hold .automaton-out anyRecord sevens .capacity;
+      configuration-size = c .size;
+      state = c .state;
+      held = c .held;
+      buffer = c .buffer 0 (omega arith);
+      configuration-out = offsets-hold .configuration-out anyBytes refl .held;
+      number-size = n .0;
+      number-low-first = n .1 .low-first 1 (omega arith);
+      number-value = n .1 .value (omega arith);
+      status-size = offsets-hold .status guarded .size;
+      status = offsets-hold .status guarded .winning .0 refl;
+      received-size = r .size;
+      emitted = r .emitted 2 (omega arith);
+      count = r .count;
+      winning = r .winning .0 refl;
+      ran-size = d .size;
+      written-low-first = d .written .low-first 1 (omega arith);
+      written = d .written .value (omega arith);
+      refused = d .refused .value (omega arith);
+      verdict-size = v .size;
+      may-rest = v .may-rest .1 refl;
+      can-rest = v .can-rest .0 refl;
+    }
+
+refused-11 : initialAnswer (automatonOf anyRecord) .refusal ≡ 11
+unfolding shaped ranged valid automatonOf part initialAnswer
+refused-11 = refl
+
+accepted-w : initialAnswer (automatonOf recordW) .refusal ≡ 0
+unfolding initialAnswer
+accepted-w = rw (kept-w, valid-w)
+
+refused-14 : receiveLeaves recordW tableW atZero 4 .refusal ≡ 14
 unfolding
     each count those lastOr first pad has mask step run controllable controllables controllableIn
     stands placesStand shaped ranged classesStand flagsStand nextStand valid
     heldEvents controllableSymbol placeStands bufferStands consistentIn part configurationOf
     shorter rank value index buffersCount short
-    eventRows eventRefusal callRows callRefusal receiveRefusal received room runRefusal ran automatonW
-refused-14 = refl
+    eventRows eventRefusal callRows callRefusal receiveRefusal received room runRefusal ran automatonW receiveLeaves receivedLeft
+refused-14 = rw kept-w refl
 
-refused-16 : ran automatonW tableW (configurationOf (filled 8 0)) (0 ∷ []) [] .refusal ≡ 16
+refused-16 : runLeaves recordW tableW atZero (0 ∷ []) [] .refusal ≡ 16
 unfolding
     each count those lastOr first pad has mask step run controllable controllables controllableIn
     stands placesStand shaped ranged classesStand flagsStand nextStand valid
     heldEvents controllableSymbol placeStands bufferStands consistentIn part configurationOf
     shorter rank value index buffersCount short
-    eventRows eventRefusal callRows callRefusal receiveRefusal received room runRefusal ran automatonW
-refused-16 = refl
+    eventRows eventRefusal callRows callRefusal receiveRefusal received room runRefusal ran automatonW runLeaves ranLeft
+refused-16 = rw kept-w refl
 
 pub layouts : Layouts
 unfolding pad
 layouts =
     record {
-      automaton-kept = automaton-kept automatonW shaped-w;
-      automaton-bytes-kept = automaton-bytes-kept (filled 564 7) sevens;
+      offsets-hold = placed;
+      automaton-kept = kept-w;
+      automaton-bytes-kept = automaton-bytes-kept anyRecord sevens;
       configuration-kept = configuration-kept (configuration 1 (2 ∷ [])) refl;
-      configuration-bytes-kept = configuration-bytes-kept (filled 8 7) refl;
-      number-kept = number-kept 8 60001 (omega arith);
-      refused-event-keeps = refused-event-keeps automatonW tableW (filled 8 0) 4 refl (λ h. omega (arith, refused-14));
-      initial-handed-on = initial-handed-on automatonW;
-      event-handed-on = event-handed-on automatonW tableW (filled 8 0) 0 refl;
-      run-handed-on = run-handed-on automatonW tableW (filled 8 0) (0 ∷ 2 ∷ []) (filled 2 9) refl;
-      bytes-enforced = λ xs.
-          bytes-enforced (automatonBytes automatonW) tableW (rw (automaton-kept automatonW shaped-w) valid-w) (rw (automaton-kept automatonW shaped-w) solved-w)
-          xs;
-      as-by-value = λ xs. as-by-value (filled 564 7) [] (filled 8 7) refl xs;
-      refused-run-keeps = refused-run-keeps automatonW tableW (filled 8 0) (0 ∷ []) [] refl (λ h. omega (arith, refused-16));
+      configuration-bytes-kept = configuration-bytes-kept anyBytes refl;
+      number-kept = number-kept numberSize 60001 (omega arith);
+      refused-initial-keeps = refused-initial-keeps anyRecord anyBytes (λ h. omega (arith, refused-11));
+      refused-event-keeps = refused-event-keeps recordW tableW atZero 4 refl (λ h. omega (arith, refused-14));
+      refused-run-keeps = refused-run-keeps recordW tableW atZero (0 ∷ []) [] refl (λ h. omega (arith, refused-16));
+      initial-handed-on = initial-handed-on recordW anyBytes accepted-w;
+      event-handed-on = event-handed-on recordW tableW atZero 0 refl;
+      run-handed-on = run-handed-on recordW tableW atZero (0 ∷ 2 ∷ []) (filled 2 9) refl;
+      as-by-value = λ xs. as-by-value anyRecord [] anyBytes refl xs;
+      bytes-enforced = λ xs. bytes-enforced recordW tableW anyBytes (rw kept-w valid-w) (rw kept-w solved-w) xs;
     }
 
 are-bytes : Rattle.varint.specs.Claims.AreBytes bytesPadded

@@ -26,8 +26,7 @@ configuration-bytes-requires c κs = search needs
 returns : tie.Need-returns
 returns c =
     let call = c .before .before .before .before in
-    let accepted = sym (refusal call) ∙ c .before .before .if1 .taken in
-    (
+    let accepted = sym (refusal call) ∙ c .before .before .if1 .taken in (
       refusal call,
       c .configuration-bytes .ensures ∙
           ap (λ s. configurationBytes (s .configuration)) (answered call) ∙

@@ -39,8 +39,7 @@ unfolding receiveLeaves receivedLeft
 returns c =
     let bytes = c .before in
     let call = bytes .before .before in
-    let x = answered call in
-    (
+    let x = answered call in (
       ap (λ r. r .refusal) x,
       bytes .configuration-bytes .ensures ∙ ap (λ r. configurationBytes (r .configuration)) x,
       c .received-bytes .ensures ∙ ap receivedBytes x,

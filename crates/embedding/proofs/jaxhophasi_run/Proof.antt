@@ -47,8 +47,7 @@ returns c =
     let bytes = c .before in
     let call = bytes .before .before .before .before in
     let g = start call .args in
-    let x = answered call in
-    (
+    let x = answered call in (
       ap (λ r. r .refusal) x,
       bytes .configuration-bytes .ensures ∙ ap (λ r. configurationBytes (r .configuration)) x,
       c .ran-bytes .ensures ∙ ap ranBytes x,
