@@ -4,18 +4,30 @@ use answers::Received;
 use answers::Status;
 use base::copy;
 use game::Verdict;
+use layout::EMITTED_MOST;
+use layout::NUMBER_SIZE;
+use layout::RAN_LENGTH;
+use layout::RAN_REFUSED;
+use layout::RAN_SIZE;
+use layout::RECEIVED_COUNT;
+use layout::RECEIVED_EMITTED;
+use layout::RECEIVED_SIZE;
+use layout::RECEIVED_WINNING;
+use layout::STATUS_SIZE;
+use layout::VERDICT_SIZE;
 ghost use mathlib.Core.Path.{_≡_};
+ghost use Rattle.layout.specs.Offsets.{numberSize};
 ghost use Rattle.layout.specs.Layout.{numberBytes};
 ghost use Rattle.layout.specs.Answers.{statusBytes, receivedBytes, ranBytes, verdictBytes};
 
 // A number in eight bytes, low byte first.
-pub fn number_bytes(value: usize) -> [u8; 8]
-    ensures { λ r. ⌜ r ≡ numberBytes 8 value ⌝ }
+pub fn number_bytes(value: usize) -> [u8; NUMBER_SIZE]
+    ensures { λ r. ⌜ r ≡ numberBytes numberSize value ⌝ }
 {
-    let mut bytes = [0u8; 8];
+    let mut bytes = [0u8; NUMBER_SIZE];
     let mut rest = value;
     let mut i: usize = 0;
-    while i < 8 {
+    while i < NUMBER_SIZE {
         bytes[i] = (rest % 256) as u8;
         rest = rest / 256;
         i = i + 1;
@@ -23,34 +35,34 @@ pub fn number_bytes(value: usize) -> [u8; 8]
     bytes
 }
 
-pub fn status_bytes(s: Status) -> [u8; 1]
+pub fn status_bytes(s: Status) -> [u8; STATUS_SIZE]
     ensures { λ r. ⌜ r ≡ statusBytes s ⌝ }
 {
     [s.winning as u8]
 }
 
-pub fn received_bytes(r: Received) -> [u8; 9]
+pub fn received_bytes(r: Received) -> [u8; RECEIVED_SIZE]
     ensures { λ b. ⌜ b ≡ receivedBytes r ⌝ }
 {
-    let mut bytes = [0u8; 9];
-    copy(&r.emitted, 0, 7, &mut bytes, 0);
-    bytes[7] = r.count;
-    bytes[8] = r.winning as u8;
+    let mut bytes = [0u8; RECEIVED_SIZE];
+    copy(&r.emitted, 0, EMITTED_MOST, &mut bytes, RECEIVED_EMITTED);
+    bytes[RECEIVED_COUNT] = r.count;
+    bytes[RECEIVED_WINNING] = r.winning as u8;
     bytes
 }
 
-pub fn ran_bytes(r: Ran) -> [u8; 16]
+pub fn ran_bytes(r: Ran) -> [u8; RAN_SIZE]
     ensures { λ b. ⌜ b ≡ ranBytes r ⌝ }
 {
     let length = number_bytes(r.length);
     let refused = number_bytes(r.refused);
-    let mut bytes = [0u8; 16];
-    copy(&length, 0, 8, &mut bytes, 0);
-    copy(&refused, 0, 8, &mut bytes, 8);
+    let mut bytes = [0u8; RAN_SIZE];
+    copy(&length, 0, NUMBER_SIZE, &mut bytes, RAN_LENGTH);
+    copy(&refused, 0, NUMBER_SIZE, &mut bytes, RAN_REFUSED);
     bytes
 }
 
-pub fn verdict_bytes(v: Verdict) -> [u8; 2]
+pub fn verdict_bytes(v: Verdict) -> [u8; VERDICT_SIZE]
     ensures { λ r. ⌜ r ≡ verdictBytes v ⌝ }
 {
     [v.may_rest as u8, v.can_rest as u8]

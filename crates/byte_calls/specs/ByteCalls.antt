@@ -6,41 +6,23 @@ use mathlib.Core.List.{List, [], _∷_, map}
 use lib.ListN.{length}
 use Rattle.automaton.specs.Automaton.{valid}
 use Rattle.sets.specs.Table.{Solved}
-use Rattle.configuration.specs.Configuration.{initialOf, initialAnswer}
-use Rattle.answers.specs.Answers.{received, ran, ranBuffer}
+use Rattle.configuration.specs.Configuration.{initialOf}
 use Rattle.claims.specs.Calls.{Call, one, many, Reply, receive, run, replies}
 use Rattle.claims.specs.Claims.{Enforced}
-use Rattle.layout.specs.Layout.{automatonOf, configurationOf, configurationBytes}
-use Rattle.layout.specs.Answers.{receivedBytes, ranBytes}
-
--- what a call leaves: its refusal, and the bytes lent for the configuration, for the answer and, by a day, for the output
-pub record Left : Type 0 where
-  pub refusal : ℕ
-  pub configuration : List ℕ
-  pub answer : List ℕ
-  pub output : List ℕ
+use Rattle.layout.specs.Offsets.{configurationSize}
+use Rattle.layout.specs.Layout.{automatonOf, configurationOf}
+use Rattle.layout.specs.Calls.{Left, initialBytes, receivedLeft, ranLeft, receiveLeaves, runLeaves}
 
 -- a reply of the calls by value, as it lies in bytes
 unfoldable pub laid : Reply → Left
-laid (receive x) =
-    record { refusal = x .refusal; configuration = configurationBytes (x .configuration); answer = receivedBytes x; output = [] }
-laid (run x out) =
-    record { refusal = x .refusal; configuration = configurationBytes (x .configuration); answer = ranBytes x; output = out }
+laid (receive x) = receivedLeft x
+laid (run x out) = ranLeft x out
 
--- a call over the lent record, table and configuration, as the contracts of `jaxhophasi_receive` and `jaxhophasi_run` have it
+-- what a call leaves over the lent record, table and configuration: by the definitions that the contracts of `jaxhophasi_receive`
+-- and `jaxhophasi_run` cite
 unfoldable pub leaves : List ℕ → List ℕ → List ℕ → Call → Left
-leaves record-bytes t c (one e) =
-    let x = received (automatonOf record-bytes) t (configurationOf c) e in
-    record { refusal = x .refusal; configuration = configurationBytes (x .configuration); answer = receivedBytes x; output = [] }
-leaves record-bytes t c (many es out) =
-    let a = automatonOf record-bytes in
-    let x = ran a t (configurationOf c) es out in
-    record {
-      refusal = x .refusal;
-      configuration = configurationBytes (x .configuration);
-      answer = ranBytes x;
-      output = ranBuffer a t (configurationOf c) es out;
-    }
+leaves record-bytes t c (one e) = receiveLeaves record-bytes t c e
+leaves record-bytes t c (many es out) = runLeaves record-bytes t c es out
 
 -- one after the other, each over the configuration's bytes that the last one left
 unfoldable pub leavesAll : List ℕ → List ℕ → List ℕ → List Call → List Left
@@ -51,13 +33,14 @@ leavesAll record-bytes t c (x ∷ xs) =
 -- It is that list of calls by value, laid out in bytes, over any record, table and configuration ..
 abbrev pub AsByValue : Type 0
 AsByValue =
-    (record-bytes t c : List ℕ) → length c ≡ 8 → (calls : List Call)
+    (record-bytes t c : List ℕ) → length c ≡ configurationSize → (calls : List Call)
     → leavesAll record-bytes t c calls ≡ map laid (replies (automatonOf record-bytes) t (configurationOf c) calls)
 
--- .. so from what `jaxhophasi_initial` leaves, over a record that row 11 lets pass and its solved table, it is what demand 3 speaks of.
+-- .. so from what `jaxhophasi_initial` leaves in any lent bytes, over a record that row 11 lets pass and its solved table, it is what
+-- demand 3 speaks of.
 abbrev pub BytesEnforced : Type 0
 BytesEnforced =
-    (record-bytes t : List ℕ) → valid (automatonOf record-bytes) ≡ true → Solved (automatonOf record-bytes) t → (calls : List Call)
-    → (leavesAll record-bytes t (configurationBytes (initialAnswer (automatonOf record-bytes) .configuration)) calls
+    (record-bytes t lent : List ℕ) → valid (automatonOf record-bytes) ≡ true → Solved (automatonOf record-bytes) t → (calls : List Call)
+    → (leavesAll record-bytes t (initialBytes record-bytes lent) calls
     ≡ map laid (replies (automatonOf record-bytes) t (initialOf (automatonOf record-bytes)) calls))
     × Enforced (automatonOf record-bytes) t calls

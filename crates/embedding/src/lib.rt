@@ -11,25 +11,34 @@ use automaton_layout::automaton_bytes;
 use automaton_layout::automaton_of;
 use configuration_layout::configuration_bytes;
 use configuration_layout::configuration_of;
+use layout::AUTOMATON_SIZE;
+use layout::CONFIGURATION_SIZE;
+use layout::NUMBER_SIZE;
+use layout::RAN_SIZE;
+use layout::RECEIVED_SIZE;
+use layout::STATUS_SIZE;
+use layout::VERDICT_SIZE;
 ghost use mathlib.Core.Path.{_≡_};
 ghost use Rattle.encoding.specs.Reading.{parse};
 ghost use Rattle.encoding.specs.Writing.{writeAnswer, writeBuffer};
 ghost use Rattle.winning.specs.Solving.{solution, solvedTable, countAnswer};
 ghost use Rattle.configuration.specs.Configuration.{initialAnswer};
-ghost use Rattle.answers.specs.Answers.{status, received, ran, ranBuffer};
+ghost use Rattle.answers.specs.Answers.{status};
 ghost use Rattle.game.specs.Game.{verdict};
-ghost use Rattle.layout.specs.Layout.{automatonOf, automatonBytes, configurationOf, configurationBytes, numberBytes};
-ghost use Rattle.layout.specs.Answers.{statusBytes, receivedBytes, ranBytes, verdictBytes};
+ghost use Rattle.layout.specs.Offsets.{numberSize};
+ghost use Rattle.layout.specs.Layout.{automatonOf, automatonBytes, configurationOf, numberBytes};
+ghost use Rattle.layout.specs.Answers.{statusBytes, verdictBytes};
+ghost use Rattle.layout.specs.Calls.{initialBytes, receiveLeaves, runLeaves};
 
 // Reads and checks a sheet: the record, and the place of a fault.
 #[no_mangle]
 pub extern "C" fn jaxhophasi_read(
     bytes: &[u8],
-    automaton: &mut [u8; 564],
-    place: &mut [u8; 8],
+    automaton: &mut [u8; AUTOMATON_SIZE],
+    place: &mut [u8; NUMBER_SIZE],
 ) -> u8
     ensures { λ r. let x = parse (now (bytes .entry)) in
-        ⌜ (r ≡ x .refusal) × (now (automaton .exit) ≡ automatonBytes (x .automaton)) × (now (place .exit) ≡ numberBytes 8 (x .place)) ⌝ }
+        ⌜ (r ≡ x .refusal) × (now (automaton .exit) ≡ automatonBytes (x .automaton)) × (now (place .exit) ≡ numberBytes numberSize (x .place)) ⌝ }
 {
     let parsed = decoder::read(bytes);
     let a = parsed.automaton;
@@ -41,12 +50,12 @@ pub extern "C" fn jaxhophasi_read(
 // Writes a sheet at the front of `out`: how many bytes.
 #[no_mangle]
 pub extern "C" fn jaxhophasi_write(
-    automaton: &[u8; 564],
+    automaton: &[u8; AUTOMATON_SIZE],
     out: &mut [u8],
-    length: &mut [u8; 8],
+    length: &mut [u8; NUMBER_SIZE],
 ) -> u8
     ensures { λ r. let a = automatonOf (now (automaton .entry)) in let x = writeAnswer a (now (out .entry)) in
-        ⌜ (r ≡ x .refusal) × (now (out .exit) ≡ writeBuffer a (now (out .entry))) × (now (length .exit) ≡ numberBytes 8 (x .length)) ⌝ }
+        ⌜ (r ≡ x .refusal) × (now (out .exit) ≡ writeBuffer a (now (out .entry))) × (now (length .exit) ≡ numberBytes numberSize (x .length)) ⌝ }
 {
     let written = encoder::write(automaton_of(automaton), out);
     *length = number_bytes(written.length);
@@ -55,9 +64,12 @@ pub extern "C" fn jaxhophasi_write(
 
 // How many buffers (document 01's held lists) there are: T. The table takes 2 T places.
 #[no_mangle]
-pub extern "C" fn jaxhophasi_buffers_count(automaton: &[u8; 564], count: &mut [u8; 8]) -> u8
+pub extern "C" fn jaxhophasi_buffers_count(
+    automaton: &[u8; AUTOMATON_SIZE],
+    count: &mut [u8; NUMBER_SIZE],
+) -> u8
     ensures { λ r. let x = countAnswer (automatonOf (now (automaton .entry))) in
-        ⌜ (r ≡ x .refusal) × (now (count .exit) ≡ numberBytes 8 (x .count)) ⌝ }
+        ⌜ (r ≡ x .refusal) × (now (count .exit) ≡ numberBytes numberSize (x .count)) ⌝ }
 {
     let buffers = winning::buffers_count(automaton_of(automaton));
     *count = number_bytes(buffers.count as usize);
@@ -67,37 +79,42 @@ pub extern "C" fn jaxhophasi_buffers_count(automaton: &[u8; 564], count: &mut [u
 // Solves the sheet into the front of `table`: the rounds that struck a state.
 #[no_mangle]
 pub extern "C" fn jaxhophasi_solve(
-    automaton: &[u8; 564],
+    automaton: &[u8; AUTOMATON_SIZE],
     table: &mut [u32],
-    rounds: &mut [u8; 8],
+    rounds: &mut [u8; NUMBER_SIZE],
 ) -> u8
     ensures { λ r. let a = automatonOf (now (automaton .entry)) in let x = solution a (now (table .entry)) in
-        ⌜ (r ≡ x .refusal) × (now (table .exit) ≡ solvedTable a (now (table .entry))) × (now (rounds .exit) ≡ numberBytes 8 (x .rounds)) ⌝ }
+        ⌜ (r ≡ x .refusal) × (now (table .exit) ≡ solvedTable a (now (table .entry))) × (now (rounds .exit) ≡ numberBytes numberSize (x .rounds)) ⌝ }
 {
     let solution = solving::solve(automaton_of(automaton), table);
     *rounds = number_bytes(solution.rounds as usize);
     solution.refusal
 }
 
-// The initial configuration (document 01's fresh).
+// The initial configuration (document 01's fresh). Refused, the lent bytes stay.
 #[no_mangle]
-pub extern "C" fn jaxhophasi_initial(automaton: &[u8; 564], configuration: &mut [u8; 8]) -> u8
+pub extern "C" fn jaxhophasi_initial(
+    automaton: &[u8; AUTOMATON_SIZE],
+    configuration: &mut [u8; CONFIGURATION_SIZE],
+) -> u8
     ensures { λ r. let x = initialAnswer (automatonOf (now (automaton .entry))) in
-        ⌜ (r ≡ x .refusal) × (now (configuration .exit) ≡ configurationBytes (x .configuration)) ⌝ }
+        ⌜ (r ≡ x .refusal) × (now (configuration .exit) ≡ initialBytes (now (automaton .entry)) (now (configuration .entry))) ⌝ }
 {
     let start = configuration::initial(automaton_of(automaton));
-    let first = start.configuration;
-    *configuration = configuration_bytes(first);
+    if start.refusal == 0 {
+        let first = start.configuration;
+        *configuration = configuration_bytes(first);
+    }
     start.refusal
 }
 
 // Whether a configuration is winning (document 01's guarded).
 #[no_mangle]
 pub extern "C" fn jaxhophasi_winning(
-    automaton: &[u8; 564],
+    automaton: &[u8; AUTOMATON_SIZE],
     table: &[u32],
-    configuration: &[u8; 8],
-    answer: &mut [u8; 1],
+    configuration: &[u8; CONFIGURATION_SIZE],
+    answer: &mut [u8; STATUS_SIZE],
 ) -> u8
     ensures { λ r. let x = status (automatonOf (now (automaton .entry))) (now (table .entry)) (configurationOf (now (configuration .entry))) in
         ⌜ (r ≡ x .refusal) × (now (answer .exit) ≡ statusBytes x) ⌝ }
@@ -114,14 +131,14 @@ pub extern "C" fn jaxhophasi_winning(
 // One event. The configuration becomes the next one.
 #[no_mangle]
 pub extern "C" fn jaxhophasi_receive(
-    automaton: &[u8; 564],
+    automaton: &[u8; AUTOMATON_SIZE],
     table: &[u32],
-    configuration: &mut [u8; 8],
+    configuration: &mut [u8; CONFIGURATION_SIZE],
     event: u32,
-    answer: &mut [u8; 9],
+    answer: &mut [u8; RECEIVED_SIZE],
 ) -> u8
-    ensures { λ r. let x = received (automatonOf (now (automaton .entry))) (now (table .entry)) (configurationOf (now (configuration .entry))) event in
-        ⌜ (r ≡ x .refusal) × (now (configuration .exit) ≡ configurationBytes (x .configuration)) × (now (answer .exit) ≡ receivedBytes x) ⌝ }
+    ensures { λ r. let x = receiveLeaves (now (automaton .entry)) (now (table .entry)) (now (configuration .entry)) event in
+        ⌜ (r ≡ x .refusal) × (now (configuration .exit) ≡ x .configuration) × (now (answer .exit) ≡ x .answer) ⌝ }
 {
     let a = automaton_of(automaton);
     let received = monitor::receive(a, table, configuration_of(configuration), event);
@@ -134,17 +151,17 @@ pub extern "C" fn jaxhophasi_receive(
 // A whole day from a configuration on, which becomes the next one.
 #[no_mangle]
 pub extern "C" fn jaxhophasi_run(
-    automaton: &[u8; 564],
+    automaton: &[u8; AUTOMATON_SIZE],
     table: &[u32],
-    configuration: &mut [u8; 8],
+    configuration: &mut [u8; CONFIGURATION_SIZE],
     events: &[u32],
     out: &mut [u8],
-    answer: &mut [u8; 16],
+    answer: &mut [u8; RAN_SIZE],
 ) -> u8
-    ensures { λ r. let a = automatonOf (now (automaton .entry)) in let c = configurationOf (now (configuration .entry)) in
-        let x = ran a (now (table .entry)) c (now (events .entry)) (now (out .entry)) in
-        ⌜ (r ≡ x .refusal) × (now (configuration .exit) ≡ configurationBytes (x .configuration)) × (now (answer .exit) ≡ ranBytes x)
-        × (now (out .exit) ≡ ranBuffer a (now (table .entry)) c (now (events .entry)) (now (out .entry))) ⌝ }
+    ensures { λ r. let t = now (table .entry) in let events = now (events .entry) in
+        let x = runLeaves (now (automaton .entry)) t (now (configuration .entry)) events (now (out .entry)) in
+        ⌜ (r ≡ x .refusal) × (now (configuration .exit) ≡ x .configuration) × (now (answer .exit) ≡ x .answer)
+        × (now (out .exit) ≡ x .output) ⌝ }
 {
     let a = automaton_of(automaton);
     let ran = batch::run(a, table, configuration_of(configuration), events, out);
@@ -157,9 +174,9 @@ pub extern "C" fn jaxhophasi_run(
 // The game's two answers for a small automaton (document 01's second judge), without a table.
 #[no_mangle]
 pub extern "C" fn jaxhophasi_judge(
-    automaton: &[u8; 564],
-    configuration: &[u8; 8],
-    answer: &mut [u8; 2],
+    automaton: &[u8; AUTOMATON_SIZE],
+    configuration: &[u8; CONFIGURATION_SIZE],
+    answer: &mut [u8; VERDICT_SIZE],
 ) -> u8
     ensures { λ r. let x = verdict (automatonOf (now (automaton .entry))) (configurationOf (now (configuration .entry))) in
         ⌜ (r ≡ x .refusal) × (now (answer .exit) ≡ verdictBytes x) ⌝ }

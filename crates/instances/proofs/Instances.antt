@@ -30,17 +30,12 @@ use Rattle.game.specs.Game.{tooLargeIn, gameRefusal}
 use Rattle.game.proofs.Worded.{as-worded}
 use Rattle.game.proofs.Agreement.{agrees, verdict-agrees}
 use Rattle.configuration.specs.Configuration.{heldEvents, controllableSymbol, placeStands, bufferStands, consistentIn, configuration}
-use Rattle.answers.specs.Answers.{received, ran}
-use Rattle.layout.proofs.Trips.{automaton-kept, automaton-bytes-kept, configuration-kept, configuration-bytes-kept, number-kept, refused-event-keeps, refused-run-keeps}
-use Rattle.layout.proofs.Handing.{initial-handed-on, event-handed-on, run-handed-on}
-use Rattle.byte_calls.proofs.ByteCalls.{as-by-value, bytes-enforced}
-use Rattle.layout.specs.Layout.{part, automatonBytes, configurationOf}
 use Rattle.text.specs.Decimal.{ascii}
 use Rattle.notation.proofs.Laws.{never-longer, room-in-text, read-small, cases-read}
 use Rattle.listing.proofs.Trips.{line-reads-back, packs-shortest, line-bounded, packed-reads-back, cases-unpacked}
 use Rattle.transcript.proofs.Cases.{long-refused}
-use Rattle.instances.proofs.Sheets.{valid-w, read-v, valid-v, solves-w, buffers-w, table-w, solved-w, computing}
-use Rattle.instances.proofs.Statements.{filled, paddedV, bytesPadded, tableW, onePage, Encodings, Solving, Judging, Layouts, textV, Texts}
+use Rattle.instances.proofs.Sheets.{valid-w, read-v, valid-v, solves-w, buffers-w, table-w, solved-w}
+use Rattle.instances.proofs.Statements.{filled, paddedV, bytesPadded, tableW, onePage, Encodings, Solving, Judging, textV, Texts}
 
 two-bytes : Rattle.varint.specs.Claims.AreBytes (128 ∷ 0 ∷ [])
 two-bytes zero h = omega arith
@@ -135,41 +130,6 @@ judging =
       as-worded = as-worded automatonW;
       agrees = agrees automatonW valid-w (2 ∷ []) 1 (omega arith) .0;
       verdict-agrees = verdict-agrees automatonW onePage allowed .1;
-    }
-
-shaped-w : shaped automatonW ≡ true
-unfolding shaped automatonW pad
-shaped-w = refl
-
-sevens : length (filled 564 7) ≡ 564
-sevens = length-replicate {A = ℕ} 564 7
-
-refused-14 : received automatonW tableW (configurationOf (filled 8 0)) 4 .refusal ≡ 14
-unfolding computing part configurationOf
-refused-14 = refl
-
-refused-16 : ran automatonW tableW (configurationOf (filled 8 0)) (0 ∷ []) [] .refusal ≡ 16
-unfolding computing part configurationOf
-refused-16 = refl
-
-pub layouts : Layouts
-unfolding pad
-layouts =
-    record {
-      automaton-kept = automaton-kept automatonW shaped-w;
-      automaton-bytes-kept = automaton-bytes-kept (filled 564 7) sevens;
-      configuration-kept = configuration-kept onePage refl;
-      configuration-bytes-kept = configuration-bytes-kept (filled 8 7) refl;
-      number-kept = number-kept 8 60001 (omega arith);
-      refused-event-keeps = refused-event-keeps automatonW tableW (filled 8 0) 4 refl (λ h. omega (arith, refused-14));
-      initial-handed-on = initial-handed-on automatonW;
-      event-handed-on = event-handed-on automatonW tableW (filled 8 0) 0 refl;
-      run-handed-on = run-handed-on automatonW tableW (filled 8 0) (0 ∷ 2 ∷ []) (filled 2 9) refl;
-      bytes-enforced = λ xs.
-          bytes-enforced (automatonBytes automatonW) tableW (rw (automaton-kept automatonW shaped-w) valid-w) (rw (automaton-kept automatonW shaped-w) solved-w)
-          xs;
-      as-by-value = λ xs. as-by-value (filled 564 7) [] (filled 8 7) refl xs;
-      refused-run-keeps = refused-run-keeps automatonW tableW (filled 8 0) (0 ∷ []) [] refl (λ h. omega (arith, refused-16));
     }
 
 are-bytes : Rattle.varint.specs.Claims.AreBytes bytesPadded

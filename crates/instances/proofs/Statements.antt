@@ -1,5 +1,5 @@
 -- Each claim at document 01's sheet V or W, or on bytes of theirs, with its hypotheses met. Those on the monitor's calls are in
--- MonitorStatements.antt.
+-- MonitorStatements.antt, those on lent bytes in LayoutStatements.antt.
 use Prim.Native.Nat.{ℕ, _+_, _*_, _<_, _≤_}
 use mathlib.Core.Path.{_≡_}
 use mathlib.Core.Bool.{true, _||_}
@@ -16,16 +16,11 @@ use Rattle.sets.specs.Definition6.{States, Definition6}
 use Rattle.sets.specs.Table.{index, buffersCount, Buffer, table, Solved}
 use Rattle.sets.specs.Claims.{Winning, Intermediate, Resting}
 use Rattle.configuration.specs.declared.Configuration.{Configuration}
-use Rattle.configuration.specs.Configuration.{Position, configuration, initialOf, initialAnswer}
+use Rattle.configuration.specs.Configuration.{Position, configuration}
 use Rattle.winning.specs.Solving.{solvedTable}
 use Rattle.game.specs.Game.{mayRest, verdict}
 use Rattle.game.specs.Claims.{Questions}
-use Rattle.answers.specs.Answers.{received, ran}
-use Rattle.claims.specs.Calls.{Call, replies}
-use Rattle.claims.specs.Claims.{Enforced}
 use Rattle.marked_cases.specs.Cases.{bytesV, automatonV, automatonW}
-use Rattle.layout.specs.Layout.{automatonBytes, automatonOf, configurationBytes, configurationOf, numberBytes, numberOf}
-use Rattle.byte_calls.specs.ByteCalls.{laid, leavesAll}
 use Rattle.text.specs.Decimal.{ascii}
 use Rattle.notation.specs.Outcomes.{numbers}
 use Rattle.notation.specs.Packing.{reading, encoded, packed, done}
@@ -85,31 +80,6 @@ pub record Judging : Type 0 where
   pub agrees : mayRest automatonW (2 ∷ []) 4 1 ≡ has (sets automatonW (2 ∷ []) .winning) 1
   pub verdict-agrees : verdict automatonW onePage .«can_rest»
       ≡ (has (sets automatonW (2 ∷ []) .winning) 1 || has (sets automatonW (2 ∷ []) .intermediate) 1)
-
--- what lies where in lent bytes
-pub record Layouts : Type 0 where
-  pub automaton-kept : automatonOf (automatonBytes automatonW) ≡ automatonW
-  pub automaton-bytes-kept : automatonBytes (automatonOf (filled 564 7)) ≡ filled 564 7
-  pub configuration-kept : configurationOf (configurationBytes onePage) ≡ onePage
-  pub configuration-bytes-kept : configurationBytes (configurationOf (filled 8 7)) ≡ filled 8 7
-  pub number-kept : numberOf (numberBytes 8 60001) ≡ 60001
-  -- an event that W has no kind for
-  pub refused-event-keeps : configurationBytes (received automatonW tableW (configurationOf (filled 8 0)) 4 .configuration) ≡ filled 8 0
-  -- a day of one event with no room
-  pub refused-run-keeps : configurationBytes (ran automatonW tableW (configurationOf (filled 8 0)) (0 ∷ []) [] .configuration) ≡ filled 8 0
-  pub initial-handed-on : configurationOf (configurationBytes (initialAnswer automatonW .configuration)) ≡ initialAnswer automatonW .configuration
-  pub event-handed-on : configurationOf (configurationBytes (received automatonW tableW (configurationOf (filled 8 0)) 0 .configuration))
-      ≡ received automatonW tableW (configurationOf (filled 8 0)) 0 .configuration
-  pub run-handed-on : configurationOf (configurationBytes (ran automatonW tableW (configurationOf (filled 8 0)) (0 ∷ 2 ∷ []) (filled 2 9) .configuration))
-      ≡ ran automatonW tableW (configurationOf (filled 8 0)) (0 ∷ 2 ∷ []) (filled 2 9) .configuration
-  -- calls through the interface over any 564 bytes for a record, with a table that is none of it
-  pub as-by-value : (xs : List Call) → leavesAll (filled 564 7) [] (filled 8 7) xs
-      ≡ map laid (replies (automatonOf (filled 564 7)) [] (configurationOf (filled 8 7)) xs)
-  -- W's record in its bytes, and any calls
-  pub bytes-enforced : (xs : List Call) → (leavesAll (automatonBytes automatonW) tableW
-      (configurationBytes (initialAnswer (automatonOf (automatonBytes automatonW)) .configuration)) xs
-      ≡ map laid (replies (automatonOf (automatonBytes automatonW)) tableW (initialOf (automatonOf (automatonBytes automatonW))) xs))
-      × Enforced (automatonOf (automatonBytes automatonW)) tableW xs
 
 -- V as text
 abbrev pub textV : List ℕ

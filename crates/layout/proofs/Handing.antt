@@ -21,18 +21,20 @@ use Rattle.releasing.proofs.Effects.{advance-occurs}
 use Rattle.releasing.proofs.Runs.{run-occurs}
 use Rattle.answers.specs.Answers.{receiveRefusal, received, runRefusal, ran}
 use Rattle.answers.proofs.Accepted.{clear-occurs, receive-clear, receive-event, run-clear}
-use Rattle.layout.specs.Layout.{part, configurationOf}
+use Rattle.layout.specs.Offsets.{capacityMost, configurationSize, configurationBuffer}
+use Rattle.layout.specs.Layout.{part, automatonOf, configurationOf}
+use Rattle.layout.specs.Calls.{initialBytes, receivedLeft, ranLeft, receiveLeaves, runLeaves}
 use Rattle.layout.specs.Claims.{InitialHandedOn, EventHandedOn, RunHandedOn}
 use Rattle.layout.proofs.Trips.{configuration-kept}
 
 -- a configuration that was taken out of bytes has six places
-pub six-places : (bytes : List ℕ) → length bytes ≡ 8 → length (configurationOf bytes .buffer) ≡ 6
+pub six-places : (bytes : List ℕ) → length bytes ≡ configurationSize → length (configurationOf bytes .buffer) ≡ capacityMost
 unfolding configurationOf part
-six-places bytes long = length-take-le 6 (drop 2 bytes) (rw (length-drop 2 bytes) (omega arith))
+six-places bytes long = length-take-le capacityMost (drop configurationBuffer bytes) (rw (length-drop configurationBuffer bytes) (omega arith))
 
 module _ (a : Automaton) (t : List ℕ) (c : Configuration) where
   -- the buffer of what is handed back
-  pub event-places : (e : ℕ) → length (c .buffer) ≡ 6 → length (received a t c e .configuration .buffer) ≡ 6
+  pub event-places : (e : ℕ) → length (c .buffer) ≡ capacityMost → length (received a t c e .configuration .buffer) ≡ capacityMost
   unfolding received
   event-places e long =
       by (eqb (receiveRefusal a t c e) 0)
@@ -44,7 +46,7 @@ module _ (a : Automaton) (t : List ℕ) (c : Configuration) where
       rw h (configuration-consistent a (valid-facts a v) _ (o .state-below) (o .buffer) .buffer-length))
       (λ h. rw h long)
 
-  pub run-places : (events out : List ℕ) → length (c .buffer) ≡ 6 → length (ran a t c events out .configuration .buffer) ≡ 6
+  pub run-places : (events out : List ℕ) → length (c .buffer) ≡ capacityMost → length (ran a t c events out .configuration .buffer) ≡ capacityMost
   unfolding ran
   run-places events out long =
       by (eqb (runRefusal a t c events out) 0)
@@ -56,12 +58,18 @@ module _ (a : Automaton) (t : List ℕ) (c : Configuration) where
       (λ h. rw h long)
 
 pub initial-handed-on : InitialHandedOn
-unfolding initialAnswer initialOf pad
-initial-handed-on a =
-    by (valid a) (λ v. rw v (configuration-kept (initialOf a) refl)) (λ v. rw v (configuration-kept _ refl))
+unfolding initialAnswer initialOf initialBytes pad
+initial-handed-on record-bytes lent accepted =
+    by (valid (automatonOf record-bytes))
+    (λ v. rw v (configuration-kept (initialOf (automatonOf record-bytes)) refl))
+    (λ v. absurd (omega (arith, rw v at accepted)))
 
 pub event-handed-on : EventHandedOn
-event-handed-on a t bytes e long = configuration-kept _ (event-places a t (configurationOf bytes) e (six-places bytes long))
+unfolding receiveLeaves receivedLeft
+event-handed-on record-bytes t c e long =
+    configuration-kept _ (event-places (automatonOf record-bytes) t (configurationOf c) e (six-places c long))
 
 pub run-handed-on : RunHandedOn
-run-handed-on a t bytes events out long = configuration-kept _ (run-places a t (configurationOf bytes) events out (six-places bytes long))
+unfolding runLeaves ranLeft
+run-handed-on record-bytes t c events out long =
+    configuration-kept _ (run-places (automatonOf record-bytes) t (configurationOf c) events out (six-places c long))

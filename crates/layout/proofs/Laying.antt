@@ -5,7 +5,7 @@ use mathlib.Core.Bool.{Bool, true, false, cond}
 use mathlib.Core.List.{List, [], _∷_, _++_, append-nil, append-assoc}
 use native.Mathlib.Omega.{arith}
 use mir.Val.{boolByte}
-use lib.ListN.{length, getD, set, replicate, take, drop, length-append, length-drop, length-replicate, drop-of-length-le}
+use lib.ListN.{length, set, replicate, take, drop, length-append, length-drop, length-replicate, drop-of-length-le}
 use lib.Seq.{sets, sets-eq, take-all, length-take-le}
 use Rattle.base.specs.Pad.{pad}
 use Rattle.base.proofs.Padding.{pad-sets, pad-stored}
@@ -13,8 +13,13 @@ use Rattle.automaton.specs.declared.Automaton.{Automaton}
 use Rattle.configuration.specs.declared.Configuration.{Configuration}
 use Rattle.answers.specs.declared.Received.{Received}
 use Rattle.answers.specs.declared.Ran.{Ran}
+use Rattle.layout.specs.Offsets.{statesMost, symbolsMost, nextMost, capacityMost, emittedMost}
+use Rattle.layout.specs.Offsets.{automatonSize, automatonStates, automatonSymbols, automatonCapacity, automatonInitial}
+use Rattle.layout.specs.Offsets.{automatonClasses, automatonAccepting, automatonNext}
+use Rattle.layout.specs.Offsets.{configurationSize, configurationState, configurationHeld, configurationBuffer, numberSize}
+use Rattle.layout.specs.Offsets.{receivedSize, receivedEmitted, receivedCount, receivedWinning, ranSize, ranLength, ranRefused}
 use Rattle.layout.specs.Answers.{receivedBytes, ranBytes}
-use Rattle.layout.specs.Layout.{part, numberBytes, automatonOf, automatonBytes, configurationOf, configurationBytes}
+use Rattle.layout.specs.Layout.{byteAt, part, numberBytes, automatonOf, automatonBytes, configurationOf, configurationBytes}
 
 -- as many stores as there are places
 pub sets-whole : (l v : List ℕ) → length l ≡ length v → sets l 0 v ≡ v
@@ -46,62 +51,97 @@ number-length zero v = refl
 number-length (suc k) v = omega (arith, number-length k (v / 256))
 
 -- the record, from its bytes
-pub automaton-made : (bytes classes accepting next : List ℕ) → length bytes ≡ 564
-    → classes ≡ sets (replicate 16 0) 0 (take 16 (drop 4 bytes))
-    → accepting ≡ sets (replicate 32 0) 0 (take 32 (drop 20 bytes))
-    → next ≡ sets (replicate 512 0) 0 (take 512 (drop 52 bytes))
+pub automaton-made : (bytes classes accepting next : List ℕ) → length bytes ≡ automatonSize
+    → classes ≡ sets (replicate symbolsMost 0) 0 (take symbolsMost (drop automatonClasses bytes))
+    → accepting ≡ sets (replicate statesMost 0) 0 (take statesMost (drop automatonAccepting bytes))
+    → next ≡ sets (replicate nextMost 0) 0 (take nextMost (drop automatonNext bytes))
     → _≡_ {A = Automaton}
-    (record { states = getD bytes 0 0; symbols = getD bytes 1 0; capacity = getD bytes 2 0; initial = getD bytes 3 0; classes = classes; accepting = accepting; next = next })
+    (record {
+      states = byteAt bytes automatonStates;
+      symbols = byteAt bytes automatonSymbols;
+      capacity = byteAt bytes automatonCapacity;
+      initial = byteAt bytes automatonInitial;
+      classes = classes;
+      accepting = accepting;
+      next = next;
+    })
     (automatonOf bytes)
 unfolding automatonOf
 automaton-made bytes classes accepting next long c f n =
-    let x = c ∙ part-copied 4 16 bytes (omega arith) in
-    let y = f ∙ part-copied 20 32 bytes (omega arith) in
-    let z = n ∙ part-copied 52 512 bytes (omega arith) in
-    λ i. record { states = getD bytes 0 0; symbols = getD bytes 1 0; capacity = getD bytes 2 0; initial = getD bytes 3 0; classes = x i; accepting = y i; next = z i }
+    let x = c ∙ part-copied automatonClasses symbolsMost bytes (omega arith) in
+    let y = f ∙ part-copied automatonAccepting statesMost bytes (omega arith) in
+    let z = n ∙ part-copied automatonNext nextMost bytes (omega arith) in
+    λ i.
+    record {
+      states = byteAt bytes automatonStates;
+      symbols = byteAt bytes automatonSymbols;
+      capacity = byteAt bytes automatonCapacity;
+      initial = byteAt bytes automatonInitial;
+      classes = x i;
+      accepting = y i;
+      next = z i;
+    }
 
-pub configuration-made : (bytes buffer : List ℕ) → length bytes ≡ 8 → buffer ≡ sets (replicate 6 0) 0 (take 6 (drop 2 bytes))
-    → _≡_ {A = Configuration} (record { state = getD bytes 0 0; held = getD bytes 1 0; buffer = buffer }) (configurationOf bytes)
+pub configuration-made : (bytes buffer : List ℕ) → length bytes ≡ configurationSize
+    → buffer ≡ sets (replicate capacityMost 0) 0 (take capacityMost (drop configurationBuffer bytes))
+    → _≡_ {A = Configuration}
+    (record { state = byteAt bytes configurationState; held = byteAt bytes configurationHeld; buffer = buffer })
+    (configurationOf bytes)
 unfolding configurationOf
 configuration-made bytes buffer long b =
-    let x = b ∙ part-copied 2 6 bytes (omega arith) in
-    λ i. record { state = getD bytes 0 0; held = getD bytes 1 0; buffer = x i }
+    let x = b ∙ part-copied configurationBuffer capacityMost bytes (omega arith) in
+    λ i. record { state = byteAt bytes configurationState; held = byteAt bytes configurationHeld; buffer = x i }
 
 -- the bytes of a record: four numbers, then three arrays, each stored behind what stands already
-pub automaton-laid : (a : Automaton) (x y z : List ℕ) → length (a .classes) ≡ 16 → length (a .accepting) ≡ 32 → length (a .next) ≡ 512
-    → x ≡ sets (sets (replicate 564 0) 0 (a .states ∷ a .symbols ∷ a .capacity ∷ a .initial ∷ [])) 4 (take 16 (drop 0 (a .classes)))
-    → y ≡ sets x 20 (take 32 (drop 0 (a .accepting)))
-    → z ≡ sets y 52 (take 512 (drop 0 (a .next)))
+pub automaton-laid : (a : Automaton) (x y z : List ℕ)
+    → length (a .classes) ≡ symbolsMost → length (a .accepting) ≡ statesMost → length (a .next) ≡ nextMost
+    → x ≡ sets
+    (sets (replicate automatonSize 0) automatonStates (a .states ∷ a .symbols ∷ a .capacity ∷ a .initial ∷ []))
+    automatonClasses
+    (take symbolsMost (drop 0 (a .classes)))
+    → y ≡ sets x automatonAccepting (take statesMost (drop 0 (a .accepting)))
+    → z ≡ sets y automatonNext (take nextMost (drop 0 (a .next)))
     → z ≡ automatonBytes a
 unfolding automatonBytes
 automaton-laid a x y z c f n xs ys zs =
     let head : List ℕ = a .states ∷ a .symbols ∷ a .capacity ∷ a .initial ∷ [] in
-    let one : x ≡ pad 564 (head ++ a .classes) =
+    let to-classes : List ℕ = head ++ a .classes in
+    let to-flags : List ℕ = to-classes ++ a .accepting in
+    let size = automatonSize in
+    let one : x ≡ pad size to-classes =
     xs ∙
-    ap (λ b. sets b 4 (take 16 (drop 0 (a .classes)))) (pad-stored 564 head (omega arith)) ∙
-    pad-array 564 4 16 head (a .classes) refl c (omega arith) in
-    let k1 : length (head ++ a .classes) ≡ 20 = simp length-append (omega arith) in
-    let two : y ≡ pad 564 ((head ++ a .classes) ++ a .accepting) =
-    ys ∙ ap (λ b. sets b 20 (take 32 (drop 0 (a .accepting)))) one ∙ pad-array 564 20 32 (head ++ a .classes) (a .accepting) k1 f (omega arith) in
-    let k2 : length ((head ++ a .classes) ++ a .accepting) ≡ 52 = length-append (head ++ a .classes) (a .accepting) ∙ omega arith in
-    let three : z ≡ pad 564 (((head ++ a .classes) ++ a .accepting) ++ a .next) =
-    zs ∙ ap (λ b. sets b 52 (take 512 (drop 0 (a .next)))) two ∙ pad-array 564 52 512 ((head ++ a .classes) ++ a .accepting) (a .next) k2 n (omega arith) in
-    let k3 : length (((head ++ a .classes) ++ a .accepting) ++ a .next) ≡ 564 = length-append ((head ++ a .classes) ++ a .accepting) (a .next) ∙ omega arith in
+    ap (λ b. sets b automatonClasses (take symbolsMost (drop 0 (a .classes)))) (pad-stored size head (omega arith)) ∙
+    pad-array size automatonClasses symbolsMost head (a .classes) refl c (omega arith) in
+    let k1 : length to-classes ≡ automatonAccepting = simp length-append (omega arith) in
+    let two : y ≡ pad size to-flags =
+    ys ∙
+    ap (λ b. sets b automatonAccepting (take statesMost (drop 0 (a .accepting)))) one ∙
+    pad-array size automatonAccepting statesMost to-classes (a .accepting) k1 f (omega arith) in
+    let k2 : length to-flags ≡ automatonNext = length-append to-classes (a .accepting) ∙ omega arith in
+    let three : z ≡ pad size (to-flags ++ a .next) =
+    zs ∙
+    ap (λ b. sets b automatonNext (take nextMost (drop 0 (a .next)))) two ∙
+    pad-array size automatonNext nextMost to-flags (a .next) k2 n (omega arith) in
+    let k3 : length (to-flags ++ a .next) ≡ size = length-append to-flags (a .next) ∙ omega arith in
     three ∙
-    pad-full 564 (((head ++ a .classes) ++ a .accepting) ++ a .next) k3 ∙
-    append-assoc (head ++ a .classes) (a .accepting) (a .next) ∙
+    pad-full size (to-flags ++ a .next) k3 ∙
+    append-assoc to-classes (a .accepting) (a .next) ∙
     append-assoc head (a .classes) (a .accepting ++ a .next)
 
-pub configuration-laid : (c : Configuration) (x : List ℕ) → length (c .buffer) ≡ 6
-    → x ≡ sets (sets (replicate 8 0) 0 (c .state ∷ c .held ∷ [])) 2 (take 6 (drop 0 (c .buffer)))
+pub configuration-laid : (c : Configuration) (x : List ℕ) → length (c .buffer) ≡ capacityMost
+    → x ≡ sets
+    (sets (replicate configurationSize 0) configurationState (c .state ∷ c .held ∷ []))
+    configurationBuffer
+    (take capacityMost (drop 0 (c .buffer)))
     → x ≡ configurationBytes c
 unfolding configurationBytes
 configuration-laid c x b xs =
     let head : List ℕ = c .state ∷ c .held ∷ [] in
+    let size = configurationSize in
     xs ∙
-    ap (λ l. sets l 2 (take 6 (drop 0 (c .buffer)))) (pad-stored 8 head (omega arith)) ∙
-    pad-array 8 2 6 head (c .buffer) refl b (omega arith) ∙
-    pad-full 8 (head ++ c .buffer) (simp length-append (omega arith))
+    ap (λ l. sets l configurationBuffer (take capacityMost (drop 0 (c .buffer)))) (pad-stored size head (omega arith)) ∙
+    pad-array size configurationBuffer capacityMost head (c .buffer) refl b (omega arith) ∙
+    pad-full size (head ++ c .buffer) (simp length-append (omega arith))
 
 -- a byte more of a number
 module _ (bytes whole : List ℕ) (i w rest : ℕ) where
@@ -119,35 +159,41 @@ module _ (bytes whole : List ℕ) (i w rest : ℕ) where
   unfolding numberBytes
   number-done l m so-far = let e : 0 ≡ w - i = omega arith in ap (λ k. sets bytes i (numberBytes k rest)) e ∙ so-far
 
-pub number-laid : (v : ℕ) (x : List ℕ) → x ≡ sets (replicate 8 0) 0 (numberBytes 8 v) → x ≡ numberBytes 8 v
-number-laid v x h = h ∙ sets-whole (replicate 8 0) (numberBytes 8 v) (sym (number-length 8 v))
+pub number-laid : (v : ℕ) (x : List ℕ) → x ≡ sets (replicate numberSize 0) 0 (numberBytes numberSize v) → x ≡ numberBytes numberSize v
+number-laid v x h = h ∙ sets-whole (replicate numberSize 0) (numberBytes numberSize v) (sym (number-length numberSize v))
 
 -- a flag as a byte
 pub flag-byte : (b : Bool) → boolByte b ≡ cond b 1 0
 flag-byte true = refl
 flag-byte false = refl
 
-pub received-laid : (r : Received) (x : List ℕ) → length (r .emitted) ≡ 7 → x ≡ sets (replicate 9 0) 0 (take 7 (drop 0 (r .emitted)))
-    → set (set x 7 (r .count)) 8 (boolByte (r .winning)) ≡ receivedBytes r
+pub received-laid : (r : Received) (x : List ℕ) → length (r .emitted) ≡ emittedMost
+    → x ≡ sets (replicate receivedSize 0) receivedEmitted (take emittedMost (drop 0 (r .emitted)))
+    → set (set x receivedCount (r .count)) receivedWinning (boolByte (r .winning)) ≡ receivedBytes r
 unfolding receivedBytes
 received-laid r x e xs =
-    let one : x ≡ pad 9 (r .emitted) = xs ∙ ap (λ l. sets (replicate 9 0) 0 l) (take-all 7 (r .emitted) (omega arith)) ∙ pad-stored 9 (r .emitted) (omega arith) in
+    let size = receivedSize in
     let tail : List ℕ = r .count ∷ cond (r .winning) 1 0 ∷ [] in
-    ap (λ b. set (set x 7 (r .count)) 8 b) (flag-byte (r .winning)) ∙
-    ap (λ l. sets l 7 tail) one ∙
-    ap (λ i. sets (pad 9 (r .emitted)) i tail) (sym e) ∙
-    pad-sets 9 (r .emitted) tail (omega arith) ∙
-    pad-full 9 (r .emitted ++ tail) (simp length-append (omega arith))
+    let one : x ≡ pad size (r .emitted) =
+    xs ∙ ap (λ l. sets (replicate size 0) 0 l) (take-all emittedMost (r .emitted) (omega arith)) ∙ pad-stored size (r .emitted) (omega arith) in
+    ap (λ b. set (set x receivedCount (r .count)) receivedWinning b) (flag-byte (r .winning)) ∙
+    ap (λ l. sets l receivedCount tail) one ∙
+    ap (λ i. sets (pad size (r .emitted)) i tail) (sym e) ∙
+    pad-sets size (r .emitted) tail (omega arith) ∙
+    pad-full size (r .emitted ++ tail) (simp length-append (omega arith))
 
-pub ran-laid : (r : Ran) (n m x y : List ℕ) → n ≡ numberBytes 8 (r .length) → m ≡ numberBytes 8 (r .refused)
-    → x ≡ sets (replicate 16 0) 0 (take 8 (drop 0 n)) → y ≡ sets x 8 (take 8 (drop 0 m)) → y ≡ ranBytes r
+pub ran-laid : (r : Ran) (n m x y : List ℕ) → n ≡ numberBytes numberSize (r .length) → m ≡ numberBytes numberSize (r .refused)
+    → x ≡ sets (replicate ranSize 0) ranLength (take numberSize (drop 0 n))
+    → y ≡ sets x ranRefused (take numberSize (drop 0 m))
+    → y ≡ ranBytes r
 unfolding ranBytes
 ran-laid r n m x y e f xs ys =
-    let a : length n ≡ 8 = ap length e ∙ number-length 8 (r .length) in
-    let b : length m ≡ 8 = ap length f ∙ number-length 8 (r .refused) in
-    let one : x ≡ pad 16 n = xs ∙ ap (λ l. sets (replicate 16 0) 0 l) (take-all 8 n (omega arith)) ∙ pad-stored 16 n (omega arith) in
+    let a : length n ≡ numberSize = ap length e ∙ number-length numberSize (r .length) in
+    let b : length m ≡ numberSize = ap length f ∙ number-length numberSize (r .refused) in
+    let one : x ≡ pad ranSize n =
+    xs ∙ ap (λ l. sets (replicate ranSize 0) 0 l) (take-all numberSize n (omega arith)) ∙ pad-stored ranSize n (omega arith) in
     ys ∙
-    ap (λ l. sets l 8 (take 8 (drop 0 m))) one ∙
-    pad-array 16 8 8 n m a b (omega arith) ∙
-    pad-full 16 (n ++ m) (length-append n m ∙ omega arith) ∙
+    ap (λ l. sets l ranRefused (take numberSize (drop 0 m))) one ∙
+    pad-array ranSize ranRefused numberSize n m a b (omega arith) ∙
+    pad-full ranSize (n ++ m) (length-append n m ∙ omega arith) ∙
     rw (e, f)

@@ -1,3 +1,4 @@
 pub mod Laying
 pub mod Trips
+pub mod Offsets
 pub mod Handing

@@ -1,48 +1,61 @@
 -- Proofs of the layout's claims.
 use Prim.Native.Nat.{ℕ, zero, suc, _+_, _-_, _/_}
-use mathlib.Core.Path.{_≡_, sym, _∙_, ap}
-use mathlib.Core.Bool.{_&&_}
+use mathlib.Core.Path.{_≡_, refl, sym, _∙_, ap}
+use mathlib.Core.Bool.{true, _&&_}
 use mathlib.Core.List.{List, [], _∷_, _++_}
 use native.Mathlib.Omega.{arith}
-use lib.ListN.{length, take, drop, take-append-drop, length-drop}
+use lib.ListN.{length, replicate, take, drop, take-append-drop, length-drop}
 use lib.Seq.{take-at, drop-at, take-all, drop-drop}
 use lib.Dec.{eqb}
-use borrow.Author.Tests.{eqb-true}
+use borrow.Author.Tests.{eqb-true, ne-eqb}
 use Rattle.base.proofs.Bools.{by, and-pair}
 use Rattle.automaton.specs.declared.Automaton.{Automaton}
 use Rattle.automaton.specs.Automaton.{shaped}
-use Rattle.answers.specs.Answers.{received, receiveRefusal, ran, runRefusal}
+use Rattle.answers.specs.Answers.{received, receiveRefusal, ran, ranBuffer, runRefusal}
+use Rattle.configuration.specs.Configuration.{initialAnswer}
+use Rattle.layout.specs.Offsets.{statesMost, symbolsMost, nextMost, capacityMost, automatonClasses, automatonAccepting, automatonNext}
 use Rattle.layout.specs.Layout.{part, automatonOf, automatonBytes, configurationOf, configurationBytes, numberOf, numberBytes}
-use Rattle.layout.specs.Claims.{AutomatonKept, AutomatonBytesKept, ConfigurationKept, ConfigurationBytesKept, NumberKept, RefusedEventKeeps, RefusedRunKeeps}
+use Rattle.layout.specs.Answers.{receivedBytes, ranBytes}
+use Rattle.layout.specs.Calls.{initialBytes, receivedLeft, ranLeft, receiveLeaves, runLeaves}
+use Rattle.layout.specs.Claims.{AutomatonKept, AutomatonBytesKept, ConfigurationKept, ConfigurationBytesKept, NumberKept}
+use Rattle.layout.specs.Claims.{RefusedInitialKeeps, RefusedEventKeeps, RefusedRunKeeps}
 
 -- the arrays of a record, found again behind its four numbers
-module _ (a : Automaton) (x : length (a .classes) ≡ 16) (y : length (a .accepting) ≡ 32) (z : length (a .next) ≡ 512) where
-  behind-classes : drop 20 (automatonBytes a) ≡ a .accepting ++ a .next
+module _ (a : Automaton) (x : length (a .classes) ≡ symbolsMost) (y : length (a .accepting) ≡ statesMost) (z : length (a .next) ≡ nextMost) where
+  behind-classes : drop automatonAccepting (automatonBytes a) ≡ a .accepting ++ a .next
   unfolding automatonBytes
-  behind-classes = drop-at (a .classes) (a .accepting ++ a .next) 16 x
+  behind-classes = drop-at (a .classes) (a .accepting ++ a .next) symbolsMost x
 
-  classes-found : part 4 16 (automatonBytes a) ≡ a .classes
+  classes-found : part automatonClasses symbolsMost (automatonBytes a) ≡ a .classes
   unfolding part automatonBytes
-  classes-found = take-at (a .classes) (a .accepting ++ a .next) 16 x
+  classes-found = take-at (a .classes) (a .accepting ++ a .next) symbolsMost x
 
-  accepting-found : part 20 32 (automatonBytes a) ≡ a .accepting
+  accepting-found : part automatonAccepting statesMost (automatonBytes a) ≡ a .accepting
   unfolding part
-  accepting-found = ap (take 32) behind-classes ∙ take-at (a .accepting) (a .next) 32 y
+  accepting-found = ap (take statesMost) behind-classes ∙ take-at (a .accepting) (a .next) statesMost y
 
-  next-found : part 52 512 (automatonBytes a) ≡ a .next
+  next-found : part automatonNext nextMost (automatonBytes a) ≡ a .next
   unfolding part
   next-found =
-      ap (take 512) (sym (drop-drop 32 20 (automatonBytes a)) ∙ ap (drop 32) behind-classes ∙ drop-at (a .accepting) (a .next) 32 y) ∙
-      take-all 512 (a .next) (omega arith)
+      ap (take nextMost)
+      (sym (drop-drop statesMost automatonAccepting (automatonBytes a)) ∙
+      ap (drop statesMost) behind-classes ∙
+      drop-at (a .accepting) (a .next) statesMost y) ∙
+      take-all nextMost (a .next) (omega arith)
 
-pub automaton-kept : AutomatonKept
-unfolding automatonOf automatonBytes shaped
-automaton-kept a h =
+-- the lengths that the arrays' types give
+pub shaped-lengths : (a : Automaton) → shaped a ≡ true
+    → (length (a .classes) ≡ symbolsMost) × (length (a .accepting) ≡ statesMost) × (length (a .next) ≡ nextMost)
+unfolding shaped
+shaped-lengths a h =
     let k = and-pair (eqb (length (a .classes)) 16) (eqb (length (a .accepting)) 32 && eqb (length (a .next)) 512) h in
     let l = and-pair (eqb (length (a .accepting)) 32) (eqb (length (a .next)) 512) (k .1) in
-    let x = eqb-true (length (a .classes)) 16 (k .0) in
-    let y = eqb-true (length (a .accepting)) 32 (l .0) in
-    let z = eqb-true (length (a .next)) 512 (l .1) in
+    (eqb-true (length (a .classes)) 16 (k .0), eqb-true (length (a .accepting)) 32 (l .0), eqb-true (length (a .next)) 512 (l .1))
+
+pub automaton-kept : AutomatonKept
+unfolding automatonOf automatonBytes
+automaton-kept a h =
+    let (x, y, z) = shaped-lengths a h in
     λ i.
     record {
       states = a .states;
@@ -55,12 +68,15 @@ automaton-kept a h =
     }
 
 -- the arrays' parts of the bytes behind the four numbers, end to end
-parts-joined : (l : List ℕ) → length l ≡ 560 → take 16 l ++ (take 32 (drop 16 l) ++ take 512 (drop 48 l)) ≡ l
+parts-joined : (l : List ℕ) → length l ≡ symbolsMost + statesMost + nextMost
+    → take symbolsMost l ++ (take statesMost (drop symbolsMost l) ++ take nextMost (drop (symbolsMost + statesMost) l)) ≡ l
 parts-joined l h =
-    let last : take 512 (drop 48 l) ≡ drop 32 (drop 16 l) = take-all 512 (drop 48 l) (rw (length-drop 48 l) (omega arith)) ∙ sym (drop-drop 32 16 l) in
-    ap (λ r. take 16 l ++ (take 32 (drop 16 l) ++ r)) last ∙
-    ap (λ r. take 16 l ++ r) (take-append-drop 32 (drop 16 l)) ∙
-    take-append-drop 16 l
+    let behind = drop (symbolsMost + statesMost) l in
+    let last : take nextMost behind ≡ drop statesMost (drop symbolsMost l) =
+    take-all nextMost behind (rw (length-drop (symbolsMost + statesMost) l) (omega arith)) ∙ sym (drop-drop statesMost symbolsMost l) in
+    ap (λ r. take symbolsMost l ++ (take statesMost (drop symbolsMost l) ++ r)) last ∙
+    ap (λ r. take symbolsMost l ++ r) (take-append-drop statesMost (drop symbolsMost l)) ∙
+    take-append-drop symbolsMost l
 
 pub automaton-bytes-kept : AutomatonBytesKept
 unfolding automatonOf automatonBytes part
@@ -73,30 +89,40 @@ automaton-bytes-kept (n ∷ m ∷ b ∷ q ∷ l) h = ap (λ r. n ∷ m ∷ b ∷
 pub configuration-kept : ConfigurationKept
 unfolding configurationOf configurationBytes part
 configuration-kept c h =
-    let x = take-all 6 (c .buffer) (omega arith) in
+    let x = take-all capacityMost (c .buffer) (omega arith) in
     λ i. record { state = c .state; held = c .held; buffer = x i }
 
 pub configuration-bytes-kept : ConfigurationBytesKept
 unfolding configurationOf configurationBytes part
 configuration-bytes-kept [] h = absurd (omega arith)
 configuration-bytes-kept (q ∷ []) h = absurd (omega arith)
-configuration-bytes-kept (q ∷ n ∷ l) h = ap (λ r. q ∷ n ∷ r) (take-all 6 l (omega arith))
+configuration-bytes-kept (q ∷ n ∷ l) h = ap (λ r. q ∷ n ∷ r) (take-all capacityMost l (omega arith))
 
 pub number-kept : NumberKept
 unfolding numberOf numberBytes
 number-kept zero v h = omega arith
 number-kept (suc width) v h = omega (arith, number-kept width (v / 256) (omega arith))
 
+pub initial-written : (record-bytes lent : List ℕ) → initialAnswer (automatonOf record-bytes) .refusal ≡ 0
+    → initialBytes record-bytes lent ≡ configurationBytes (initialAnswer (automatonOf record-bytes) .configuration)
+unfolding initialBytes
+initial-written record-bytes lent accepted = rw accepted
+
+pub refused-initial-keeps : RefusedInitialKeeps
+unfolding initialBytes
+refused-initial-keeps record-bytes lent refused =
+    rw (ne-eqb (initialAnswer (automatonOf record-bytes) .refusal) 0 refused)
+
 pub refused-event-keeps : RefusedEventKeeps
-unfolding received
-refused-event-keeps a t bytes e long refused =
-    by (eqb (receiveRefusal a t (configurationOf bytes) e) 0)
+unfolding received receiveLeaves receivedLeft receivedBytes
+refused-event-keeps record-bytes t c e long refused =
+    by (eqb (receiveRefusal (automatonOf record-bytes) t (configurationOf c) e) 0)
     (λ h. absurd (refused (rw h)))
-    (λ h. rw h (configuration-bytes-kept bytes long))
+    (λ h. rw h (configuration-bytes-kept c long, refl))
 
 pub refused-run-keeps : RefusedRunKeeps
-unfolding ran
-refused-run-keeps a t bytes events out long refused =
-    by (eqb (runRefusal a t (configurationOf bytes) events out) 0)
+unfolding ran ranBuffer runLeaves ranLeft ranBytes numberBytes
+refused-run-keeps record-bytes t c events out long refused =
+    by (eqb (runRefusal (automatonOf record-bytes) t (configurationOf c) events out) 0)
     (λ h. absurd (refused (rw h)))
-    (λ h. rw h (configuration-bytes-kept bytes long))
+    (λ h. rw h (configuration-bytes-kept c long, refl, refl))

@@ -4,12 +4,20 @@ use mathlib.Core.List.{List, [], _∷_, _++_}
 use lib.ListN.{getD, take, drop}
 use Rattle.automaton.specs.declared.Automaton.{Automaton}
 use Rattle.configuration.specs.declared.Configuration.{Configuration}
+use Rattle.layout.specs.Offsets.{statesMost, symbolsMost, nextMost, capacityMost}
+use Rattle.layout.specs.Offsets.{automatonStates, automatonSymbols, automatonCapacity, automatonInitial}
+use Rattle.layout.specs.Offsets.{automatonClasses, automatonAccepting, automatonNext}
+use Rattle.layout.specs.Offsets.{configurationState, configurationHeld, configurationBuffer}
+
+-- the byte at a place
+abbrev pub byteAt : List ℕ → ℕ → ℕ
+byteAt bytes place = getD bytes place 0
 
 -- `count` bytes from a place on
 unfoldable pub part : ℕ → ℕ → List ℕ → List ℕ
 part at count bytes = take count (drop at bytes)
 
--- the record (document 01's sheet) in 564 bytes: four numbers, 16 classes, 32 flags, 512 next states
+-- the record (document 01's sheet): four numbers, the classes, the flags, the next states
 unfoldable pub automatonBytes : Automaton → List ℕ
 automatonBytes a =
     (a .states ∷ a .symbols ∷ a .capacity ∷ a .initial ∷ []) ++ (a .classes ++ (a .accepting ++ a .next))
@@ -17,21 +25,26 @@ automatonBytes a =
 unfoldable pub automatonOf : List ℕ → Automaton
 automatonOf bytes =
     record {
-      states = getD bytes 0 0;
-      symbols = getD bytes 1 0;
-      capacity = getD bytes 2 0;
-      initial = getD bytes 3 0;
-      classes = part 4 16 bytes;
-      accepting = part 20 32 bytes;
-      next = part 52 512 bytes;
+      states = byteAt bytes automatonStates;
+      symbols = byteAt bytes automatonSymbols;
+      capacity = byteAt bytes automatonCapacity;
+      initial = byteAt bytes automatonInitial;
+      classes = part automatonClasses symbolsMost bytes;
+      accepting = part automatonAccepting statesMost bytes;
+      next = part automatonNext nextMost bytes;
     }
 
--- the configuration (document 01's carried state) in 8 bytes: the state, how many are held, 6 places
+-- the configuration (document 01's carried state): the state, how many are held, the places of the buffer
 unfoldable pub configurationBytes : Configuration → List ℕ
 configurationBytes c = (c .state ∷ c .held ∷ []) ++ c .buffer
 
 unfoldable pub configurationOf : List ℕ → Configuration
-configurationOf bytes = record { state = getD bytes 0 0; held = getD bytes 1 0; buffer = part 2 6 bytes }
+configurationOf bytes =
+    record {
+      state = byteAt bytes configurationState;
+      held = byteAt bytes configurationHeld;
+      buffer = part configurationBuffer capacityMost bytes;
+    }
 
 -- a number in `width` bytes, low byte first
 unfoldable pub numberBytes : ℕ → ℕ → List ℕ

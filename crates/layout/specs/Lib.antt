@@ -1,3 +1,5 @@
+pub mod Offsets
 pub mod Layout
 pub mod Answers
+pub mod Calls
 pub mod Claims

@@ -1,11 +1,27 @@
 use Rattle.layout.specs.Answers.{ranBytes}
-use Rattle.layout.specs.Layout.{configurationBytes}
+use Rattle.layout.specs.Layout.{automatonOf, configurationOf, configurationBytes}
+use Rattle.layout.specs.Calls.{ranLeft, runLeaves}
 use Rattle.answers.specs.Answers.{ran, ranBuffer}
 use Rattle.embedding.proofs.Over.{over}
-use mathlib.Core.Path.{_∙_, ap}
+use mathlib.Core.Path.{_≡_, _∙_, ap}
 use borrow.Author.Needs.{needs}
 use Rattle.embedding.proofs.jaxhophasi_run.Statement.{statement}
 use Rattle.embedding.proofs.jaxhophasi_run.Tie as tie
+
+abbrev start : tie.After-run → tie.Start
+start c = c .before .before .before .before .before .before .before .before
+
+-- what the call under it answers, over what the lent bytes say
+answered : (c : tie.After-run) → let g = start c .args in
+    c .run .result
+    ≡ ran (automatonOf (g .automaton .now)) (g .table .now) (configurationOf (g .configuration .now)) (g .events .now) (g .out .now)
+answered c =
+    let g = start c .args in
+    over
+    (λ a k. ran a (g .table .now) k (g .events .now) (g .out .now))
+    (c .run .ensures .0)
+    (c .before .before .before .before .automaton-of .ensures)
+    (c .before .before .configuration-of .ensures)
 
 automaton-of-requires : tie.Need-automaton-of-requires
 automaton-of-requires c κs = search needs
@@ -26,7 +42,21 @@ same-length : tie.Need-same-length
 same-length c = search needs
 
 returns : tie.Need-returns
-returns c = let g = c .before .before .before .before .before .before .before .before .before .before .before .before .before .args in let a = c .before .before .before .before .before .before .before .before .before .automaton-of .ensures in let k = c .before .before .before .before .before .before .before .configuration-of .ensures in let x = over (λ a k. ran a (g .table .now) k (g .events .now) (g .out .now)) (c .before .before .before .before .before .run .ensures .0) a k in (ap (λ r. r .refusal) x, c .before .configuration-bytes .ensures ∙ ap (λ r. configurationBytes (r .configuration)) x, c .ran-bytes .ensures ∙ ap ranBytes x, over (λ a k. ranBuffer a (g .table .now) k (g .events .now) (g .out .now)) (c .before .before .before .before .before .run .ensures .1) a k)
+unfolding runLeaves ranLeft
+returns c =
+    let bytes = c .before in
+    let call = bytes .before .before .before .before in
+    let g = start call .args in
+    let x = answered call in (
+      ap (λ r. r .refusal) x,
+      bytes .configuration-bytes .ensures ∙ ap (λ r. configurationBytes (r .configuration)) x,
+      c .ran-bytes .ensures ∙ ap ranBytes x,
+      over
+          (λ a k. ranBuffer a (g .table .now) k (g .events .now) (g .out .now))
+          (call .run .ensures .1)
+          (call .before .before .before .before .automaton-of .ensures)
+          (call .before .before .configuration-of .ensures),
+    )
 
 pub jaxhophasi-run-spec : {M : Type 1} → statement M
 jaxhophasi-run-spec =
