@@ -1,36 +1,49 @@
 // The day program: reads standard input and writes its transcript.
+use streams::Written;
 ghost use mathlib.Core.Path.{_≡_};
-ghost use Prim.Native.Nat.{_%_, _^_};
+ghost use Prim.Native.Nat.{_≤_};
 ghost use lib.ListN.{length};
+ghost use Rattle.lines.specs.Lines.{lineRoom};
 ghost use Rattle.transcript.specs.Transcript.{transcript};
 ghost use Rattle.transcript.specs.Pieces.{tableAfter};
+ghost use Rattle.day.specs.Delivery.{Delivered};
 
-// Writes the transcript of an input piece by piece to standard output, and gives its length. (What goes out is what `next_piece` hands
-// over: the library under it promises nothing.)
-fn write(input: &[u8], table: &mut [u32; 16384]) -> usize
-    ensures { λ r. ⌜ r ≡ length (transcript (now (input .entry))) % 2 ^ 64 ⌝ }
+// Writes the transcript of an input piece by piece to standard output, until a piece cannot be written whole.
+fn write(input: &[u8], table: &mut [u32; 16384], out: &mut [u8]) -> Written
+    requires { ⌜ lineRoom ≤ length (now out) ⌝ }
+    ensures { λ r. ⌜ Delivered (transcript (now (input .entry))) (now (out .exit)) (r .count) (r .done) ⌝ }
     ensures { λ _. ⌜ now (table .exit) ≡ tableAfter (now (input .entry)) (now (table .entry)) ⌝ }
 {
-    let mut out = [0u8; 4096];
-    let mut total: usize = 0;
+    let mut count: usize = 0;
     let mut progress = opening::begin(input, table);
     loop {
-        let piece = pieces::next_piece(progress, input, table, &mut out);
+        let piece = pieces::next_piece(progress, input, table, out);
         let length = piece.length;
         if length == 0 {
-            break;
+            break Written { count, done: true };
         }
-        io::write_all(1, &out[..length]);
-        total = std::num::wrapping_add_usize(total, length);
+        let written = streams::write_all(streams::STANDARD_OUTPUT, &out[..length]);
+        count = std::num::wrapping_add_usize(count, written.count);
+        if !written.done {
+            break Written { count, done: false };
+        }
         let rest = piece.progress;
         progress = rest;
     }
-    total
 }
 
 fn main() {
     let mut input = [0u8; 60001];
-    let count = io::read_full(0, &mut input);
+    let read = streams::read_all(streams::STANDARD_INPUT, &mut input);
+    if read.failed {
+        streams::cannot_read(b"day");
+        return;
+    }
+    let count = read.length;
     let mut table = [0u32; 16384];
-    write(&input[..count], &mut table);
+    let mut out = [0u8; 4096];
+    let written = write(&input[..count], &mut table, &mut out);
+    if !written.done {
+        streams::cannot_write(b"day");
+    }
 }

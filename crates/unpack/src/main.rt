@@ -19,12 +19,21 @@ fn text_room() -> [u8; 240000]
 
 fn main() {
     let mut input = byte_room();
-    let count = io::read_full(0, &mut input);
+    let read = streams::read_all(streams::STANDARD_INPUT, &mut input);
+    if read.failed {
+        streams::cannot_read(b"unpack");
+        return;
+    }
+    let count = read.length;
     let mut out = text_room();
     let mut note = [0u8; 96];
-    let written = conversion::unpack_input(&input[..count], &mut out, &mut note);
-    let bytes = written.bytes;
-    let said = written.note;
-    io::write_all(1, &out[..bytes]);
-    io::write_all(2, &note[..said]);
+    let output = conversion::unpack_input(&input[..count], &mut out, &mut note);
+    let bytes = output.bytes;
+    let said = output.note;
+    let written = streams::write_all(streams::STANDARD_OUTPUT, &out[..bytes]);
+    if !written.done {
+        streams::cannot_write(b"unpack");
+        return;
+    }
+    streams::write_all(streams::STANDARD_ERROR, &note[..said]);
 }

@@ -1,7 +1,5 @@
 use mathlib.Core.Path.{sym}
-use lib.Seq.{length-take-le}
-use Rattle.text.proofs.Appending.{kept}
-use native.Mathlib.Omega.{arith}
+use Rattle.streams.proofs.Handing.{front-within, front-length}
 use borrow.Author.Needs.{needs}
 use Rattle.pack.proofs.main.Statement.{statement}
 use Rattle.pack.proofs.main.Tie as tie
@@ -9,11 +7,20 @@ use Rattle.pack.proofs.main.Tie as tie
 text-room-requires : tie.Need-text-room-requires
 text-room-requires c κs = search needs
 
-slice-aggregate-read-full : tie.Need-slice-aggregate-read-full
-slice-aggregate-read-full c = search needs
+slice-aggregate-read-all : tie.Need-slice-aggregate-read-all
+slice-aggregate-read-all c = search needs
 
-read-full-requires : tie.Need-read-full-requires
-read-full-requires c κs = search needs
+read-all-requires : tie.Need-read-all-requires
+read-all-requires c κs = search needs
+
+slice-aggregate-cannot-read : tie.Need-slice-aggregate-cannot-read
+slice-aggregate-cannot-read c = search needs
+
+cannot-read-requires : tie.Need-cannot-read-requires
+cannot-read-requires c κs = search needs
+
+returns : tie.Need-returns
+returns c = search needs
 
 byte-room-requires : tie.Need-byte-room-requires
 byte-room-requires c κs = search needs
@@ -28,33 +35,45 @@ pack-input-requires : tie.Need-pack-input-requires
 pack-input-requires c κs = search needs
 
 array-share-prefix-out : tie.Need-array-share-prefix-out
-array-share-prefix-out c = omega (arith, c .pack-input .ensures .0 .inside, kept (c .pack-input .ensures .0))
+array-share-prefix-out c = front-within (c .pack-input .ensures .0)
 
 slice-aggregate-write-all : tie.Need-slice-aggregate-write-all
-slice-aggregate-write-all c = sym (length-take-le _ _ (omega (arith, c .before .pack-input .ensures .0 .inside, kept (c .before .pack-input .ensures .0))))
+slice-aggregate-write-all c = sym (front-length (c .before .pack-input .ensures .0))
 
 write-all-requires : tie.Need-write-all-requires
 write-all-requires c κs = search needs
 
+slice-aggregate-cannot-write : tie.Need-slice-aggregate-cannot-write
+slice-aggregate-cannot-write c = search needs
+
+cannot-write-requires : tie.Need-cannot-write-requires
+cannot-write-requires c κs = search needs
+
+returns-2 : tie.Need-returns-2
+returns-2 c = search needs
+
 array-share-prefix-note : tie.Need-array-share-prefix-note
-array-share-prefix-note c = omega (arith, c .before .before .pack-input .ensures .1 .inside, kept (c .before .before .pack-input .ensures .1))
+array-share-prefix-note c = front-within (c .before .before .before .before .pack-input .ensures .1)
 
 slice-aggregate-write-all-2 : tie.Need-slice-aggregate-write-all-2
-slice-aggregate-write-all-2 c = sym (length-take-le _ _ (omega (arith, c .before .before .before .pack-input .ensures .1 .inside, kept (c .before .before .before .pack-input .ensures .1))))
+slice-aggregate-write-all-2 c = sym (front-length (c .before .before .before .before .before .pack-input .ensures .1))
 
 write-all-requires-2 : tie.Need-write-all-requires-2
 write-all-requires-2 c κs = search needs
 
-returns : tie.Need-returns
-returns c = search needs
+returns-3 : tie.Need-returns-3
+returns-3 c = search needs
 
 pub main-spec : {M : Type 1} → statement M
 main-spec =
     tie.close
     (tie.spec
     text-room-requires
-    slice-aggregate-read-full
-    read-full-requires
+    slice-aggregate-read-all
+    read-all-requires
+    slice-aggregate-cannot-read
+    cannot-read-requires
+    returns
     byte-room-requires
     array-share-prefix-input
     slice-aggregate-pack-input
@@ -62,7 +81,10 @@ main-spec =
     array-share-prefix-out
     slice-aggregate-write-all
     write-all-requires
+    slice-aggregate-cannot-write
+    cannot-write-requires
+    returns-2
     array-share-prefix-note
     slice-aggregate-write-all-2
     write-all-requires-2
-    returns)
+    returns-3)

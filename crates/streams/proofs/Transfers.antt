@@ -1,0 +1,169 @@
+-- Laws of a transfer, call by call.
+use Prim.Native.Nat.{ℕ, _+_, _-_, _≤_, _<_, _^_}
+use mathlib.Core.Path.{_≡_, refl, sym, _∙_, ap}
+use mathlib.Core.Bool.{Bool, true, false, cond, _&&_}
+use mathlib.Core.List.{List}
+use native.Mathlib.Omega.{arith}
+use lib.ListN.{length, take, drop, length-drop}
+use lib.Seq.{length-take-le}
+use lib.IntN.{ℤ, pos, negsuc, natAbs}
+use lib.Signed.{mag, ltZ, nonNeg}
+use lib.Dec.{T, eqb, ltb}
+use borrow.Author.Tests.{lt-ltb, le-ltb, ltb-true, ltb-false, eq-eqb, ne-eqb, eqb-true, eqb-false}
+use mir.Syntax.{w32, w64}
+use mir.Val.{Fits, SFits, toZ, ofZ}
+use mir.ValLaws.{toZ-ofZ}
+use Rattle.base.proofs.Bools.{by, clash, and-right}
+use Rattle.libc.specs.Io.{Moved}
+use Rattle.streams.specs.Streams.{Transfer, begun, ended, advanced, moved, again, interrupted, failed, after}
+
+module _ (t : Transfer) where
+  -- a call that moved bytes
+  pub moved-none : (bytes : ℕ) → bytes ≡ 0 → ended t false ≡ moved t bytes
+  unfolding moved
+  moved-none bytes z = rw (eq-eqb bytes 0 z)
+
+  pub moved-some : (bytes : ℕ) → (bytes ≡ 0 → ⊥) → advanced t bytes ≡ moved t bytes
+  unfolding moved
+  moved-some bytes h = rw (ne-eqb bytes 0 h)
+
+  -- a call that failed; C's `errno` comes as its bits
+  other : (error : ℤ) → (ofZ w32 error ≡ 4 → ⊥) → interrupted error ≡ false
+  unfolding interrupted
+  other (pos error) h = ne-eqb error 4 h
+  other (negsuc error) h = refl
+
+  signal : (error : ℤ) → SFits w32 error → ofZ w32 error ≡ 4 → interrupted error ≡ true
+  unfolding interrupted
+  signal (pos error) f h = eq-eqb error 4 h
+  signal (negsuc error) f h = absurd (omega (arith, f .sfits))
+
+  pub failed-otherwise : (error : ℤ) → (ofZ w32 error ≡ 4 → ⊥) → ended t true ≡ failed t error
+  unfolding failed
+  failed-otherwise error h = rw (other error h)
+
+  pub failed-often : (error : ℤ) → SFits w32 error → ofZ w32 error ≡ 4 → t .interruptions ≡ 0 → ended t true ≡ failed t error
+  unfolding failed
+  failed-often error f h z = rw (signal error f h, z)
+
+  pub failed-again : (error : ℤ) → SFits w32 error → ofZ w32 error ≡ 4 → (t .interruptions ≡ 0 → ⊥) → again t ≡ failed t error
+  unfolding failed
+  failed-again error f h z = rw (signal error f h, lt-ltb 0 (t .interruptions) (omega arith))
+
+-- what a call answered, which comes as its bits too
+module _ (t : Transfer) (error : ℤ) where
+  pub after-negative : SFits w32 error → (answer : ℤ) → SFits w64 answer → ltZ (toZ w64 (ofZ w64 answer)) (pos 0) ≡ true
+      → failed t (toZ w32 (ofZ w32 error)) ≡ after t answer error
+  unfolding after
+  after-negative e (pos bytes) f h = absurd (omega (arith, ltb-true bytes 0 (rw (toZ-ofZ w64 (pos bytes) f) at h)))
+  after-negative e (negsuc k) f h = ap (failed t) (toZ-ofZ w32 error e)
+
+  pub after-bytes : (answer : ℤ) → SFits w64 answer → ltZ (toZ w64 (ofZ w64 answer)) (pos 0) ≡ false
+      → moved t (natAbs (toZ w64 (ofZ w64 answer))) ≡ after t answer error
+  unfolding after
+  after-bytes (pos bytes) f h = rw (toZ-ofZ w64 (pos bytes) f)
+  after-bytes (negsuc k) f h = absurd (clash refl (rw (toZ-ofZ w64 (negsuc k) f) at h))
+
+pub bytes-fit : (answer : ℤ) → SFits w64 answer → ltZ (toZ w64 (ofZ w64 answer)) (pos 0) ≡ false
+    → T (nonNeg (toZ w64 (ofZ w64 answer))) × Fits w64 (natAbs (toZ w64 (ofZ w64 answer)))
+bytes-fit (pos bytes) f h = rw (toZ-ofZ w64 (pos bytes) f) (tt, record { fits = omega (arith, f .sfits) })
+bytes-fit (negsuc k) f h = absurd (clash refl (rw (toZ-ofZ w64 (negsuc k) f) at h))
+
+pub bytes-within : (answer : ℤ) (n : ℕ) → SFits w64 answer → ltZ (toZ w64 (ofZ w64 answer)) (pos 0) ≡ false → Moved n answer
+    → natAbs (toZ w64 (ofZ w64 answer)) ≤ n
+bytes-within (pos bytes) n f h m = rw (toZ-ofZ w64 (pos bytes) f) m
+bytes-within (negsuc k) n f h m = absurd (clash refl (rw (toZ-ofZ w64 (negsuc k) f) at h))
+
+-- the loop over the calls: where a transfer of n bytes stands
+pub record Standing (n : ℕ) (t : Transfer) : Type 0 where
+  pub whole : t .size ≡ n
+  pub within : t .count ≤ n
+  pub room : t .going ≡ true → t .count < n
+  pub sound : t .going ≡ true → t .failed ≡ false
+  pub short : t .failed ≡ true → t .count < n
+
+pub stands-begun : (n : ℕ) → Standing n (begun n)
+stands-begun n =
+    record {
+      whole = refl;
+      within = omega arith;
+      room = λ h. ltb-true 0 n h;
+      sound = λ h. refl;
+      short = λ h. absurd (clash h refl);
+    }
+
+-- what is still to be moved, the interruptions that are left, and the last call
+abbrev pub unspent : Transfer → ℕ
+unspent t = (t .size - t .count) + t .interruptions + cond (t .going) 1 0
+
+-- what is lent to a call is what is left
+pub lent-answer : {t : Transfer} (bytes : List ℕ) → Standing (length bytes) t → (answer : ℤ) → mag answer < 2 ^ 63
+    → Moved (length (take (length bytes - t .count) (drop (t .count) bytes))) answer → Moved (t .size - t .count) (toZ w64 (ofZ w64 answer))
+lent-answer {t} bytes g answer f m =
+    let rest = take (length bytes - t .count) (drop (t .count) bytes) in
+    let l : length rest ≡ t .size - t .count =
+    length-take-le _ (drop (t .count) bytes) (rw (length-drop (t .count) bytes) (omega arith)) ∙ ap (λ k. k - t .count) (sym (g .whole)) in
+    rw (toZ-ofZ w64 answer (record { sfits = f })) (rw l at m)
+
+module _ {n : ℕ} {t : Transfer} (g : Standing n t) (goes : t .going ≡ true) where
+  stands-ended : (failed : Bool) → Standing n (ended t failed)
+  stands-ended failed =
+      record {
+        whole = g .whole;
+        within = g .within;
+        room = λ h. absurd (clash h refl);
+        sound = λ h. absurd (clash h refl);
+        short = λ h. g .room goes;
+      }
+
+  less-ended : (failed : Bool) → unspent (ended t failed) < unspent t
+  less-ended failed = rw goes (omega arith)
+
+  stands-moved : (bytes : ℕ) → bytes ≤ t .size - t .count → Standing n (moved t bytes)
+  stands-moved bytes m =
+      by (eqb bytes 0)
+      (λ e. rw (sym (moved-none t bytes (eqb-true bytes 0 e))) (stands-ended false))
+      (λ e. rw (sym (moved-some t bytes (eqb-false bytes 0 e)))
+      (record {
+        whole = g .whole;
+        within = omega (arith, g .whole, g .within);
+        room = λ h. omega (arith, g .whole, ltb-true (t .count + bytes) (t .size) h);
+        sound = λ h. g .sound goes;
+        short = λ h. absurd (clash h (g .sound goes));
+      }))
+
+  bit-small : (b : Bool) → cond b 1 0 ≤ 1
+  bit-small true = omega arith
+  bit-small false = omega arith
+
+  less-moved : (bytes : ℕ) → bytes ≤ t .size - t .count → unspent (moved t bytes) < unspent t
+  less-moved bytes m =
+      by (eqb bytes 0)
+      (λ e. rw (sym (moved-none t bytes (eqb-true bytes 0 e))) (less-ended false))
+      (λ e. rw (sym (moved-some t bytes (eqb-false bytes 0 e)))
+      (let z = eqb-false bytes 0 e in
+      rw goes (omega (arith, g .room goes, g .whole, bit-small (ltb (t .count + bytes) (t .size))))))
+
+  stands-failed : (error : ℤ) → Standing n (failed t error)
+  unfolding failed
+  stands-failed error =
+      by (interrupted error && ltb 0 (t .interruptions))
+      (λ e. rw e (record { whole = g .whole; within = g .within; room = g .room; sound = g .sound; short = g .short }))
+      (λ e. rw e (stands-ended true))
+
+  less-failed : (error : ℤ) → unspent (failed t error) < unspent t
+  unfolding failed
+  less-failed error =
+      by (interrupted error && ltb 0 (t .interruptions))
+      (λ e. let i = ltb-true 0 (t .interruptions) (and-right (interrupted error) _ e) in rw e (omega arith))
+      (λ e. rw e (less-ended true))
+
+  pub stands-after : (answer error : ℤ) → Moved (t .size - t .count) answer → Standing n (after t answer error)
+  unfolding after
+  stands-after (pos bytes) error m = stands-moved bytes m
+  stands-after (negsuc k) error m = stands-failed error
+
+  pub less-after : (answer error : ℤ) → Moved (t .size - t .count) answer → unspent (after t answer error) < unspent t
+  unfolding after
+  less-after (pos bytes) error m = less-moved bytes m
+  less-after (negsuc k) error m = less-failed error
