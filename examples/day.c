@@ -2,11 +2,33 @@
  * A sheet, its events one by one, and the same events as a whole day.
  *
  *   day SHEET EVENT ..     SHEET is a file with a sheet's bytes, each EVENT a number
+ *
+ * Status 0: all was printed. 1: the sheet is refused, or the output could not be written. 2: a fault in what is given.
  */
+#include <errno.h>
 #include <stdio.h>
 #include <stdlib.h>
+#include <string.h>
 
 #include "jaxhophasi.h"
+
+/* One byte more than a sheet can have. */
+#define BYTES_READ (3 * JAXHOPHASI_SHEET_MOST + 1)
+
+/* Says what is wrong, of a name where there is one, and ends. */
+static void stop(int status, const char *name, const char *fault)
+{
+    fprintf(stderr, "day: %s%s%s\n", name, *name ? ": " : "", fault);
+    exit(status);
+}
+
+static void *room(size_t count, size_t size)
+{
+    void *place = calloc(count + 1, size);
+    if (!place)
+        stop(1, "", strerror(ENOMEM));
+    return place;
+}
 
 static void print_symbols(const uint8_t *symbols, size_t count)
 {
@@ -40,9 +62,7 @@ static void print_event(const uint8_t *automaton, const uint32_t *table, size_t 
 static void print_day(const uint8_t *automaton, const uint32_t *table, size_t places, const uint32_t *events, size_t count)
 {
     uint8_t configuration[JAXHOPHASI_CONFIGURATION_SIZE], answer[JAXHOPHASI_RAN_SIZE];
-    uint8_t *out = malloc(count + 1);
-    if (!out)
-        return;
+    uint8_t *out = room(count, sizeof *out);
     jaxhophasi_initial(automaton, configuration);
     uint8_t row = jaxhophasi_run(automaton, table, places, configuration, events, count, out, count, answer);
     if (row)
@@ -57,14 +77,12 @@ static void print_day(const uint8_t *automaton, const uint32_t *table, size_t pl
 }
 
 /* Solves the sheet and runs the events. A record that was read is refused by none of these calls. */
-static int run(const uint8_t *automaton, const uint32_t *events, size_t count)
+static void run(const uint8_t *automaton, const uint32_t *events, size_t count)
 {
     uint8_t number[JAXHOPHASI_NUMBER_SIZE], configuration[JAXHOPHASI_CONFIGURATION_SIZE], winning[JAXHOPHASI_STATUS_SIZE];
     jaxhophasi_buffers_count(automaton, number);
     size_t places = JAXHOPHASI_TABLE_LENGTH(jaxhophasi_number_at(number));
-    uint32_t *table = malloc(places * sizeof *table);
-    if (!table)
-        return 1;
+    uint32_t *table = room(places, sizeof *table);
     jaxhophasi_solve(automaton, table, places, number);
     printf("solved %zu places, %u rounds\n", places, (unsigned)jaxhophasi_number_at(number));
     jaxhophasi_initial(automaton, configuration);
@@ -75,31 +93,55 @@ static int run(const uint8_t *automaton, const uint32_t *events, size_t count)
         print_event(automaton, table, places, configuration, events[i]);
     print_day(automaton, table, places, events, count);
     free(table);
-    return 0;
+}
+
+/* The number of an event: digits alone, at most 32 bits. */
+static uint32_t event_number(const char *word)
+{
+    uint64_t value = 0;
+    size_t digits = strspn(word, "0123456789");
+    for (size_t i = 0; i < digits && value <= UINT32_MAX; i++)
+        value = 10 * value + (uint64_t)(word[i] - '0');
+    if (digits == 0 || word[digits] || value > UINT32_MAX)
+        stop(2, *word ? word : "''", "no event number (0 to 4294967295)");
+    return (uint32_t)value;
+}
+
+/* As many of a file's bytes as a sheet can have, and one more. */
+static size_t read_file(const char *name, uint8_t bytes[BYTES_READ])
+{
+    FILE *file = fopen(name, "rb");
+    size_t length = file ? fread(bytes, 1, BYTES_READ, file) : 0;
+    if (!file || ferror(file))
+        stop(2, name, strerror(errno));
+    fclose(file);
+    return length;
+}
+
+/* Reads the sheet and runs it, or prints its refusal; the status. */
+static int run_sheet(const char *name, const uint32_t *events, size_t count)
+{
+    uint8_t bytes[BYTES_READ], automaton[JAXHOPHASI_AUTOMATON_SIZE], place[JAXHOPHASI_NUMBER_SIZE];
+    size_t length = read_file(name, bytes);
+    uint8_t row = jaxhophasi_read(bytes, length, automaton, place);
+    if (row)
+        printf("refused %u at %u\n", row, (unsigned)jaxhophasi_number_at(place));
+    else
+        run(automaton, events, count);
+    return row ? 1 : 0;
 }
 
 int main(int words, char **word)
 {
-    uint8_t bytes[3 * JAXHOPHASI_SHEET_MOST + 1], automaton[JAXHOPHASI_AUTOMATON_SIZE], place[JAXHOPHASI_NUMBER_SIZE];
-    FILE *file = words < 2 ? NULL : fopen(word[1], "rb");
-    if (!file) {
-        fputs("usage: day SHEET EVENT ..\n", stderr);
-        return 2;
-    }
-    size_t length = fread(bytes, 1, sizeof bytes, file);
-    fclose(file);
-    uint8_t row = jaxhophasi_read(bytes, length, automaton, place);
-    if (row) {
-        printf("refused %u at %u\n", row, (unsigned)jaxhophasi_number_at(place));
-        return 1;
-    }
+    if (words < 2)
+        stop(2, "usage", "day SHEET EVENT ..");
     size_t count = (size_t)words - 2;
-    uint32_t *events = malloc((count + 1) * sizeof *events);
-    if (!events)
-        return 1;
+    uint32_t *events = room(count, sizeof *events);
     for (size_t i = 0; i < count; i++)
-        events[i] = (uint32_t)strtoul(word[i + 2], NULL, 10);
-    int status = run(automaton, events, count);
+        events[i] = event_number(word[i + 2]);
+    int status = run_sheet(word[1], events, count);
     free(events);
+    if (fflush(stdout) || ferror(stdout))
+        stop(1, "", "cannot write");
     return status;
 }

@@ -4,11 +4,22 @@
 
 LIBRARY is the shared object made from the archive, SHEET a file with a sheet's bytes, each EVENT a number. Offsets and sizes are
 those of include/jaxhophasi.h.
+
+Status 0: all was printed. 1: the sheet is refused, or the output could not be written. 2: a fault in what is given.
 """
 import ctypes
+import re
+import signal
 import sys
 
 AUTOMATON_SIZE, CONFIGURATION_SIZE, NUMBER_SIZE, STATUS_SIZE, RECEIVED_SIZE, RAN_SIZE, VERDICT_SIZE = 564, 8, 8, 1, 9, 16, 2
+BYTES_READ = 3 * 564 + 1  # one byte more than a sheet can have
+
+
+def stop(status, name, fault):
+    """Says what is wrong, of a name where there is one, and ends."""
+    print("day: " + (name + ": " if name else "") + fault, file=sys.stderr)
+    sys.exit(status)
 
 
 def numbers(values):
@@ -27,7 +38,10 @@ def number_at(answer, offset=0):
 
 def library_at(path):
     """The shared object with its functions' types: a list is a pointer and then its length."""
-    library = ctypes.CDLL(path)
+    try:
+        library = ctypes.CDLL(path)
+    except OSError as error:
+        stop(2, "", str(error))
     byte, word, size = ctypes.POINTER(ctypes.c_uint8), ctypes.POINTER(ctypes.c_uint32), ctypes.c_size_t
     for name, types in {
         "read": [byte, size, byte, byte],
@@ -40,7 +54,7 @@ def library_at(path):
         "run": [byte, word, size, byte, word, size, byte, size, byte],
         "judge": [byte, byte, byte],
     }.items():
-        function = getattr(library, "jaxhophasi_" + name)
+        function = getattr(library, "jaxhophasi_" + name, None) or stop(2, path, "no function jaxhophasi_" + name)
         function.argtypes, function.restype = types, ctypes.c_uint8
     return library
 
@@ -53,10 +67,25 @@ def yes(flag):
     return "yes" if flag else "no"
 
 
+def event_number(word):
+    """The number of an event: digits alone, at most 32 bits."""
+    if not re.fullmatch("0*[0-9]{1,10}", word) or int(word[-10:]) > 0xFFFFFFFF:
+        stop(2, word or "''", "no event number (0 to 4294967295)")
+    return int(word[-10:])
+
+
+def read_file(path):
+    """As many of a file's bytes as a sheet can have, and one more."""
+    try:
+        with open(path, "rb") as file:
+            return file.read(BYTES_READ)
+    except OSError as error:
+        stop(2, path, error.strerror)
+
+
 def read(library, path):
     """The record of a sheet; the number of refusal and its place are printed, and nothing is handed back."""
-    with open(path, "rb") as file:
-        data = file.read()
+    data = read_file(path)
     automaton, place = lent(AUTOMATON_SIZE), lent(NUMBER_SIZE)
     row = library.jaxhophasi_read((ctypes.c_uint8 * (len(data) + 1))(*data), len(data), automaton, place)
     if row == 0:
@@ -103,9 +132,9 @@ def print_day(library, automaton, table, places, events):
         print("day out", emitted, "state", configuration[0], "held", configuration[1], "refused", number_at(answer, 8))
 
 
-def main(path, sheet, events):
-    library = library_at(path)
-    automaton = read(library, sheet)
+def run_sheet(library, path, events):
+    """Reads the sheet and runs it, or prints its refusal; the status."""
+    automaton = read(library, path)
     if automaton is None:
         return 1
     table, places = solve(library, automaton)
@@ -114,7 +143,21 @@ def main(path, sheet, events):
     return 0
 
 
+def main(words):
+    signal.signal(signal.SIGPIPE, signal.SIG_DFL)  # a reader that goes away ends it, as it ends the C example
+    if len(words) < 3:
+        stop(2, "usage", "day.py LIBRARY SHEET EVENT ..")
+    events = [event_number(word) for word in words[3:]]
+    library = library_at(words[1])
+    try:
+        status = run_sheet(library, words[2], events)
+        print(end="", flush=True)
+    except OSError:
+        sys.stdout = None
+    if sys.stdout is None:  # also where it was closed from the start
+        stop(1, "", "cannot write")
+    return status
+
+
 if __name__ == "__main__":
-    if len(sys.argv) < 3:
-        sys.exit("usage: day.py LIBRARY SHEET EVENT ..")
-    sys.exit(main(sys.argv[1], sys.argv[2], [int(word) for word in sys.argv[3:]]))
+    sys.exit(main(sys.argv))

@@ -1,0 +1,43 @@
+"""How a command ends: its status, and what it wrote on standard output and on standard error."""
+import collections
+import os
+import subprocess
+import sys
+
+Ended = collections.namedtuple("Ended", "status stdout stderr")
+
+PATIENCE = 60  # seconds that a command may take
+
+
+def ended(command, given=None, **how):
+    """Runs a command on bytes, or on the standard input that `how` names."""
+    if given is not None:
+        how["input"] = given
+    done = subprocess.run(command, timeout=PATIENCE, **{"stdout": subprocess.PIPE, "stderr": subprocess.PIPE, **how})
+    return Ended(done.returncode, done.stdout or b"", done.stderr or b"")
+
+
+def finished(process):
+    """Waits for a command that was started."""
+    stdout, stderr = process.communicate(timeout=PATIENCE)
+    return Ended(process.returncode, stdout or b"", stderr or b"")
+
+
+def fail(name, text):
+    sys.exit("tests/programs: {}: {}".format(name, text))
+
+
+def shown(part, at):
+    """Some bytes from where they differ on."""
+    if not isinstance(part, bytes):
+        return repr(part)
+    begin = max(0, at - 40)
+    return "{} bytes, from {}: {!r}".format(len(part), begin, part[begin:at + 80])
+
+
+def compare(name, got, expected):
+    """Ends the test where something else was expected, and shows where it begins."""
+    for field, one, other in zip(Ended._fields, got, expected):
+        if one != other:
+            at = len(os.path.commonprefix([one, other])) if isinstance(one, bytes) else 0
+            fail(name, "{} is {}\n  expected {}".format(field, shown(one, at), shown(other, at)))
