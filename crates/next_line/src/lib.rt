@@ -130,7 +130,8 @@ fn running_line(run: Run, input: &[u8], table: &[u32], out: &mut [u8], from: usi
         let next = end_line(out, from, run.accepted, run.refused);
         return piece(Phase::Ended, run, next);
     }
-    let number = reader::read_at(input, place);
+    let taken = reader::take_at(input, place);
+    let number = taken.number;
     if number.refusal != 0 {
         let next = fault_line(out, from, number.refusal, number.place);
         return piece(Phase::Ended, run, next);
@@ -139,7 +140,7 @@ fn running_line(run: Run, input: &[u8], table: &[u32], out: &mut [u8], from: usi
     let c = run.configuration;
     let answer = monitor::receive(a, table, c, number.value);
     let next = answer_line(out, from, number.value, answer);
-    piece(Phase::Running, after(run, number.place, answer), next)
+    piece(Phase::Running, after(run, taken.place, answer), next)
 }
 
 pub fn line(progress: Progress, input: &[u8], table: &[u32], out: &mut [u8], from: usize) -> Piece
