@@ -14,12 +14,12 @@ use Rattle.automaton.specs.declared.Automaton.{Automaton}
 use Rattle.automaton.proofs.Facts.{valid-of}
 use Rattle.sets.proofs.Total.{total}
 use Rattle.configuration.specs.declared.Configuration.{Configuration}
-use Rattle.configuration.specs.Configuration.{heldEvents, configuration}
+use Rattle.configuration.specs.Configuration.{heldEvents, positionOf, configuration}
 use Rattle.configuration.proofs.Facts.{held-buffer}
 use Rattle.releasing.specs.Step.{byTable, Effect, effect, eventRows, eventRefusal, Run, runOf}
 use Rattle.releasing.specs.declared.Ranking.{Ranking}
 use Rattle.releasing.specs.Parts.{rankingOf, restIn, Lent}
-use Rattle.releasing.proofs.Effects.{Occurs, effect-occurs, effect-length}
+use Rattle.releasing.proofs.Effects.{Occurs, accepted-facts, effect-occurs, effect-length}
 use Rattle.releasing.proofs.Runs.{run-accepts}
 use Rattle.releasing.proofs.Tabled.{rest-tabled, lent}
 use Rattle.stepping.specs.Stepping.{eventRowBy}
@@ -35,7 +35,7 @@ module _ (a : Automaton) (t : List ℕ) (c : Configuration) where
 
   pub receive-stands : (e n : ℕ) → n ≡ callRefusal a t c → (n ≡ 0 → ⊥) → refusedEvent n c ≡ received a t c e
   unfolding receiveRefusal
-  receive-stands e n g z = refused-is e n (rows-stand a t c (eventRows a (heldEvents c) e) (rw g at z) ∙ sym g) z
+  receive-stands e n g z = refused-is e n (rows-stand a t c (eventRows (byTable a t) a (positionOf c) e) (rw g at z) ∙ sym g) z
 
   module _ (k : Clear a t c) where
     occurs : Occurs a (c .state) (heldEvents c)
@@ -52,18 +52,18 @@ module _ (a : Automaton) (t : List ℕ) (c : Configuration) where
     -- rows 14 and 15, as the code finds them
     module _ (r : Ranking) (own : r ≡ rankingOf (a .classes) (a .symbols)) (capacity held e n : ℕ) (ec : capacity ≡ a .capacity) (eh : held ≡ c .held)
         (en : n ≡ eventRowBy (r .ranks) (a .symbols) capacity held e) where
-      pub row-is : n ≡ eventRefusal a (heldEvents c) e
-      row-is = en ∙ rw (own, ec) (row-same a (facts a t c k) (heldEvents c) held e ((place a t c k) .held-length ∙ sym eh))
+      pub row-is : n ≡ eventRefusal (byTable a t) a (positionOf c) e
+      row-is = en ∙ rw (own, ec) (row-same a (facts a t c k) (byTable a t) (positionOf c) held e ((place a t c k) .held-length ∙ sym eh))
 
       pub receive-refuses : (n ≡ 0 → ⊥) → refusedEvent n c ≡ received a t c e
       unfolding receiveRefusal eventRefusal
       receive-refuses z =
           refused-is e n
-          (rows-pass a t c (k .record-valid) (k .table-long) (k .configuration-consistent) (eventRows a (heldEvents c) e) ∙ sym row-is) z
+          (rows-pass a t c (k .record-valid) (k .table-long) (k .configuration-consistent) (eventRows (byTable a t) a (positionOf c) e) ∙ sym row-is) z
 
       -- an accepted event
       module _ (z : n ≡ 0) where
-        row : eventRefusal a (heldEvents c) e ≡ 0
+        row : eventRefusal (byTable a t) a (positionOf c) e ≡ 0
         row = sym row-is ∙ z
 
         f : Effect
@@ -74,15 +74,16 @@ module _ (a : Automaton) (t : List ℕ) (c : Configuration) where
         seven = omega (arith, effect-length (byTable a t) a (c .state) (heldEvents c) e, (place a t c k) .held-length, (place a t c k) .held-small)
 
         -- a list of this one event
-        alone : runOf (byTable a t) a (c .state) (heldEvents c) (e ∷ []) ≡ record { emitted = f .emitted; refused = 0; state = f .state; buffer = f .buffer }
+        alone : runOf (byTable a t) a (positionOf c) (e ∷ [])
+            ≡ record { emitted = f .emitted; refused = 0; last = record { state = f .state; buffer = f .buffer } }
         unfolding runOf f
-        alone = run-accepts (byTable a t) a (c .state) (heldEvents c) e [] row ∙ rw (append-nil (effect (byTable a t) a (c .state) (heldEvents c) e .emitted))
+        alone = run-accepts (byTable a t) a (positionOf c) e [] row ∙ rw (append-nil (effect (byTable a t) a (c .state) (heldEvents c) e .emitted))
 
         -- its answer
         module _ (s : Ran) (es : s ≡ ranOf a t c (e ∷ [])) (out : List ℕ) (eo : out ≡ ranBufferOf a t c (e ∷ []) (replicate 7 0)) where
-          ran-is : s ≡ record { refusal = 0; configuration = configuration (f .state) (f .buffer); length = length (f .emitted); refused = 0 }
+          ran-is : s ≡ record { refusal = 0; configuration = configuration (record { state = f .state; buffer = f .buffer }); length = length (f .emitted); refused = 0 }
           ran-is =
-              es ∙ ap (λ (y : Run). record { refusal = 0; configuration = configuration (y .state) (y .buffer); length = length (y .emitted); refused = y .refused }) alone
+              es ∙ ap (λ (y : Run). record { refusal = 0; configuration = configuration (y .last); length = length (y .emitted); refused = y .refused }) alone
 
           out-is : out ≡ pad 7 (f .emitted)
           out-is =
@@ -94,7 +95,7 @@ module _ (a : Automaton) (t : List ℕ) (c : Configuration) where
 
           next-occurs : Occurs a (f .state) (f .buffer)
           unfolding f
-          next-occurs = effect-occurs (byTable a t) a (c .state) (heldEvents c) e (total a (valid-of a (facts a t c k))) occurs row
+          next-occurs = effect-occurs (byTable a t) a (c .state) (heldEvents c) e (total a (valid-of a (facts a t c k))) occurs (accepted-facts (byTable a t) a (positionOf c) e row)
 
           pub count-small : s .length < 256
           count-small = omega (arith, ap (λ (y : Ran). y .length) ran-is, seven)
@@ -118,7 +119,7 @@ module _ (a : Automaton) (t : List ℕ) (c : Configuration) where
               eb ∙ rw (ran-is, own, take-pad 6 (f .buffer)) (rest-tabled a (facts a t c k) t (f .buffer) (next-occurs .buffer) (f .state))
               in
               rw (w, out-is, ran-is)
-              (rw (rows-pass a t c (k .record-valid) (k .table-long) (k .configuration-consistent) (eventRows a (heldEvents c) e), row))
+              (rw (rows-pass a t c (k .record-valid) (k .table-long) (k .configuration-consistent) (eventRows (byTable a t) a (positionOf c) e), row))
 
 -- whether a configuration is winning
 module _ (a : Automaton) (t : List ℕ) (c : Configuration) where
