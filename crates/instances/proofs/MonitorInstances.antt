@@ -1,5 +1,5 @@
 -- The instances of the claims on the monitor's calls and on the published function.
-use Prim.Native.Nat.{ℕ, _*_, _<_}
+use Prim.Native.Nat.{ℕ, suc, _*_, _<_}
 use mathlib.Core.Path.{_≡_, refl, sym, _∙_, ap}
 use mathlib.Core.Logic.{inl, inr}
 use mathlib.Core.Bool.{true, false}
@@ -18,7 +18,7 @@ use Rattle.sets.specs.Claims.{Winning}
 use Rattle.sets.proofs.Numbering.{numbered}
 use Rattle.configuration.specs.Configuration.{heldEvents, consistent, configuration, initialOf}
 use Rattle.releasing.specs.Step.{bySets, release}
-use Rattle.releasing.specs.Claims.{Longest}
+use Rattle.releasing.specs.Claims.{Full, Longest}
 use Rattle.releasing.proofs.Worded.{event-rows-as-worded, releases-longest, only-longest}
 use Rattle.answers.specs.Answers.{isWinning, status, received}
 use Rattle.answers.specs.Claims.{Clear}
@@ -141,24 +141,28 @@ settles output w v r z g l =
     λ i. record { output = (g .put-out ∙ ap (λ x. output ++ x) (o .0)) i; buffer = o .1 i }
 
 pub releasing : Releasing
-unfolding automatonW pad storeAll
+unfolding automatonW pad storeAll refusedOf
 releasing =
     let go = rw both-go at (longest-w 1 (2 ∷ 3 ∷ [])) in
     let stay = rw page-stays at (longest-w 1 (2 ∷ [])) in
     let ready = follows-published automatonW (storeOf [] (2 ∷ 3 ∷ [])) in
     let after-sign = follows-published automatonW (storeOf (0 ∷ []) []) in
     let full = follows-published automatonW twoHeld in
+    let third : Full automatonW 2 2 = (omega arith, refl, omega arith) in
     record {
       released = go;
       only = λ v r l. only-longest (Winning automatonW) automatonW 1 (2 ∷ 3 ∷ []) v r (2 ∷ 3 ∷ []) [] l go;
       none = rw none-goes at (longest-w 3 (2 ∷ []));
       passes = settles (0 ∷ []) (2 ∷ 3 ∷ []) (2 ∷ 3 ∷ []) [] _ (ready .passes 0 (omega arith) (λ c. omega arith)) (rw signed go);
       holds = settles (0 ∷ []) (2 ∷ []) [] (2 ∷ []) _ (after-sign .holds 2 (omega arith) refl (omega arith)) (rw signed stay);
-      full = full .refuses 2 (inr (omega arith, refl, omega arith));
+      full = full .refuses 2 (inr third);
       unknown = full .refuses 4 (inl (omega arith));
       day-short = full .day-short (0 ∷ []) 2 (omega arith);
       day-fed = full .day-fed (0 ∷ []) 3 (omega arith);
-      event-row = full .event-row 2 .row-15 .1 (omega arith, refl, omega arith);
+      counts =
+          full .counted 2 (4 ∷ 1 ∷ []) (inr third) ∙
+          ap suc (full .counted 4 (1 ∷ []) (inl (omega arith)) ∙ ap suc (full .not-counted 1 [] (omega arith, inl λ c. omega arith)));
+      event-row = full .event-row 2 .row-15 .1 third;
       day-row = full .day-row (0 ∷ []) (9 ∷ 9 ∷ []) .row-16 .1 (omega arith);
     }
 

@@ -14,7 +14,7 @@ use Rattle.winning.specs.Solving.{solvedTable}
 use Rattle.releasing.specs.Step.{eventRefusal}
 use Rattle.releasing.specs.Claims.{Longest}
 use Rattle.answers.specs.Answers.{callRefusal, status, receiveRefusal, received, refusedRun, runRefusal}
-use Rattle.claims.specs.Store.{Store, empty, store, storeAll, events, feed}
+use Rattle.claims.specs.Store.{Store, empty, store, storeAll, events, feed, refusedOf}
 use Rattle.claims.specs.Calls.{Call, one, many, Reply, receive, refusalIn, replies, configurationAfter, emittedAll, expected}
 use Rattle.claims.specs.Moments.{Moment, emittedAt}
 use Rattle.claims.specs.Rival.{Lost, lostBound}
@@ -72,6 +72,8 @@ pub record Releasing : Type 0 where
   -- a day of Sign, with two held, wants room for three
   pub day-short : feed automatonW twoHeld (events (0 ∷ []) 2) ≡ twoHeld
   pub day-fed : feed automatonW twoHeld (events (0 ∷ []) 3) ≡ store automatonW twoHeld 0
+  -- of a day of Page, a kind that there is not and Withdraw it then refuses two
+  pub counts : refusedOf automatonW twoHeld (2 ∷ 4 ∷ 1 ∷ []) ≡ 2
   pub event-row : refusalIn (expected automatonW twoHeld (one 2)) ≡ 15
   pub day-row : refusalIn (expected automatonW twoHeld (many (0 ∷ []) (9 ∷ 9 ∷ []))) ≡ 16
 
