@@ -41,7 +41,8 @@ use Rattle.claims.proofs.Answers.{flag-is-status, flag-stays, others-ignored}
 use Rattle.marked_cases.specs.Cases.{automatonV, automatonW}
 use Rattle.instances.proofs.Statements.{filled, tableW}
 use Rattle.instances.proofs.MonitorStatements.{wideV, startV, Rows, storeOf, twoHeld, Releasing}
-use Rattle.instances.proofs.MonitorStatements.{calls, page, sign, withdraw, eager, answers, Fields, longCalls, longAnswers, Day, Enforcing}
+use Rattle.instances.proofs.MonitorStatements.{calls, page, sign, withdraw, eager, answers, Fields}
+use Rattle.instances.proofs.MonitorStatements.{longCalls, longAnswers, Day, Enforcing}
 use Rattle.instances.proofs.Sheets.{valid-w, valid-v, solves-w, buffers-w, solved-w, solved-v, computing}
 
 -- V's start, with its table; and W with two Pages held
@@ -161,7 +162,8 @@ releasing =
       day-fed = full .day-fed (0 ∷ []) 3 (omega arith);
       counts =
           full .counted 2 (4 ∷ 1 ∷ []) (inr third) ∙
-          ap suc (full .counted 4 (1 ∷ []) (inl (omega arith)) ∙ ap suc (full .not-counted 1 [] (omega arith, inl λ c. omega arith)));
+          ap suc (full .counted 4 (1 ∷ []) (inl (omega arith))) ∙
+          ap (λ n. suc (suc n)) (full .not-counted 1 [] (omega arith, inl λ c. omega arith));
       event-row = full .event-row 2 .row-15 .1 third;
       day-row = full .day-row (0 ∷ []) (9 ∷ 9 ∷ []) .row-16 .1 (omega arith);
     }
@@ -196,7 +198,7 @@ lost-w : LongerLoses automatonW tableW sign → Lost automatonW eager (2 ∷ 0 �
 unfolding calling arrivalAt rivalRelease rivalOutput rivalBuffer lostBound accepts
 lost-w h = h eager longer
 
--- the published function: its answers, and what it is after the calls and after their accepted events alone
+-- the published function: its answers, what it is after the calls, and after the accepted events alone
 abbrev last : Store
 last = storeOf (0 ∷ 1 ∷ []) (2 ∷ [])
 
@@ -313,6 +315,7 @@ enforcing =
       driven-out = driven-out automatonW valid-w [] 2 (omega arith) outside-w eager (0 ∷ 2 ∷ []) (0 ∷ 2 ∷ []) leads-to-two;
       flag-is-status = flag-is-status automatonW tableW start 0 accepts-sign;
       flag-stays = flag-stays automatonW tableW solved-w start says-winning;
-      once-winning-said = once-winning-said automatonW tableW valid-w solved-w calls [] page (sign ∷ withdraw ∷ []) met stays-winning;
+      once-winning-said =
+          once-winning-said automatonW tableW valid-w solved-w calls [] page (sign ∷ withdraw ∷ []) met stays-winning;
       others-ignored = others-ignored automatonW tableW (tableW ++ 9 ∷ []) both-long same-w start;
     }

@@ -1,4 +1,4 @@
--- The claims on the monitor's calls and on the published function, at sheet V or W, with their hypotheses met.
+-- The claims on the monitor's calls and on the published function at sheet V or W, hypotheses met.
 use Prim.Native.Nat.{ℕ, _<_, _≤_}
 use mathlib.Core.Path.{_≡_}
 use mathlib.Core.Bool.{true}
@@ -43,8 +43,8 @@ pub record Rows : Type 0 where
   pub row-14 : receiveRefusal automatonV (table automatonV) startV 2 ≡ 14
   pub row-15 : receiveRefusal automatonW tableW (configuration 0 (2 ∷ 2 ∷ [])) 2 ≡ 15
   pub row-16 : runRefusal automatonV (table automatonV) startV (0 ∷ 1 ∷ []) (9 ∷ []) ≡ 16
-  -- and the other way: what 14 refuses is none of W's four kinds; a Page that 15 refuses finds two held, and one that is
-  -- accepted fewer; a day of two that 16 refuses has room for less
+  -- and the other way: what 14 refuses is none of W's four kinds; a Page that 15 refuses finds two
+  -- held, and one that is accepted fewer; a day of two that 16 refuses has room for less
   pub only-14 : (w : List ℕ) (e : ℕ) → eventRefusal automatonW w e ≡ 14 → 4 ≤ e
   pub only-15 : (w : List ℕ) → eventRefusal automatonW w 2 ≡ 15 → 2 ≤ length w
   pub only-0 : (w : List ℕ) → eventRefusal automatonW w 2 ≡ 0 → length w < 2
@@ -64,7 +64,8 @@ pub record Releasing : Type 0 where
   pub released : Longest (Winning automatonW) automatonW 1 (2 ∷ 3 ∷ []) (2 ∷ 3 ∷ []) []
   pub only : (v r : List ℕ) → Longest (Winning automatonW) automatonW 1 (2 ∷ 3 ∷ []) v r → (v ≡ 2 ∷ 3 ∷ []) × (r ≡ [])
   pub none : Longest (Winning automatonW) automatonW 3 (2 ∷ []) [] (2 ∷ [])
-  -- Sign passes and takes them along; after it a Page is held; a third Page and an event that is no kind change nothing
+  -- Sign passes, and then they go; after it a Page is held; a third Page and an event that is no kind
+  -- change nothing
   pub passes : store automatonW (storeOf [] (2 ∷ 3 ∷ [])) 0 ≡ storeOf (0 ∷ 2 ∷ 3 ∷ []) []
   pub holds : store automatonW (storeOf (0 ∷ []) []) 2 ≡ storeOf (0 ∷ []) (2 ∷ [])
   pub full : store automatonW twoHeld 2 ≡ twoHeld
@@ -84,7 +85,7 @@ repliesW = replies automatonW tableW (initialOf automatonW)
 abbrev pub afterW : List Call → Configuration
 afterW = configurationAfter automatonW tableW (initialOf automatonW)
 
--- a day's reply: state and buffer, how many bytes were written, how many events refused, and the lent output
+-- a day's reply: state and buffer, bytes written, events refused, and the lent output
 abbrev pub dayReply : ℕ → List ℕ → ℕ → ℕ → List ℕ → Reply
 dayReply q held written refused out =
     Rattle.claims.specs.Calls.run
@@ -113,7 +114,7 @@ eager past output = 6
 abbrev pub answers : List Reply
 answers = receive (answer 0 [] 0 (2 ∷ []) true) ∷ dayReply 0 (2 ∷ []) 2 1 (0 ∷ 1 ∷ 9 ∷ 9 ∷ 9 ∷ []) ∷ []
 
--- every field of demand 3, out of the one statement at W and these calls, its hypotheses met and its values written out
+-- every field of demand 3, out of the one statement at W and these calls, with its values
 pub record Fields : Type 0 where
   pub each-reply : repliesW calls ≡ answers
   pub all-emitted : emittedAll (repliesW calls) ≡ 0 ∷ 1 ∷ []
@@ -123,20 +124,21 @@ pub record Fields : Type 0 where
   pub alone-configuration : afterW calls ≡ configuration 0 (2 ∷ [])
   pub events : acceptedEvents automatonW tableW calls ≡ 2 ∷ 0 ∷ 1 ∷ []
   pub emitted : emittedAt automatonW tableW (page ∷ sign ∷ withdraw ∷ []) ≡ 0 ∷ 1 ∷ []
-  -- of Withdraw, inside the day: Page and Sign were before it and put out Sign, which leads to state 1; fed them, the
-  -- function holds the Page
+  -- of Withdraw, inside the day: Page and Sign were before it and put out Sign, which leads to state 1;
+  -- fed them, the function holds the Page
   pub history : (withdraw .past ≡ map (λ (m : Moment). m .event) (page ∷ sign ∷ []))
       × (withdraw .output ≡ emittedAt automatonW tableW (page ∷ sign ∷ []))
   pub leads : run automatonW 0 (0 ∷ []) ≡ 1
   pub fed : storeAll automatonW empty (2 ∷ 0 ∷ []) ≡ storeOf (0 ∷ []) (2 ∷ [])
-  -- winning at first, and after Page, W is so after Withdraw, and its output, Sign and Withdraw, leads to an accepting state
+  -- winning at first, and after Page, W is so after Withdraw, and its output, Sign and Withdraw, leads
+  -- to an accepting state
   pub initially : (winningAfter automatonW tableW withdraw ≡ true) × (accepts automatonW (run automatonW 0 (0 ∷ 1 ∷ [])) ≡ true)
   pub later : (winningAfter automatonW tableW withdraw ≡ true) × (accepts automatonW (run automatonW 0 (0 ∷ 1 ∷ [])) ≡ true)
   -- whoever lets the Page go after Sign, inside the day, is driven out by at most two events
   pub rivals : Lost automatonW eager (2 ∷ 0 ∷ []) (0 ∷ 2 ∷ []) [] 2
 
--- Page; a day of Receipt, Sign, Page, Withdraw, Page, Page, a kind that there is not and Withdraw, with room for ten; a day
--- of Sign, with room for two; Sign
+-- Page; a day of Receipt, Sign, Page, Withdraw, Page, Page, a kind that there is not and Withdraw, with
+-- room for ten; a day of Sign, with room for two; Sign
 abbrev pub longCalls : List Call
 longCalls =
     one 2 ∷ many (3 ∷ 0 ∷ 2 ∷ 1 ∷ 2 ∷ 2 ∷ 4 ∷ 1 ∷ []) (filled 10 9) ∷ many (0 ∷ []) (filled 2 9) ∷ one 0 ∷ []
