@@ -1,6 +1,6 @@
--- The published function (Definition 3.10 of source document 001) in document 01's words: what it is after
--- an event or a day, from what it was before. Nothing of the monitor's step is used, neither its release
--- nor its tests of the rows.
+-- The published function (Definition 3.10 of source document 001) in document 01's words: what it
+-- is after an event or a day, from what it was before. Nothing of the monitor's step is used,
+-- neither its release nor its tests of the rows.
 use Prim.Native.Nat.{ℕ, suc, _+_, _<_, _≤_}
 use mathlib.Core.Path.{_≡_}
 use mathlib.Core.Logic.{_⊎_}
@@ -14,9 +14,9 @@ use Rattle.answers.specs.Claims.{RowOfDay}
 use Rattle.claims.specs.Store.{Store, store, storeAll, events, feed, refusedOf}
 use Rattle.claims.specs.Calls.{one, many, refusalIn, expected}
 
--- From an output and a buffer the function goes on to z: of the buffer's front parts that lead the state,
--- which is where the output leads, into S of the rest, the longest moves to the output's end; if there is
--- none, nothing moves.
+-- From an output and a buffer the function goes on to z: of the buffer's front parts that lead the
+-- state, which is where the output leads, into S of the rest, the longest moves to the output's
+-- end; if there is none, nothing moves.
 pub record Releases (a : Automaton) (output buffer : List ℕ) (z : Store) : Type 0 where
   pub front : List ℕ
   pub put-out : z .output ≡ output ++ front

@@ -198,7 +198,7 @@ lost-w : LongerLoses automatonW tableW sign → Lost automatonW eager (2 ∷ 0 �
 unfolding calling arrivalAt rivalRelease rivalOutput rivalBuffer lostBound accepts
 lost-w h = h eager longer
 
--- the published function: its answers, what it is after the calls, and after the accepted events alone
+-- the published function: its answers, what it is after the calls, and after what it accepts alone
 abbrev last : Store
 last = storeOf (0 ∷ 1 ∷ []) (2 ∷ [])
 
@@ -235,6 +235,7 @@ fields =
     let accepted = account .events ∙ accepted-w in
     let put-out = said .all-emitted ∙ ap (λ s. s .output) fed-w in
     let afresh = ap (storeAll automatonW empty) accepted ∙ alone-w in
+    let lost = lost-w (rw met at (whole .rivals) .1 .0) in
     record {
       each-reply = said .each-reply ∙ expected-w;
       all-emitted = put-out;
@@ -249,7 +250,7 @@ fields =
       fed = rw met at (account .fed) .1 .1 .0;
       initially = fine-w (rw met at (whole .once-winning .initially begins-winning) .1 .1 .0);
       later = fine-w (whole .once-winning .later [] page (sign ∷ withdraw ∷ []) met stays-winning .1 .1 .0);
-      rivals = lost-w (rw met at (whole .rivals) .1 .0);
+      rivals = (lost .list, lost .uncontrollable, lost .short, lost .outside);
     }
 
 -- the same of the long day

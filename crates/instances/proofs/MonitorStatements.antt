@@ -1,12 +1,13 @@
 -- The claims on the monitor's calls and on the published function at sheet V or W, hypotheses met.
 use Prim.Native.Nat.{ℕ, _<_, _≤_}
 use mathlib.Core.Path.{_≡_}
-use mathlib.Core.Bool.{true}
+use mathlib.Core.Bool.{true, false}
 use mathlib.Core.List.{List, [], _∷_, _++_, map}
 use lib.ListN.{length}
 use Rattle.automaton.specs.declared.Automaton.{Automaton}
 use Rattle.automaton.specs.Automaton.{controllable, accepts, run, assembled}
 use Rattle.sets.specs.Table.{table, Solved}
+use Rattle.sets.specs.Definition6.{AllUncontrollable}
 use Rattle.sets.specs.Claims.{Winning}
 use Rattle.configuration.specs.declared.Configuration.{Configuration}
 use Rattle.configuration.specs.Configuration.{configuration, consistent, initialOf}
@@ -17,7 +18,7 @@ use Rattle.answers.specs.Answers.{callRefusal, status, receiveRefusal, received
 use Rattle.claims.specs.Store.{Store, empty, store, storeAll, events, feed, refusedOf}
 use Rattle.claims.specs.Calls.{Call, one, many, Reply, receive, refusalIn, replies, configurationAfter, emittedAll, expected}
 use Rattle.claims.specs.Moments.{Moment, emittedAt}
-use Rattle.claims.specs.Rival.{Lost, lostBound}
+use Rattle.claims.specs.Rival.{play, Lost, lostBound}
 use Rattle.claims.specs.Claims.{Enforced, acceptedEvents, winningAfter}
 use Rattle.claims.specs.Answers.{SaysWinning, SameAnswers}
 use Rattle.marked_cases.specs.Cases.{automatonV, automatonW, answer}
@@ -64,8 +65,8 @@ pub record Releasing : Type 0 where
   pub released : Longest (Winning automatonW) automatonW 1 (2 ∷ 3 ∷ []) (2 ∷ 3 ∷ []) []
   pub only : (v r : List ℕ) → Longest (Winning automatonW) automatonW 1 (2 ∷ 3 ∷ []) v r → (v ≡ 2 ∷ 3 ∷ []) × (r ≡ [])
   pub none : Longest (Winning automatonW) automatonW 3 (2 ∷ []) [] (2 ∷ [])
-  -- Sign passes, and then they go; after it a Page is held; a third Page and an event that is no kind
-  -- change nothing
+  -- Sign passes, and then they go; after it a Page is held; a third Page and an event that is no
+  -- kind change nothing
   pub passes : store automatonW (storeOf [] (2 ∷ 3 ∷ [])) 0 ≡ storeOf (0 ∷ 2 ∷ 3 ∷ []) []
   pub holds : store automatonW (storeOf (0 ∷ []) []) 2 ≡ storeOf (0 ∷ []) (2 ∷ [])
   pub full : store automatonW twoHeld 2 ≡ twoHeld
@@ -124,21 +125,24 @@ pub record Fields : Type 0 where
   pub alone-configuration : afterW calls ≡ configuration 0 (2 ∷ [])
   pub events : acceptedEvents automatonW tableW calls ≡ 2 ∷ 0 ∷ 1 ∷ []
   pub emitted : emittedAt automatonW tableW (page ∷ sign ∷ withdraw ∷ []) ≡ 0 ∷ 1 ∷ []
-  -- of Withdraw, inside the day: Page and Sign were before it and put out Sign, which leads to state 1;
-  -- fed them, the function holds the Page
+  -- of Withdraw, inside the day: Page and Sign were before it and put out Sign, which leads to
+  -- state 1; fed them, the function holds the Page
   pub history : (withdraw .past ≡ map (λ (m : Moment). m .event) (page ∷ sign ∷ []))
       × (withdraw .output ≡ emittedAt automatonW tableW (page ∷ sign ∷ []))
   pub leads : run automatonW 0 (0 ∷ []) ≡ 1
   pub fed : storeAll automatonW empty (2 ∷ 0 ∷ []) ≡ storeOf (0 ∷ []) (2 ∷ [])
-  -- winning at first, and after Page, W is so after Withdraw, and its output, Sign and Withdraw, leads
-  -- to an accepting state
+  -- winning at first, and after Page, W is so after Withdraw, and its output, Sign and Withdraw,
+  -- leads to an accepting state
   pub initially : (winningAfter automatonW tableW withdraw ≡ true) × (accepts automatonW (run automatonW 0 (0 ∷ 1 ∷ [])) ≡ true)
   pub later : (winningAfter automatonW tableW withdraw ≡ true) × (accepts automatonW (run automatonW 0 (0 ∷ 1 ∷ [])) ≡ true)
   -- whoever lets the Page go after Sign, inside the day, is driven out by at most two events
-  pub rivals : Lost automatonW eager (2 ∷ 0 ∷ []) (0 ∷ 2 ∷ []) [] 2
+  pub rivals : (us : List ℕ)
+      × AllUncontrollable automatonW us
+      × (length us ≤ 2)
+      × (accepts automatonW (run automatonW 0 (play automatonW eager (2 ∷ 0 ∷ []) (0 ∷ 2 ∷ []) [] us)) ≡ false)
 
--- Page; a day of Receipt, Sign, Page, Withdraw, Page, Page, a kind that there is not and Withdraw, with
--- room for ten; a day of Sign, with room for two; Sign
+-- Page; a day of Receipt, Sign, Page, Withdraw, Page, Page, a kind that there is not and Withdraw,
+-- with room for ten; a day of Sign, with room for two; Sign
 abbrev pub longCalls : List Call
 longCalls =
     one 2 ∷ many (3 ∷ 0 ∷ 2 ∷ 1 ∷ 2 ∷ 2 ∷ 4 ∷ 1 ∷ []) (filled 10 9) ∷ many (0 ∷ []) (filled 2 9) ∷ one 0 ∷ []

@@ -1,5 +1,5 @@
--- What is proved of the rows of one event and of the release, in document 01's words ("One event" and
--- "Numbers of refusal").
+-- What is proved of the rows of one event and of the release, in document 01's words ("One event"
+-- and "Numbers of refusal").
 use Prim.Native.Nat.{ℕ, _<_, _≤_}
 use mathlib.Core.Path.{_≡_}
 use mathlib.Core.Logic.{_⊎_, _↔_}
@@ -31,8 +31,8 @@ pub record RowsOfEvent (a : Automaton) (held e n : ℕ) : Type 0 where
 abbrev pub EventRowsAsWorded : Type 0
 EventRowsAsWorded = (a : Automaton) (w : List ℕ) (e : ℕ) → RowsOfEvent a (length w) e (eventRefusal a w e)
 
--- The longest release, where P says with what is left, and in which state, one may rest: the buffer w
--- falls into v, which is released, and r, which is left.
+-- The longest release, where P says with what is left, and in which state, one may rest: the
+-- buffer w falls into v, which is released, and r, which is left.
 pub record Longest (P : List ℕ → ℕ → Type 0) (a : Automaton) (q : ℕ) (w v r : List ℕ) : Type 0 where
   pub parts : v ++ r ≡ w
   -- v leads q to where one may rest with r; or v is empty, and no front part leads so
