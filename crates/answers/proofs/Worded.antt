@@ -1,7 +1,7 @@
 -- The calls' rows, in document 01's words.
-use Prim.Native.Nat.{ℕ, _+_, _<_, _≤_}
-use mathlib.Core.Path.{_≡_, refl, sym, _∙_, ap}
-use mathlib.Core.Logic.{_⊎_, inl, inr, _↔_}
+use Prim.Native.Nat.{ℕ, _+_, _≤_}
+use mathlib.Core.Path.{_≡_, refl, sym, _∙_}
+use mathlib.Core.Logic.{_↔_}
 use mathlib.Core.Bool.{Bool, true, false}
 use mathlib.Core.List.{List, [], _∷_, _++_}
 use native.Mathlib.Omega.{arith}
@@ -18,7 +18,8 @@ use Rattle.releasing.specs.Step.{byTable, eventRows, eventRefusal}
 use Rattle.releasing.specs.Claims.{RowsOfEvent}
 use Rattle.releasing.proofs.Worded.{event-number, event-rows-as-worded}
 use Rattle.answers.specs.Answers.{tableRows, configurationRows, callRows, callRefusal, receiveRefusal, room, tooShort, runRefusal}
-use Rattle.answers.specs.Claims.{CallRows, Clear, StatusRowsAsWorded, ReceiveRowsAsWorded, RoomAsWorded, RowOfDay, RunRowsAsWorded}
+use Rattle.answers.specs.Claims.{CallRows, Clear, RowOfDay}
+use Rattle.answers.specs.Claims.{StatusRowsAsWorded, ReceiveRowsAsWorded, RoomAsWorded, RunRowsAsWorded}
 use Rattle.answers.proofs.Refusals.{rows-pass, place}
 
 -- a number of rows 11 to 13

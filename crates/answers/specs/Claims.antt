@@ -1,5 +1,5 @@
--- The numbers of refusal of the monitor's calls, as document 01 words their rows ("Numbers of refusal"):
--- each is given exactly when its row holds and none before it does.
+-- The numbers of refusal of the monitor's calls, as document 01 words their rows: each is given
+-- exactly when its row holds and none before it does.
 use Prim.Native.Nat.{ℕ, _+_, _<_, _≤_}
 use mathlib.Core.Path.{_≡_}
 use mathlib.Core.Logic.{_↔_}
@@ -44,7 +44,7 @@ pub record ReceiveRows (a : Automaton) (t : List ℕ) (c : Configuration) (e : �
 abbrev pub ReceiveRowsAsWorded : Type 0
 ReceiveRowsAsWorded = (a : Automaton) (t : List ℕ) (c : Configuration) (e : ℕ) → ReceiveRows a t c e
 
--- row 16, which the published function has too: a lent output of this size is shorter than events plus held
+-- row 16, the published function's too: an output of this size is shorter than events plus held
 pub record RoomAsked (size : ℕ) (events : List ℕ) (held : ℕ) : Type 0 where
   pub lacks : (tooShort size events held ≡ true) ↔ (size < length events + held)
   pub enough : (tooShort size events held ≡ false) ↔ (length events + held ≤ size)

@@ -1,8 +1,11 @@
 -- The published function follows Definition 3.10 and the rows.
-use Prim.Native.Nat.{ℕ, _+_, _<_, _≤_}
+use Prim.Native.Nat.{ℕ, suc, _+_, _<_, _≤_}
 use mathlib.Core.Path.{_≡_, refl}
 use mathlib.Core.Logic.{_⊎_, inl, inr}
+use mathlib.Core.Bool.{false}
 use mathlib.Core.List.{List, [], _∷_, _++_}
+use native.Mathlib.Omega.{arith}
+use lib.Dec.{eqb}
 use lib.ListN.{length}
 use Rattle.base.proofs.Bools.{either, refuted}
 use Rattle.automaton.specs.declared.Automaton.{Automaton}
@@ -13,7 +16,7 @@ use Rattle.releasing.specs.Claims.{Unknown, Full, Taken}
 use Rattle.releasing.proofs.Worded.{event-rows-as-worded, releases-longest}
 use Rattle.answers.specs.Claims.{RowOfDay}
 use Rattle.answers.proofs.Worded.{room-as-worded, row-of-day}
-use Rattle.claims.specs.Store.{Store, stateOf, positionAt, added, moved, store, storeAll, events, lacksRoom, feed}
+use Rattle.claims.specs.Store.{Store, stateOf, positionAt, refusalAt, added, moved, store, storeAll, events, lacksRoom, feed, refusedOf}
 use Rattle.claims.specs.Calls.{many, refusalIn, expected}
 use Rattle.claims.specs.Published.{Releases, FollowsPublished}
 
@@ -44,11 +47,22 @@ module _ (a : Automaton) (s : Store) where
         rw (stored (l, inr h), class-one a e .1 c)
         (moved-releases a (record { output = s .output; buffer = s .buffer ++ e ∷ [] }))
 
-    refuses : Unknown a e ⊎ Full a held e → store a s e ≡ s
-    unfolding store
-    refuses h =
+    not-taken : Unknown a e ⊎ Full a held e → eqb (refusalAt a s e) 0 ≡ false
+    not-taken h =
         let rows = event-rows-as-worded (bySets a) a (positionAt a s) e in
         either h (λ u. rw (rows .row-14 .1 u)) (λ f. rw (rows .row-15 .1 f))
+
+    refuses : Unknown a e ⊎ Full a held e → store a s e ≡ s
+    unfolding store
+    refuses h = rw (not-taken h)
+
+    counted : (es : List ℕ) → Unknown a e ⊎ Full a held e → refusedOf a s (e ∷ es) ≡ suc (refusedOf a s es)
+    unfolding refusedOf
+    counted es h = rw (refuses h, not-taken h) (omega arith)
+
+    not-counted : (es : List ℕ) → Taken a held e → refusedOf a s (e ∷ es) ≡ refusedOf a (store a s e) es
+    unfolding refusedOf
+    not-counted es h = rw (event-rows-as-worded (bySets a) a (positionAt a s) e .accepted .1 h) (omega arith)
 
   -- a day
   module _ (es : List ℕ) (size : ℕ) where
@@ -72,6 +86,8 @@ follows-published a s = record {
   refuses = refuses a s;
   day-short = day-short a s;
   day-fed = day-fed a s;
+  counted = counted a s;
+  not-counted = not-counted a s;
   event-row = event-rows-as-worded (bySets a) a (positionAt a s);
   day-row = day-row a s;
 }

@@ -1,7 +1,7 @@
--- Definition 3.10 of source document 001 and the rows, in document 01's words ("One event"): what the published
--- function is after an event or a day, from what it was before. Nothing of the monitor's step is used: neither its
--- release nor its tests of the rows.
-use Prim.Native.Nat.{ℕ, _+_, _<_, _≤_}
+-- The published function (Definition 3.10 of source document 001) in document 01's words: what it
+-- is after an event or a day, from what it was before. Nothing of the monitor's step is used,
+-- neither its release nor its tests of the rows.
+use Prim.Native.Nat.{ℕ, suc, _+_, _<_, _≤_}
 use mathlib.Core.Path.{_≡_}
 use mathlib.Core.Logic.{_⊎_}
 use mathlib.Core.List.{List, [], _∷_, _++_}
@@ -9,13 +9,14 @@ use lib.ListN.{length}
 use Rattle.automaton.specs.declared.Automaton.{Automaton}
 use Rattle.automaton.specs.Automaton.{class, run}
 use Rattle.sets.specs.Claims.{Winning}
-use Rattle.releasing.specs.Claims.{Unknown, Full, RowsOfEvent, Longest}
+use Rattle.releasing.specs.Claims.{Unknown, Full, Taken, RowsOfEvent, Longest}
 use Rattle.answers.specs.Claims.{RowOfDay}
-use Rattle.claims.specs.Store.{Store, store, storeAll, events, feed}
+use Rattle.claims.specs.Store.{Store, store, storeAll, events, feed, refusedOf}
 use Rattle.claims.specs.Calls.{one, many, refusalIn, expected}
 
--- From an output and a buffer the function goes on to z: of the buffer's front parts that lead the state, which is where the
--- output leads, into S of the rest, the longest moves to the output's end; if there is none, nothing moves.
+-- From an output and a buffer the function goes on to z: of the buffer's front parts that lead the
+-- state, which is where the output leads, into S of the rest, the longest moves to the output's
+-- end; if there is none, nothing moves.
 pub record Releases (a : Automaton) (output buffer : List ℕ) (z : Store) : Type 0 where
   pub front : List ℕ
   pub put-out : z .output ≡ output ++ front
@@ -23,7 +24,8 @@ pub record Releases (a : Automaton) (output buffer : List ℕ) (z : Store) : Typ
 
 pub record AsPublished (a : Automaton) (s : Store) : Type 0 where
   -- an accepted event goes to the output's end if it is not controllable, else to the buffer's
-  pub passes : (e : ℕ) → e < a .symbols → (class a e ≡ 1 → ⊥) → Releases a (s .output ++ e ∷ []) (s .buffer) (store a s e)
+  pub passes : (e : ℕ) → e < a .symbols → (class a e ≡ 1 → ⊥)
+      → Releases a (s .output ++ e ∷ []) (s .buffer) (store a s e)
   pub holds : (e : ℕ) → e < a .symbols → class a e ≡ 1 → length (s .buffer) < a .capacity
       → Releases a (s .output) (s .buffer ++ e ∷ []) (store a s e)
   -- an event that a row refuses, by this buffer, changes nothing
@@ -31,6 +33,10 @@ pub record AsPublished (a : Automaton) (s : Store) : Type 0 where
   -- a day that row 16 refuses, by this buffer, brings no event; any other brings all, in order
   pub day-short : (es : List ℕ) (size : ℕ) → size < length es + length (s .buffer) → feed a s (events es size) ≡ s
   pub day-fed : (es : List ℕ) (size : ℕ) → length es + length (s .buffer) ≤ size → feed a s (events es size) ≡ storeAll a s es
+  -- of a day's events those are counted that a row refuses
+  pub counted : (e : ℕ) (es : List ℕ) → Unknown a e ⊎ Full a (length (s .buffer)) e
+      → refusedOf a s (e ∷ es) ≡ suc (refusedOf a s es)
+  pub not-counted : (e : ℕ) (es : List ℕ) → Taken a (length (s .buffer)) e → refusedOf a s (e ∷ es) ≡ refusedOf a (store a s e) es
   -- its replies give the number of the row that refuses, and else 0
   pub event-row : (e : ℕ) → RowsOfEvent a (length (s .buffer)) e (refusalIn (expected a s (one e)))
   pub day-row : (es out : List ℕ) → RowOfDay (length out) es (length (s .buffer)) (refusalIn (expected a s (many es out)))

@@ -1,5 +1,5 @@
 -- The instances of the claims on the monitor's calls and on the published function.
-use Prim.Native.Nat.{ℕ, _*_, _<_}
+use Prim.Native.Nat.{ℕ, suc, _*_, _<_}
 use mathlib.Core.Path.{_≡_, refl, sym, _∙_, ap}
 use mathlib.Core.Logic.{inl, inr}
 use mathlib.Core.Bool.{true, false}
@@ -18,7 +18,7 @@ use Rattle.sets.specs.Claims.{Winning}
 use Rattle.sets.proofs.Numbering.{numbered}
 use Rattle.configuration.specs.Configuration.{heldEvents, consistent, configuration, initialOf}
 use Rattle.releasing.specs.Step.{bySets, byTable, release}
-use Rattle.releasing.specs.Claims.{Longest}
+use Rattle.releasing.specs.Claims.{Full, Longest}
 use Rattle.releasing.proofs.Worded.{event-rows-as-worded, releases-longest, only-longest}
 use Rattle.answers.specs.Answers.{isWinning, status, received}
 use Rattle.answers.specs.Claims.{Clear}
@@ -41,7 +41,8 @@ use Rattle.claims.proofs.Answers.{flag-is-status, flag-stays, others-ignored}
 use Rattle.marked_cases.specs.Cases.{automatonV, automatonW}
 use Rattle.instances.proofs.Statements.{filled, tableW, at}
 use Rattle.instances.proofs.MonitorStatements.{wideV, startV, Rows, storeOf, twoHeld, Releasing}
-use Rattle.instances.proofs.MonitorStatements.{calls, page, sign, withdraw, eager, answers, Fields, longCalls, longAnswers, Day, Enforcing}
+use Rattle.instances.proofs.MonitorStatements.{calls, page, sign, withdraw, eager, answers, Fields}
+use Rattle.instances.proofs.MonitorStatements.{longCalls, longAnswers, Day, Enforcing}
 use Rattle.instances.proofs.Sheets.{valid-w, valid-v, solves-w, buffers-w, solved-w, solved-v, computing}
 
 -- V's start, with its table; and W with two Pages held
@@ -142,24 +143,29 @@ settles output w v r z g l =
     λ i. record { output = (g .put-out ∙ ap (λ x. output ++ x) (o .0)) i; buffer = o .1 i }
 
 pub releasing : Releasing
-unfolding automatonW pad storeAll
+unfolding automatonW pad storeAll refusedOf
 releasing =
     let go = rw both-go at (longest-w 1 (2 ∷ 3 ∷ [])) in
     let stay = rw page-stays at (longest-w 1 (2 ∷ [])) in
     let ready = follows-published automatonW (storeOf [] (2 ∷ 3 ∷ [])) in
     let after-sign = follows-published automatonW (storeOf (0 ∷ []) []) in
     let full = follows-published automatonW twoHeld in
+    let third : Full automatonW 2 2 = (omega arith, refl, omega arith) in
     record {
       released = go;
       only = λ v r l. only-longest (Winning automatonW) automatonW 1 (2 ∷ 3 ∷ []) v r (2 ∷ 3 ∷ []) [] l go;
       none = rw none-goes at (longest-w 3 (2 ∷ []));
       passes = settles (0 ∷ []) (2 ∷ 3 ∷ []) (2 ∷ 3 ∷ []) [] _ (ready .passes 0 (omega arith) (λ c. omega arith)) (rw signed go);
       holds = settles (0 ∷ []) (2 ∷ []) [] (2 ∷ []) _ (after-sign .holds 2 (omega arith) refl (omega arith)) (rw signed stay);
-      full = full .refuses 2 (inr (omega arith, refl, omega arith));
+      full = full .refuses 2 (inr third);
       unknown = full .refuses 4 (inl (omega arith));
       day-short = full .day-short (0 ∷ []) 2 (omega arith);
       day-fed = full .day-fed (0 ∷ []) 3 (omega arith);
-      event-row = full .event-row 2 .row-15 .1 (omega arith, refl, omega arith);
+      counts =
+          full .counted 2 (4 ∷ 1 ∷ []) (inr third) ∙
+          ap suc (full .counted 4 (1 ∷ []) (inl (omega arith))) ∙
+          ap (λ n. suc (suc n)) (full .not-counted 1 [] (omega arith, inl λ c. omega arith));
+      event-row = full .event-row 2 .row-15 .1 third;
       day-row = full .day-row (0 ∷ []) (9 ∷ 9 ∷ []) .row-16 .1 (omega arith);
     }
 
@@ -193,7 +199,7 @@ lost-w : LongerLoses automatonW tableW sign → Lost automatonW 0 eager (2 ∷ 0
 unfolding calling arrivalAt rivalRelease rivalOutput rivalBuffer lostBound accepts
 lost-w h = h eager longer
 
--- the published function: its answers, and what it is after the calls and after their accepted events alone
+-- the published function: its answers, what it is after the calls, and after what it accepts alone
 abbrev last : Store
 last = storeOf (0 ∷ 1 ∷ []) (2 ∷ [])
 
@@ -230,6 +236,7 @@ fields =
     let accepted = account .events ∙ accepted-w in
     let put-out = said .all-emitted ∙ ap (λ s. s .output) fed-w in
     let afresh = ap (storeAll automatonW empty) accepted ∙ alone-w in
+    let lost = lost-w (rw met at (whole .rivals) .1 .0) in
     record {
       each-reply = said .each-reply ∙ expected-w;
       all-emitted = put-out;
@@ -244,7 +251,7 @@ fields =
       fed = rw met at (account .fed) .1 .1 .0;
       initially = fine-w (rw met at (whole .once-winning .initially begins-winning) .1 .1 .0);
       later = fine-w (whole .once-winning .later [] page (sign ∷ withdraw ∷ []) met stays-winning .1 .1 .0);
-      rivals = lost-w (rw met at (whole .rivals) .1 .0);
+      rivals = (lost .list, lost .uncontrollable, lost .short, lost .outside);
     }
 
 -- the same of the long day
@@ -310,6 +317,7 @@ enforcing =
       driven-out = driven-out automatonW valid-w [] 2 (omega arith) outside-w 0 eager (0 ∷ 2 ∷ []) (0 ∷ 2 ∷ []) leads-to-two;
       flag-is-status = flag-is-status automatonW tableW start 0 accepts-sign;
       flag-stays = flag-stays automatonW tableW solved-w start says-winning;
-      once-winning-said = once-winning-said automatonW tableW valid-w solved-w calls [] page (sign ∷ withdraw ∷ []) met stays-winning;
+      once-winning-said =
+          once-winning-said automatonW tableW valid-w solved-w calls [] page (sign ∷ withdraw ∷ []) met stays-winning;
       others-ignored = others-ignored automatonW tableW (tableW ++ 9 ∷ []) both-long same-w start;
     }

@@ -1,12 +1,13 @@
--- The claims on the monitor's calls and on the published function, at sheet V or W, with their hypotheses met.
+-- The claims on the monitor's calls and on the published function at sheet V or W, hypotheses met.
 use Prim.Native.Nat.{ℕ, _<_, _≤_}
 use mathlib.Core.Path.{_≡_}
-use mathlib.Core.Bool.{true}
+use mathlib.Core.Bool.{true, false}
 use mathlib.Core.List.{List, [], _∷_, _++_, map}
 use lib.ListN.{length}
 use Rattle.automaton.specs.declared.Automaton.{Automaton}
 use Rattle.automaton.specs.Automaton.{controllable, accepts, run, assembled}
 use Rattle.sets.specs.Table.{table, Solved}
+use Rattle.sets.specs.Definition6.{AllUncontrollable}
 use Rattle.sets.specs.Claims.{Winning}
 use Rattle.configuration.specs.declared.Configuration.{Configuration}
 use Rattle.configuration.specs.Configuration.{Position, configuration, consistent, initialOf}
@@ -14,10 +15,10 @@ use Rattle.winning.specs.Solving.{solvedTable}
 use Rattle.releasing.specs.Step.{byTable, eventRefusal}
 use Rattle.releasing.specs.Claims.{Longest}
 use Rattle.answers.specs.Answers.{callRefusal, status, receiveRefusal, received, refusedRun, runRefusal}
-use Rattle.claims.specs.Store.{Store, empty, positionAt, store, storeAll, events, feed}
+use Rattle.claims.specs.Store.{Store, empty, positionAt, store, storeAll, events, feed, refusedOf}
 use Rattle.claims.specs.Calls.{Call, one, many, Reply, receive, refusalIn, replies, configurationAfter, emittedAll, expected}
 use Rattle.claims.specs.Moments.{Moment, emittedAt}
-use Rattle.claims.specs.Rival.{Strategy, Lost, lostBound}
+use Rattle.claims.specs.Rival.{Strategy, play, Lost, lostBound}
 use Rattle.claims.specs.Claims.{Enforced, acceptedEvents, winningAfter}
 use Rattle.claims.specs.Answers.{SaysWinning, SameAnswers}
 use Rattle.marked_cases.specs.Cases.{automatonV, automatonW, answer}
@@ -47,8 +48,8 @@ pub record Rows : Type 0 where
   pub row-14 : receiveRefusal automatonV (table automatonV) startV 2 ≡ 14
   pub row-15 : receiveRefusal automatonW tableW (configuration (at 0 (2 ∷ 2 ∷ []))) 2 ≡ 15
   pub row-16 : runRefusal automatonV (table automatonV) startV (0 ∷ 1 ∷ []) (9 ∷ []) ≡ 16
-  -- and the other way: what 14 refuses is none of W's four kinds; a Page that 15 refuses finds two held, and one that is
-  -- accepted fewer; a day of two that 16 refuses has room for less
+  -- and the other way: what 14 refuses is none of W's four kinds; a Page that 15 refuses finds two
+  -- held, and one that is accepted fewer; a day of two that 16 refuses has room for less
   pub only-14 : (p : Position) (e : ℕ) → rowW p e ≡ 14 → 4 ≤ e
   pub only-15 : (p : Position) → rowW p 2 ≡ 15 → 2 ≤ length (p .buffer)
   pub only-0 : (p : Position) → rowW p 2 ≡ 0 → length (p .buffer) < 2
@@ -68,7 +69,8 @@ pub record Releasing : Type 0 where
   pub released : Longest (Winning automatonW) automatonW 1 (2 ∷ 3 ∷ []) (2 ∷ 3 ∷ []) []
   pub only : (v r : List ℕ) → Longest (Winning automatonW) automatonW 1 (2 ∷ 3 ∷ []) v r → (v ≡ 2 ∷ 3 ∷ []) × (r ≡ [])
   pub none : Longest (Winning automatonW) automatonW 3 (2 ∷ []) [] (2 ∷ [])
-  -- Sign passes and takes them along; after it a Page is held; a third Page and an event that is no kind change nothing
+  -- Sign passes, and then they go; after it a Page is held; a third Page and an event that is no
+  -- kind change nothing
   pub passes : store automatonW (storeOf [] (2 ∷ 3 ∷ [])) 0 ≡ storeOf (0 ∷ 2 ∷ 3 ∷ []) []
   pub holds : store automatonW (storeOf (0 ∷ []) []) 2 ≡ storeOf (0 ∷ []) (2 ∷ [])
   pub full : store automatonW twoHeld 2 ≡ twoHeld
@@ -76,6 +78,8 @@ pub record Releasing : Type 0 where
   -- a day of Sign, with two held, wants room for three
   pub day-short : feed automatonW twoHeld (events (0 ∷ []) 2) ≡ twoHeld
   pub day-fed : feed automatonW twoHeld (events (0 ∷ []) 3) ≡ store automatonW twoHeld 0
+  -- of a day of Page, a kind that there is not and Withdraw it then refuses two
+  pub counts : refusedOf automatonW twoHeld (2 ∷ 4 ∷ 1 ∷ []) ≡ 2
   pub event-row : refusalIn (expected automatonW twoHeld (one 2)) ≡ 15
   pub day-row : refusalIn (expected automatonW twoHeld (many (0 ∷ []) (9 ∷ 9 ∷ []))) ≡ 16
 
@@ -86,7 +90,7 @@ repliesW = replies automatonW tableW (initialOf automatonW)
 abbrev pub afterW : List Call → Configuration
 afterW = configurationAfter automatonW tableW (initialOf automatonW)
 
--- a day's reply: state and buffer, how many bytes were written, how many events refused, and the lent output
+-- a day's reply: state and buffer, bytes written, events refused, and the lent output
 abbrev pub dayReply : ℕ → List ℕ → ℕ → ℕ → List ℕ → Reply
 dayReply q held written refused out =
     Rattle.claims.specs.Calls.run
@@ -115,7 +119,7 @@ eager past output held = 6
 abbrev pub answers : List Reply
 answers = receive (answer 0 [] 0 (2 ∷ []) true) ∷ dayReply 0 (2 ∷ []) 2 1 (0 ∷ 1 ∷ 9 ∷ 9 ∷ 9 ∷ []) ∷ []
 
--- every field of demand 3, out of the one statement at W and these calls, its hypotheses met and its values written out
+-- every field of demand 3, out of the one statement at W and these calls, with its values
 pub record Fields : Type 0 where
   pub each-reply : repliesW calls ≡ answers
   pub all-emitted : emittedAll (repliesW calls) ≡ 0 ∷ 1 ∷ []
@@ -125,20 +129,24 @@ pub record Fields : Type 0 where
   pub alone-configuration : afterW calls ≡ configuration (at 0 (2 ∷ []))
   pub events : acceptedEvents automatonW tableW calls ≡ 2 ∷ 0 ∷ 1 ∷ []
   pub emitted : emittedAt automatonW tableW (page ∷ sign ∷ withdraw ∷ []) ≡ 0 ∷ 1 ∷ []
-  -- of Withdraw, inside the day: Page and Sign were before it and put out Sign, which leads to state 1; fed them, the
-  -- function holds the Page
+  -- of Withdraw, inside the day: Page and Sign were before it and put out Sign, which leads to
+  -- state 1; fed them, the function holds the Page
   pub history : (withdraw .past ≡ map (λ (m : Moment). m .event) (page ∷ sign ∷ []))
       × (withdraw .output ≡ emittedAt automatonW tableW (page ∷ sign ∷ []))
   pub leads : run automatonW 0 (0 ∷ []) ≡ 1
-  pub fed : (storeAll automatonW empty (2 ∷ 0 ∷ []) .output ≡ 0 ∷ []) × (positionAt automatonW (storeAll automatonW empty (2 ∷ 0 ∷ [])) ≡ at 1 (2 ∷ []))
-  -- winning at first, and after Page, W is so after Withdraw, and its output, Sign and Withdraw, leads to an accepting state
+  pub fed : let z = storeAll automatonW empty (2 ∷ 0 ∷ []) in (z .output ≡ 0 ∷ []) × (positionAt automatonW z ≡ at 1 (2 ∷ []))
+  -- winning at first, and after Page, W is so after Withdraw, and its output, Sign and Withdraw,
+  -- leads to an accepting state
   pub initially : (winningAfter automatonW tableW withdraw ≡ true) × (accepts automatonW (run automatonW 0 (0 ∷ 1 ∷ [])) ≡ true)
   pub later : (winningAfter automatonW tableW withdraw ≡ true) × (accepts automatonW (run automatonW 0 (0 ∷ 1 ∷ [])) ≡ true)
   -- whoever lets the Page go after Sign, inside the day, is driven out by at most two events
-  pub rivals : Lost automatonW 0 eager (2 ∷ 0 ∷ []) (0 ∷ 2 ∷ []) [] 2
+  pub rivals : (us : List ℕ)
+      × AllUncontrollable automatonW us
+      × (length us ≤ 2)
+      × (accepts automatonW (run automatonW 0 (play automatonW eager (2 ∷ 0 ∷ []) (0 ∷ 2 ∷ []) [] us)) ≡ false)
 
--- Page; a day of Receipt, Sign, Page, Withdraw, Page, Page, a kind that there is not and Withdraw, with room for ten; a day
--- of Sign, with room for two; Sign
+-- Page; a day of Receipt, Sign, Page, Withdraw, Page, Page, a kind that there is not and Withdraw,
+-- with room for ten; a day of Sign, with room for two; Sign
 abbrev pub longCalls : List Call
 longCalls =
     one 2 ∷ many (3 ∷ 0 ∷ 2 ∷ 1 ∷ 2 ∷ 2 ∷ 4 ∷ 1 ∷ []) (filled 10 9) ∷ many (0 ∷ []) (filled 2 9) ∷ one 0 ∷ []

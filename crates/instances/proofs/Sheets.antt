@@ -9,7 +9,8 @@ use Rattle.base.specs.Pad.{pad}
 use Rattle.base.specs.Masks.{has, mask}
 use Rattle.varint.specs.Varint.{groups, read}
 use Rattle.automaton.specs.Parts.{controllableIn, stands, placesStand}
-use Rattle.automaton.specs.Automaton.{controllable, controllables, step, run, shaped, ranged, classesStand, flagsStand, nextStand, valid}
+use Rattle.automaton.specs.Automaton.{controllable, controllables, step, run}
+use Rattle.automaton.specs.Automaton.{shaped, ranged, classesStand, flagsStand, nextStand, valid}
 use Rattle.encoding.specs.Reading.{checked, between, itemRow, numbers, runs, one, many, tables, automatonFrom, parse, parsed}
 use Rattle.encoding.proofs.Trips.{read-is-valid}
 use Rattle.sets.specs.Table.{index, rank, value, shorter, buffersCount, short, table, Solved}
@@ -17,7 +18,8 @@ use Rattle.sets.proofs.Tables.{table-is-solved}
 use Rattle.winning.specs.Solving.{solveRefusal, solvedTable}
 use Rattle.winning.proofs.Answers.{leaves-solved}
 use Rattle.configuration.specs.Configuration.{heldEvents, controllableSymbol, placeStands, bufferStands, consistentIn, initialOf}
-use Rattle.releasing.specs.Step.{byTable, qualifies, qualifying, release, remaining, arrival, effect, eventRows, eventRefusal, runOf}
+use Rattle.releasing.specs.Step.{byTable, qualifies, qualifying, release, remaining, arrival, effect}
+use Rattle.releasing.specs.Step.{eventRows, eventRefusal, runOf}
 use Rattle.answers.specs.Answers.{tableRows, configurationRows, callRows, isWinning, callRefusal, status, receiveRefusal, received, room, runRefusal, ran}
 use Rattle.marked_cases.specs.Cases.{bytesW, automatonV, automatonW}
 use Rattle.marked_cases.proofs.Cases.{marked-cases}
@@ -27,7 +29,9 @@ pub valid-w : valid automatonW ≡ true
 valid-w = read-is-valid bytesW automatonW (marked-cases .1 .0)
 
 pub read-v : parse paddedV ≡ parsed automatonV
-unfolding each count pad groups read controllableIn checked between itemRow numbers runs one many tables automatonFrom parse automatonV first
+unfolding
+    each count pad groups read controllableIn first
+    checked between itemRow numbers runs one many tables automatonFrom parse automatonV
 read-v = refl
 
 pub valid-v : valid automatonV ≡ true

@@ -2,7 +2,7 @@
 use Prim.Native.Nat.{ℕ, suc, _<_, _≤_}
 use mathlib.Core.Path.{_≡_, sym, _∙_, ap}
 use mathlib.Core.Logic.{_⊎_, inl, inr}
-use mathlib.Core.List.{List, [], _++_}
+use mathlib.Core.List.{List, _++_}
 use native.Mathlib.Omega.{arith}
 use lib.Dec.{eqb, leb, ltb}
 use lib.ListN.{length, take, drop, length-append, take-append-drop}
@@ -95,7 +95,8 @@ unfolding release qualifying qualifies
 releases-longest rest a q w =
     let k = release rest a q w in
     let last = last-those 0 (suc (length w)) (qualifies rest a q w) in
-    let inside : (x y : List ℕ) → x ++ y ≡ w → length x < suc (length w) = λ x y j. let l = cut-in w x y j in omega arith in
+    let inside : (x y : List ℕ) → x ++ y ≡ w → length x < suc (length w) = λ x y j.
+    let l = cut-in w x y j in omega arith in
     record {
       parts = take-append-drop k w;
       leads = either last

@@ -1,4 +1,5 @@
--- What is proved of the rows of one event and of the release, in document 01's words ("Numbers of refusal", "One event").
+-- What is proved of the rows of one event and of the release, in document 01's words ("One event"
+-- and "Numbers of refusal").
 use Prim.Native.Nat.{ℕ, _<_, _≤_}
 use mathlib.Core.Path.{_≡_}
 use mathlib.Core.Logic.{_⊎_, _↔_}
@@ -22,7 +23,7 @@ Full a held e = (e < a .symbols) × (class a e ≡ 1) × (a .capacity ≤ held)
 abbrev pub Taken : Automaton → ℕ → ℕ → Type 0
 Taken a held e = (e < a .symbols) × ((class a e ≡ 1 → ⊥) ⊎ (held < a .capacity))
 
--- n is the number of refusal of an event with so many held: each row's number exactly when it holds
+-- n is the number of refusal of an event with so many held: a row's number exactly when it holds
 pub record RowsOfEvent (a : Automaton) (held e n : ℕ) : Type 0 where
   pub row-14 : (n ≡ 14) ↔ Unknown a e
   pub row-15 : (n ≡ 15) ↔ Full a held e
@@ -32,8 +33,8 @@ abbrev pub EventRowsAsWorded : Type 0
 EventRowsAsWorded =
     (rest : Rest) (a : Automaton) (p : Position) (e : ℕ) → RowsOfEvent a (length (p .buffer)) e (eventRefusal rest a p e)
 
--- The longest release, where P says with what is left and in which state one may rest: the buffer w falls
--- into v, which is released, and r, which is left.
+-- The longest release, where P says with what is left, and in which state, one may rest: the
+-- buffer w falls into v, which is released, and r, which is left.
 pub record Longest (P : List ℕ → ℕ → Type 0) (a : Automaton) (q : ℕ) (w v r : List ℕ) : Type 0 where
   pub parts : v ++ r ≡ w
   -- v leads q to where one may rest with r; or v is empty, and no front part leads so
