@@ -3,6 +3,7 @@ import collections
 import os
 import subprocess
 import sys
+import time
 
 Ended = collections.namedtuple("Ended", "status stdout stderr")
 
@@ -12,19 +13,32 @@ PATIENCE = 60  # seconds that a command may take
 def ended(command, given=None, **how):
     """Runs a command on bytes, or on the standard input that `how` names."""
     if given is not None:
-        how["input"] = given
-    done = subprocess.run(command, timeout=PATIENCE, **{"stdout": subprocess.PIPE, "stderr": subprocess.PIPE, **how})
-    return Ended(done.returncode, done.stdout or b"", done.stderr or b"")
+        how["stdin"] = subprocess.PIPE
+    return finished(subprocess.Popen(command, **{"stdout": subprocess.PIPE, "stderr": subprocess.PIPE, **how}), given)
 
 
-def finished(process):
+def finished(process, given=None):
     """Waits for a command that was started."""
-    stdout, stderr = process.communicate(timeout=PATIENCE)
+    try:
+        stdout, stderr = process.communicate(given, timeout=PATIENCE)
+    except subprocess.TimeoutExpired:
+        process.kill()
+        fail(" ".join(map(str, process.args)), "goes on for {} s".format(PATIENCE))
     return Ended(process.returncode, stdout or b"", stderr or b"")
 
 
 def fail(name, text):
     sys.exit("tests/programs: {}: {}".format(name, text))
+
+
+def until(holds, what):
+    """Waits until something holds for a while."""
+    since, held = time.monotonic(), 0
+    while held < 5:
+        held = held + 1 if holds() else 0
+        if time.monotonic() - since > PATIENCE:
+            fail("waited in vain until " + what, "{} s".format(PATIENCE))
+        time.sleep(0.005)
 
 
 def shown(part, at):

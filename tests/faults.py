@@ -13,7 +13,7 @@ import subprocess
 import termios
 import time
 
-from ending import Ended, PATIENCE, compare, ended, fail, finished
+from ending import Ended, PATIENCE, compare, ended, fail, finished, until
 
 PIPE_ROOM = 65536  # of a Linux pipe
 
@@ -78,6 +78,22 @@ def not_blocking_output(program, given, filled):
         front = fill(writing) if filled else 0
         end = ended([program], given, stdout=writing)
         return end, drain(reading)[front:]
+
+
+def slowly_read(program, given):
+    """A pipe that does not block, emptied more slowly than the program writes: writes fail, and later ones would not."""
+    with pipe() as (reading, writing):
+        os.set_blocking(writing, False)
+        process = subprocess.Popen([program], stdin=subprocess.PIPE, stdout=writing, stderr=subprocess.PIPE)
+        os.close(writing)
+        process.stdin.write(given)
+        process.stdin.close()
+        process.stdin = None
+        out = b""
+        for part in iter(lambda: os.read(reading, 4096), b""):
+            out += part
+            time.sleep(0.001)
+        return finished(process)._replace(stdout=out)
 
 
 def fill(writing):
@@ -167,16 +183,6 @@ def asleep(process):
     until(lambda: state(process) == "S", "the program waits")
 
 
-def until(holds, what):
-    """Waits until something holds for a while."""
-    since, held = time.monotonic(), 0
-    while held < 5:
-        held = held + 1 if holds() else 0
-        if time.monotonic() - since > PATIENCE:
-            fail("waited in vain until " + what, "{} s".format(PATIENCE))
-        time.sleep(0.005)
-
-
 def try_faults(program, given, whole):
     """All faults on one program, on an input whose output is longer than a pipe holds."""
 
@@ -193,8 +199,11 @@ def try_faults(program, given, whole):
         check("an output that does not block", got._replace(stdout=out), whole[:len(out)], says(program, "cannot write"))
         if len(out) > most or (not filled and not out):
             fail(program.name, "{} bytes came out of a pipe that does not block".format(len(out)))
+    got = slowly_read(program, given)
+    out, cut = got.stdout, len(got.stdout) < len(whole)
+    check("a pipe that is emptied slowly", got, whole[:len(out)], says(program, "cannot write") if cut else b"")
     check("an input that does not block", not_blocking_input(program, given), stderr=says(program, "cannot read"))
     check("an input that is reset", reset_input(program, given), stderr=says(program, "cannot read"))
     check("a read that is interrupted", interrupted_input(program, given), whole)
     check("a write that is interrupted", interrupted_output(program, given), whole)
-    return len(REDIRECTIONS) + 9
+    return len(REDIRECTIONS) + 10

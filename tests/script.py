@@ -15,9 +15,9 @@ import tempfile
 import time
 import tty
 
-from ending import Ended, PATIENCE, compare, ended, fail, finished
+from ending import Ended, PATIENCE, compare, ended, fail, finished, until
 
-CRATES = "base:  # no crate\ntext: base\nother: base text\npack: text io\nday: text base libc\n"
+CRATES = "base:  # not other\ntext: base\nother: base text\npack: text io\nday: text base libc\n"
 
 RT = """#!/bin/sh
 echo "$*" >>"$CALLS"
@@ -29,7 +29,7 @@ mkdir -p target/bin
 shift
 for name; do
     echo "rt: $name proved (4 s)" >&2
-    cp "$PROGRAMS/$name" target/bin/
+    cp -p "$PROGRAMS/$name" target/bin/
 done
 echo "rt: day ran as nobody, and wrote what its file 'stdout' has (0 s)"
 echo "rt: ok, 4 crates proved"
@@ -122,6 +122,7 @@ class House:
             (self.start / name).write_bytes(data)
         for name in "day", "pack":
             shutil.copy(root / "target" / "bin" / name, self.programs)
+            os.utime(self.programs / name, (0, 0))
         self.printed = (root / "crates" / "day" / "stdout").read_bytes()
         self.environment = {
             "PATH": "{}:{}".format(folder / "rt", os.environ["PATH"]), "TMPDIR": str(self.temporary), "CALLS": str(self.calls),
@@ -254,6 +255,15 @@ def try_inputs(house):
     house.check("a named pipe", finished(process), 0, "refused 9 at 15\n", "day: fifo: line 5: 3 is refused by row 9\n")
 
 
+def try_texts(house):
+    """Which bytes a text has: 49 is the digit 1, and as bytes it is a sheet's length."""
+    house.put_programs()
+    for byte in 9, 10, 13, 32, 126, 128, 255:
+        house.check("a text with byte {}".format(byte), house.run(given=bytes([49, byte])), 2, "", "day: " + TEXT.format("standard input") + "\n")
+    for byte in 0, 8, 11, 12, 14, 31, 127:
+        house.check("bytes with {}".format(byte), house.run(given=bytes([49, byte])), 0, "refused 1 at 1\n")
+
+
 def try_outputs(house):
     """Where the output fails, or a program does."""
     house.put_programs()
@@ -269,6 +279,10 @@ def try_outputs(house):
     process.stdout.close()
     process.stdout = None
     house.check("a reader that goes away", finished(process), 128 + signal.SIGPIPE)
+    process = house.begin(["word", "-events"], stdout=subprocess.PIPE, stderr=subprocess.PIPE)
+    process.stderr.close()
+    process.stderr = None
+    house.check("a reader of standard error that goes away", finished(process), 128 + signal.SIGPIPE)
     for name, words in ("day", ["v.bytes"]), ("day", two), ("pack", two):
         house.put_programs(**{name: "echo front; kill -9 $$"})
         out = "front\n" if name == "day" else ""
@@ -322,10 +336,10 @@ def try_builds(house):
     house.check("the first build", house.run(two), 0, "PRINTED", said(["day", "pack"], 4))
     house.check("built", house.run(two), 0, "PRINTED")
     house.called("the first build", ["check day pack"])
-    later = time.time() + 60
-    os.utime(house.script.parent / "crates" / "day" / "stdin", (later, later))
-    house.check("a newer file", house.run(["v.bytes"]), 0, "PRINTED", said(["day"], 3))
-    os.utime(house.script.parent / "crates" / "day" / "stdin")
+    for newer in house.script.parent / "crates.txt", house.script.parent / "crates" / "day" / "stdin":
+        os.utime(newer)
+        house.check("a newer file", house.run(["v.bytes"]), 0, "PRINTED", said(["day"], 3))
+        house.check("built again", house.run(["v.bytes"]), 0, "PRINTED")
     house.remove_programs()
     house.check("the first build, bytes", house.run(["v.bytes"]), 0, "PRINTED", said(["day"], 3))
     house.check("one program is missing", house.run(two), 0, "PRINTED", said(["day", "pack"], 4))
@@ -336,7 +350,7 @@ def try_builds(house):
 
 
 def try_lines_as_they_come(house, words):
-    """rt waits in the middle: what it has proved is said before it goes on."""
+    """rt waits in the middle: what it has proved is said before it goes on. A file that is changed meanwhile is built once more."""
     house.remove_programs()
     os.mkfifo(house.held)
     process = house.begin(words, stdout=subprocess.PIPE, stderr=subprocess.PIPE)
@@ -346,10 +360,12 @@ def try_lines_as_they_come(house, words):
         line += os.read(process.stderr.fileno(), 1)
     if line != first:
         fail("lines of a build", "{!r} while rt waits".format(line))
+    os.utime(house.script.parent / "crates.txt")
     house.held.write_bytes(b"\n")
     house.held.unlink()
     got = finished(process)
     house.check("lines of a build", got._replace(stderr=line + got.stderr), 0, "PRINTED", expected)
+    house.check("a file that is changed while it builds", house.run(words), 0, "PRINTED", expected)
 
 
 def try_build_on_terminal(house):
@@ -391,12 +407,12 @@ def try_signals(house):
         house.put_programs()
         process = house.begin(stdin=subprocess.PIPE, stdout=subprocess.PIPE, stderr=subprocess.PIPE)
         end_while(house, process, number, "it waits for its input")
-        house.put_programs(day="echo $$ >&2; exec sleep 1000")
+        house.put_programs(day="echo $$ >&2; exec sleep 100")
         process = house.begin(["v.bytes"], stdout=subprocess.PIPE, stderr=subprocess.PIPE)
         child = int(process.stderr.readline())
         end_while(house, process, number, "the program runs", child)
         house.remove_programs()
-        house.write(house.rt, "#!/bin/sh\nsleep 1000 &\necho $!\necho 'rt: base proved (1 s)'\nwait\n")
+        house.write(house.rt, "#!/bin/sh\nsleep 100 &\necho $!\necho 'rt: base proved (1 s)'\nwait\n")
         process = house.begin(["v.bytes"], stdout=subprocess.PIPE, stderr=subprocess.PIPE)
         process.stderr.readline(), process.stderr.readline()
         child = int((house.script.parent / "target" / "build.log").read_text().split()[0])
@@ -405,17 +421,12 @@ def try_signals(house):
 
 
 def end_while(house, process, number, what, child=None):
-    since = time.monotonic()
-    while not os.listdir(house.temporary):
-        time.sleep(0.01)
-    time.sleep(0.05)
+    until(lambda: os.listdir(house.temporary), "./day has a temporary folder")
     process.send_signal(number)
-    got = finished(process)
-    house.check("signal {} while {}".format(number, what), got, 128 + number)
-    while child and alive(child):
-        if time.monotonic() - since > 5:
-            fail("./day by {}, signal {} while {}".format(house.shell, number, what), "process {} lives on".format(child))
-        time.sleep(0.01)
+    name = "signal {} while {}".format(number, what)
+    until(lambda: process.poll() is not None, "./day ends after " + name)
+    house.check(name, finished(process), 128 + number)
+    until(lambda: not (child and alive(child)), "process {} ends after ".format(child) + name)
 
 
 def alive(process):
@@ -436,7 +447,8 @@ def try_script(root):
             house = House(pathlib.Path(folder), shell, root)
             house.temporary.chmod(0o777)
             for part in (
-                    try_cases, try_arguments_first, try_unreadable, try_inputs, try_outputs, try_places, try_builds, try_signals):
+                    try_cases, try_arguments_first, try_unreadable, try_inputs, try_texts, try_outputs, try_places, try_builds,
+                    try_signals):
                 part(house)
             count += house.count
     return count
