@@ -307,9 +307,9 @@ uint8_t ref_solve(const uint8_t *automaton, uint32_t *table, size_t table_length
 uint8_t ref_initial(const uint8_t *automaton, uint8_t *configuration)
 {
     struct automaton s;
-    memset(configuration, 0, 8);
     if (!automaton_of(automaton, &s))
         return 11;
+    memset(configuration, 0, 8);
     configuration[0] = (uint8_t)s.initial;
     return 0;
 }

@@ -5,7 +5,7 @@
  *
  * Every function returns the number of refusal, 0 where nothing is refused. A refused call writes nothing but its answer, in which
  * every count, length and yes-or-no is 0; the lent carried state, table and output keep their contents. A refused read leaves an
- * all-zero record and the place of the fault, a refused jaxhophasi_initial an all-zero state.
+ * all-zero record and the place of the fault.
  *
  * What is lent: a fixed array is a plain pointer to as many bytes as its constant says; a list is a pointer and then the number of
  * its elements. A list may be of any length and all of it may hold anything. No pointer is null, also where a list is empty; lists
@@ -117,7 +117,7 @@ uint8_t jaxhophasi_buffers_count(const uint8_t automaton[JAXHOPHASI_AUTOMATON_SI
 uint8_t jaxhophasi_solve(const uint8_t automaton[JAXHOPHASI_AUTOMATON_SIZE], uint32_t *table, size_t table_length,
     uint8_t rounds[JAXHOPHASI_NUMBER_SIZE]);
 
-/* The fresh carried state. Row 11; refused, it is all zero. */
+/* The fresh carried state, written into configuration. Row 11; refused, configuration stays as it was. */
 uint8_t jaxhophasi_initial(const uint8_t automaton[JAXHOPHASI_AUTOMATON_SIZE], uint8_t configuration[JAXHOPHASI_CONFIGURATION_SIZE]);
 
 /* Whether a carried state is guarded. Rows 11, 12, 13. */

@@ -1,0 +1,295 @@
+/*
+ * Every name that include/jaxhophasi.h defines, against what the calls answer. The sheets, the numbers and the bytes that are expected
+ * stand here as document 01 and the layout have them; the answers are indexed by the header's names.
+ */
+#include <stdio.h>
+#include <stdlib.h>
+#include <string.h>
+
+#include "jaxhophasi.h"
+
+enum { ROOM = 2048 };
+
+/* Sheets V and W of document 01. */
+static const uint8_t v[] = { 3, 2, 1, 0, 0, 1, 1, 0, 1, 1, 0, 1, 2, 2, 2 };
+static const uint8_t w[] = { 4, 4, 2, 0, 0, 0, 1, 1, 1, 1, 0, 0, 1, 0, 3, 0, 1, 0, 2, 1, 2, 3, 3, 1, 3, 3, 3, 3 };
+
+static int different;
+
+static void same(const char *what, unsigned long got, unsigned long expected)
+{
+    if (got == expected)
+        return;
+    printf("tests/header.c: %s: %lu, expected %lu\n", what, got, expected);
+    different = 1;
+}
+
+static void same_bytes(const char *what, const uint8_t *got, const uint8_t *expected, size_t count)
+{
+    for (size_t i = 0; i < count; i++)
+        same(what, got[i], expected[i]);
+}
+
+/* How many bytes a call writes at the front of what it is lent: it is made twice, over bytes that nowhere agree. CALL lends `lent`. */
+static uint8_t first[ROOM], second[ROOM], *lent;
+
+static unsigned long agreeing(void)
+{
+    unsigned long count = 0;
+    while (count < ROOM && first[count] == second[count])
+        count++;
+    return count;
+}
+
+#define WRITTEN(CALL) \
+    (memset(first, 0x55, ROOM), lent = first, (void)(CALL), memset(second, 0xaa, ROOM), lent = second, (void)(CALL), agreeing())
+
+/* What most calls are lent. */
+static uint8_t automaton[ROOM], configuration[ROOM], number[ROOM], answer[ROOM], out[ROOM];
+static uint32_t *table;
+
+static uint8_t read_sheet(const uint8_t *bytes, size_t length)
+{
+    return jaxhophasi_read(bytes, length, automaton, number);
+}
+
+static void set_configuration(const uint8_t bytes[8])
+{
+    memcpy(configuration, bytes, 8);
+}
+
+/* ---- the record ---- */
+
+/* A sheet's record, written place by place by the header's offsets, is the record that is read. */
+static void check_record(const char *what, const uint8_t *sheet, size_t length)
+{
+    static uint8_t record[ROOM];
+    unsigned n = sheet[0], m = sheet[1];
+    const uint8_t *classes = sheet + 4, *flags = classes + m, *next = flags + n;
+    memset(record, 0, ROOM);
+    record[JAXHOPHASI_AUTOMATON_STATES] = sheet[0];
+    record[JAXHOPHASI_AUTOMATON_SYMBOLS] = sheet[1];
+    record[JAXHOPHASI_AUTOMATON_CAPACITY] = sheet[2];
+    record[JAXHOPHASI_AUTOMATON_INITIAL] = sheet[3];
+    for (unsigned e = 0; e < m; e++)
+        record[JAXHOPHASI_AUTOMATON_CLASSES + e] = classes[e];
+    for (unsigned q = 0; q < n; q++)
+        record[JAXHOPHASI_AUTOMATON_ACCEPTING + q] = flags[q];
+    for (unsigned q = 0; q < n; q++)
+        for (unsigned e = 0; e < m; e++)
+            record[JAXHOPHASI_AUTOMATON_NEXT + q * JAXHOPHASI_SYMBOLS_MOST + e] = next[q * m + e];
+    same(what, read_sheet(sheet, length), 0);
+    same_bytes(what, record, automaton, 564);
+}
+
+/* A sheet with so many states and kinds, none controllable, every state acceptable and every next state the first one. */
+static size_t plain_sheet(uint8_t *sheet, unsigned n, unsigned m)
+{
+    size_t length = 4 + m + n + n * m;
+    memset(sheet, 0, length);
+    sheet[0] = (uint8_t)n;
+    sheet[1] = (uint8_t)m;
+    sheet[2] = 1;
+    memset(sheet + 4 + m, 1, n);
+    return length;
+}
+
+static void check_automaton(void)
+{
+    static const uint8_t from_two[] = { 3, 2, 1, 2, 0, 1, 1, 0, 1, 1, 0, 1, 2, 2, 2 };
+    static uint8_t sheet[ROOM];
+    check_record("the record of V", v, sizeof v);
+    check_record("the record of V with start 2", from_two, sizeof from_two);
+    check_record("the record of W", w, sizeof w);
+    same("AUTOMATON_SIZE", JAXHOPHASI_AUTOMATON_SIZE, WRITTEN(jaxhophasi_read(v, sizeof v, lent, number)));
+    same("STATES_MOST", read_sheet(sheet, plain_sheet(sheet, JAXHOPHASI_STATES_MOST, 1)), 0);
+    same("a state over STATES_MOST", read_sheet(sheet, plain_sheet(sheet, JAXHOPHASI_STATES_MOST + 1, 1)), 3);
+    same("SYMBOLS_MOST", read_sheet(sheet, plain_sheet(sheet, 1, JAXHOPHASI_SYMBOLS_MOST)), 0);
+    same("a kind over SYMBOLS_MOST", read_sheet(sheet, plain_sheet(sheet, 1, JAXHOPHASI_SYMBOLS_MOST + 1)), 4);
+    same("the largest sheet", read_sheet(sheet, plain_sheet(sheet, 32, 16)), 0);
+    same("SHEET_MOST", jaxhophasi_write(automaton, out, JAXHOPHASI_SHEET_MOST, number), 0);
+    same("bytes of the largest sheet", jaxhophasi_number_at(number), JAXHOPHASI_SHEET_MOST);
+    same("a byte under SHEET_MOST", jaxhophasi_write(automaton, out, JAXHOPHASI_SHEET_MOST - 1, number), 16);
+}
+
+/* ---- numbers and the table ---- */
+
+static void check_numbers(void)
+{
+    static const uint8_t high[] = { 8, 7, 6, 5, 4, 3, 2, 129 };
+    same("number_at", jaxhophasi_number_at(high) >> 32, 0x81020304);
+    same("number_at, its low half", jaxhophasi_number_at(high) & 0xffffffff, 0x05060708);
+    read_sheet(v, sizeof v);
+    same("NUMBER_SIZE", JAXHOPHASI_NUMBER_SIZE, WRITTEN(jaxhophasi_buffers_count(automaton, lent)));
+    same("the place of a fault", read_sheet(v, sizeof v - 1), 1);
+    same("the place of a fault", jaxhophasi_number_at(number), 14);
+}
+
+static void check_table(void)
+{
+    static const uint8_t eight[] = { 1, 8, 6, 0, 1, 1, 1, 1, 1, 1, 1, 1, 1, 0, 0, 0, 0, 0, 0, 0, 0 };
+    read_sheet(v, sizeof v);
+    same("T of V", jaxhophasi_buffers_count(automaton, number), 0);
+    size_t places = JAXHOPHASI_TABLE_LENGTH(jaxhophasi_number_at(number));
+    same("TABLE_LENGTH of V's T", places, 4);
+    same("TABLE_LENGTH of a sum", JAXHOPHASI_TABLE_LENGTH(3 + 4), 14);
+    same("V's table", jaxhophasi_solve(automaton, table, places, number), 0);
+    same("V's rounds", jaxhophasi_number_at(number), 1);
+    same("V's table, a place less", jaxhophasi_solve(automaton, table, places - 1, number), 12);
+    same("eight controllable kinds", read_sheet(eight, sizeof eight), 0);
+    jaxhophasi_buffers_count(automaton, number);
+    same("TABLE_MOST", JAXHOPHASI_TABLE_MOST, 2 * jaxhophasi_number_at(number));
+    same("the largest table, a place less", jaxhophasi_solve(automaton, table, JAXHOPHASI_TABLE_MOST - 1, number), 12);
+    same("the largest table", jaxhophasi_solve(automaton, table, JAXHOPHASI_TABLE_MOST, number), 0);
+}
+
+/* ---- the carried state and the answers, on W ---- */
+
+static void solve_w(void)
+{
+    same("W", read_sheet(w, sizeof w), 0);
+    same("W's table", jaxhophasi_solve(automaton, table, 14, number), 0);
+    same("W, fresh", jaxhophasi_initial(automaton, configuration), 0);
+}
+
+static uint8_t event(uint32_t kind)
+{
+    return jaxhophasi_receive(automaton, table, 14, configuration, kind, answer);
+}
+
+static void check_configuration(void)
+{
+    static const uint8_t two_held[] = { 2, 3, 0, 0, 0, 0 }, one_held[] = { 2, 0, 0, 0, 0, 0 };
+    solve_w();
+    same("CONFIGURATION_SIZE", JAXHOPHASI_CONFIGURATION_SIZE, WRITTEN(jaxhophasi_initial(automaton, lent)));
+    event(2);
+    event(3);
+    same("state after Page, Receipt", configuration[JAXHOPHASI_CONFIGURATION_STATE], 0);
+    same("held after Page, Receipt", configuration[JAXHOPHASI_CONFIGURATION_HELD], 2);
+    same_bytes("buffer after Page, Receipt", configuration + JAXHOPHASI_CONFIGURATION_BUFFER, two_held, 6);
+    jaxhophasi_initial(automaton, configuration);
+    event(0);
+    event(2);
+    same("state after Sign, Page", configuration[JAXHOPHASI_CONFIGURATION_STATE], 1);
+    same("held after Sign, Page", configuration[JAXHOPHASI_CONFIGURATION_HELD], 1);
+    same_bytes("buffer after Sign, Page", configuration + JAXHOPHASI_CONFIGURATION_BUFFER, one_held, 6);
+}
+
+static void check_received(void)
+{
+    static const uint8_t emitted[] = { 0, 2, 3, 0, 0, 0, 0 };
+    solve_w();
+    same("RECEIVED_SIZE", JAXHOPHASI_RECEIVED_SIZE, WRITTEN(jaxhophasi_receive(automaton, table, 14, configuration, 4, lent)));
+    event(2);
+    event(3);
+    same("Page, Receipt, Sign", event(0), 0);
+    same_bytes("what is put out", answer + JAXHOPHASI_RECEIVED_EMITTED, emitted, 7);
+    same("how many are put out", answer[JAXHOPHASI_RECEIVED_COUNT], 3);
+    same("guarded after Sign", answer[JAXHOPHASI_RECEIVED_WINNING], 1);
+    /* in state 2, Sign leaves a page out with no receipt */
+    set_configuration((const uint8_t[]){ 2, 0, 0, 0, 0, 0, 0, 0 });
+    same("Sign in state 2", event(0), 0);
+    same("how many are put out in state 2", answer[JAXHOPHASI_RECEIVED_COUNT], 1);
+    same("guarded in state 2", answer[JAXHOPHASI_RECEIVED_WINNING], 0);
+}
+
+/* Page, Receipt, Sign, three Pages (the last is refused by 15), a kind that there is not, Withdraw. */
+static void check_ran(void)
+{
+    static const uint32_t day[] = { 2, 3, 0, 2, 2, 2, 7, 1 };
+    static const uint8_t put_out[] = { 0, 2, 3, 1 };
+    solve_w();
+    same("RAN_SIZE", JAXHOPHASI_RAN_SIZE, WRITTEN(jaxhophasi_run(automaton, table, 14, configuration, day, 8, out, 7, lent)));
+    same("a day", jaxhophasi_run(automaton, table, 14, configuration, day, 8, out, 8, answer), 0);
+    same("bytes written", jaxhophasi_number_at(answer + JAXHOPHASI_RAN_LENGTH), 4);
+    same("events refused", jaxhophasi_number_at(answer + JAXHOPHASI_RAN_REFUSED), 2);
+    same_bytes("the day's output", out, put_out, 4);
+}
+
+/* With Receipt held W may not rest in state 2, and comes to rest in state 1; in state 0 it may rest; in state 3 neither. */
+static void check_status_and_verdict(void)
+{
+    static const uint8_t states[] = { 2, 0, 3 }, may[] = { 0, 1, 0 }, can[] = { 1, 1, 0 };
+    solve_w();
+    same("STATUS_SIZE", JAXHOPHASI_STATUS_SIZE, WRITTEN(jaxhophasi_winning(automaton, table, 14, configuration, lent)));
+    same("VERDICT_SIZE", JAXHOPHASI_VERDICT_SIZE, WRITTEN(jaxhophasi_judge(automaton, configuration, lent)));
+    for (int i = 0; i < 3; i++) {
+        set_configuration((const uint8_t[]){ states[i], 1, 3, 0, 0, 0, 0, 0 });
+        same("winning", jaxhophasi_winning(automaton, table, 14, configuration, answer), 0);
+        same("guarded", answer[0], may[i]);
+        same("judge", jaxhophasi_judge(automaton, configuration, answer), 0);
+        same("may rest", answer[JAXHOPHASI_VERDICT_MAY_REST], may[i]);
+        same("can come to rest", answer[JAXHOPHASI_VERDICT_CAN_REST], can[i]);
+    }
+}
+
+/* ---- numbers of refusal ---- */
+
+/* Document 01's number, the header's name for it, and a call that gives it. */
+static void row(unsigned document, unsigned header, uint8_t call)
+{
+    char what[32];
+    snprintf(what, sizeof what, "row %u", document);
+    same(what, header, document);
+    same(what, call, document);
+}
+
+#define READ(...) read_sheet((const uint8_t[]){ __VA_ARGS__ }, sizeof(const uint8_t[]){ __VA_ARGS__ })
+
+static void check_rows_of_reading(void)
+{
+    row(0, JAXHOPHASI_FINE, read_sheet(v, sizeof v));
+    row(1, JAXHOPHASI_ENDS_EARLY, READ(3, 2));
+    row(2, JAXHOPHASI_LONG_NUMBER, READ(128, 128, 128));
+    row(3, JAXHOPHASI_BAD_STATES, READ(33));
+    row(4, JAXHOPHASI_BAD_SYMBOLS, READ(3, 0));
+    row(5, JAXHOPHASI_BAD_CAPACITY, READ(3, 2, 7));
+    row(6, JAXHOPHASI_BAD_INITIAL, READ(3, 2, 1, 3));
+    row(7, JAXHOPHASI_BAD_FLAG, READ(3, 2, 1, 0, 2));
+    row(8, JAXHOPHASI_MANY_CONTROLLABLE, READ(1, 9, 1, 0, 1, 1, 1, 1, 1, 1, 1, 1, 1));
+    row(9, JAXHOPHASI_BAD_NEXT, READ(3, 2, 1, 0, 0, 1, 1, 0, 1, 1, 0, 1, 2, 2, 3));
+    row(10, JAXHOPHASI_BYTES_LEFT, READ(3, 2, 1, 0, 0, 1, 1, 0, 1, 1, 0, 1, 2, 2, 2, 0));
+}
+
+static void check_rows_of_calls(void)
+{
+    static const uint32_t queries[] = { 0, 0 };
+    read_sheet(v, sizeof v);
+    automaton[0] = 40;
+    row(11, JAXHOPHASI_BAD_AUTOMATON, jaxhophasi_buffers_count(automaton, number));
+    read_sheet(v, sizeof v);
+    row(12, JAXHOPHASI_SHORT_TABLE, jaxhophasi_solve(automaton, table, 3, number));
+    jaxhophasi_solve(automaton, table, 4, number);
+    set_configuration((const uint8_t[]){ 3, 0, 0, 0, 0, 0, 0, 0 });
+    row(13, JAXHOPHASI_BAD_CONFIGURATION, jaxhophasi_winning(automaton, table, 4, configuration, answer));
+    jaxhophasi_initial(automaton, configuration);
+    row(14, JAXHOPHASI_BAD_EVENT, jaxhophasi_receive(automaton, table, 4, configuration, 2, answer));
+    row(16, JAXHOPHASI_SHORT_OUTPUT, jaxhophasi_run(automaton, table, 4, configuration, queries, 2, out, 1, answer));
+    solve_w();
+    event(2);
+    event(2);
+    row(15, JAXHOPHASI_BUFFER_FULL, event(2));
+    READ(5, 1, 1, 0, 0, 1, 1, 1, 1, 1, 0, 0, 0, 0, 0);
+    jaxhophasi_initial(automaton, configuration);
+    row(17, JAXHOPHASI_TOO_LARGE, jaxhophasi_judge(automaton, configuration, answer));
+}
+
+int main(void)
+{
+    table = malloc(sizeof *table * 600000);
+    if (!table) {
+        puts("tests/header.c: no memory");
+        return 1;
+    }
+    check_automaton();
+    check_numbers();
+    check_table();
+    check_configuration();
+    check_received();
+    check_ran();
+    check_status_and_verdict();
+    check_rows_of_reading();
+    check_rows_of_calls();
+    free(table);
+    return different;
+}
