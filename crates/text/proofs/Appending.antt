@@ -1,11 +1,10 @@
 -- Laws of storing one text behind the other.
-use Prim.Native.Nat.{ℕ, suc, _+_, _<_, _≤_}
-use mathlib.Core.Path.{_≡_, refl, sym, _∙_, ap}
+use Prim.Native.Nat.{ℕ, _+_, _<_, _≤_}
+use mathlib.Core.Path.{_≡_, refl, _∙_, ap}
 use mathlib.Core.List.{List, [], _∷_, _++_}
-use native.Mathlib.Numerals.{add-one}
 use native.Mathlib.Omega.{arith}
-use lib.ListN.{length, set, take, length-append}
-use lib.Seq.{sets, length-sets}
+use lib.ListN.{length, set, length-append}
+use lib.Seq.{length-sets}
 use Rattle.base.proofs.Stores.{sets-join}
 use Rattle.text.specs.Decimal.{Appended}
 

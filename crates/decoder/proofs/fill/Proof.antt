@@ -1,3 +1,4 @@
+-- Items of the sheet, one after the other.
 use mathlib.Core.List.{[]}
 use mathlib.Core.Path.{_∙_}
 use Prim.Native.Nat.{_-_}
@@ -26,7 +27,11 @@ same-length : tie.Need-same-length Inv-loop μ-loop
 same-length c = search needs
 
 returns : tie.Need-returns Inv-loop μ-loop
-returns c = let p = filling-refused (c .before .before .before .before .before .loop .inv) (omega arith) _ (c .before .before .before .number .ensures) (c .before .before .before .before .loop-test .taken) (c .before .if1 .taken) in (c .fault .ensures ∙ p .0, p .1)
+returns c =
+    let n = c .before .before .before in
+    let p = filling-refused (n .before .before .loop .inv) (omega arith) _ (n .number .ensures) (n .before .loop-test .taken)
+    (c .before .if1 .taken) in
+    (c .fault .ensures ∙ p .0, p .1)
 
 one-more-requires : tie.Need-one-more-requires Inv-loop μ-loop
 one-more-requires c κs = search needs
@@ -38,10 +43,17 @@ same-length-2 : tie.Need-same-length-2 Inv-loop μ-loop
 same-length-2 c = search needs
 
 returns-2 : tie.Need-returns-2 Inv-loop μ-loop
-returns-2 c = let p = filling-many (c .before .before .before .before .before .before .before .loop .inv) (omega arith) _ (c .before .before .before .before .before .number .ensures) (c .before .before .before .before .before .before .loop-test .taken) (c .before .before .before .if1 .left) (rw (c .before .before .one-more .ensures) at (c .before .if2 .taken)) in (c .fault2 .ensures ∙ p .0, p .1)
+returns-2 c =
+    let o = c .before .before in
+    let n = o .before .before .before in
+    let p = filling-many (n .before .before .loop .inv) (omega arith) _ (n .number .ensures) (n .before .loop-test .taken)
+    (o .before .if1 .left) (rw (o .one-more .ensures) at (c .before .if2 .taken)) in
+    (c .fault2 .ensures ∙ p .0, p .1)
 
 cast-out : tie.Need-cast-out Inv-loop μ-loop
-cast-out c = omega (arith, item-below _ _ 0 [] _ _ _ (omega arith) (c .before .before .before .before .before .number .ensures) (c .before .before .before .if1 .left))
+cast-out c =
+    let e = c .before .before .before in
+    omega (arith, item-below _ _ 0 [] _ _ _ (omega arith) (e .before .before .number .ensures) (e .if1 .left))
 
 add-out : tie.Need-add-out Inv-loop μ-loop
 add-out c = search needs
@@ -56,7 +68,12 @@ loop-less : tie.Need-loop-less Inv-loop μ-loop
 loop-less c = search needs
 
 loop-again : tie.Need-loop-again Inv-loop μ-loop
-loop-again c = rw (c .before .before .one-more .ensures) (filling-goes-on (c .before .before .before .before .before .before .before .loop .inv) (omega arith) _ (c .before .before .before .before .before .number .ensures) (c .before .before .before .before .before .before .loop-test .taken) (c .before .before .before .if1 .left) (rw (c .before .before .one-more .ensures) at (c .before .if2 .left)))
+loop-again c =
+    let o = c .before .before in
+    let n = o .before .before .before in
+    rw (o .one-more .ensures)
+    (filling-goes-on (n .before .before .loop .inv) (omega arith) _ (n .number .ensures) (n .before .loop-test .taken)
+    (o .before .if1 .left) (rw (o .one-more .ensures) at (c .before .if2 .left)))
 
 same-length-3 : tie.Need-same-length-3 Inv-loop μ-loop
 same-length-3 c = search needs

@@ -1,3 +1,4 @@
+-- Each phase's line.
 use Rattle.transcript.proofs.Phases.{refusal-some, fault-some}
 use Rattle.transcript.proofs.Continuing.{line-none, line-last, line-as}
 use Rattle.transcript.specs.Pieces.{inPhase, toCome}
@@ -5,6 +6,11 @@ use mathlib.Core.Path.{ap}
 use borrow.Author.Needs.{needs}
 use Rattle.next_line.proofs.line.Statement.{statement}
 use Rattle.next_line.proofs.line.Tie as tie
+
+-- The places that later needs look back to.
+
+abbrev start : tie.After-run → tie.Start
+start c = c .before .before .before .before
 
 enum-told : tie.Need-enum-told
 enum-told c = search needs
@@ -44,35 +50,59 @@ running-line-requires c κs = search needs
 
 returns : tie.Need-returns
 unfolding toCome inPhase
-returns c = let a = c .before .before .before .before .before .before .before .args in rw (c .piece .ensures .0, c .piece .ensures .1) (line-none (a .progress .run) _ _ (search needs) (ap (inPhase (a .table .now) (a .input .now) (a .progress .run)) (c .before .enum-told .given .1)))
+returns c =
+    let a = start (c .before .before .before) .args in
+    rw (c .piece .ensures .0, c .piece .ensures .1)
+    (line-none (a .progress .run) _ _ (search needs)
+    (ap (inPhase (a .table .now) (a .input .now) (a .progress .run)) (c .before .enum-told .given .1)))
 
 same-length : tie.Need-same-length
 same-length c = search needs
 
 returns-2 : tie.Need-returns-2
 unfolding toCome inPhase
-returns-2 c = let a = c .before .before .before .before .before .before .before .before .before .before .before .before .args in rw (c .piece2 .ensures .0, c .piece2 .ensures .1) (line-last (a .progress .run) (refusal-some _) (c .before .before .before .refusal-line .ensures) (ap (inPhase (a .table .now) (a .input .now) (a .progress .run)) (c .before .before .before .before .before .before .phase .given .1)))
+returns-2 c =
+    let r = c .before .before .before in
+    let p = r .before .before .before in
+    let a = start (p .before .before) .args in
+    rw (c .piece2 .ensures .0, c .piece2 .ensures .1)
+    (line-last (a .progress .run) (refusal-some _) (r .refusal-line .ensures)
+    (ap (inPhase (a .table .now) (a .input .now) (a .progress .run)) (p .phase .given .1)))
 
 same-length-2 : tie.Need-same-length-2
 same-length-2 c = search needs
 
 returns-3 : tie.Need-returns-3
 unfolding toCome inPhase
-returns-3 c = let a = c .before .before .before .before .before .before .before .before .before .before .before .before .args in rw (c .piece3 .ensures .0, c .piece3 .ensures .1) (line-last (a .progress .run) (fault-some _ _) (c .before .before .before .fault-line .ensures) (ap (inPhase (a .table .now) (a .input .now) (a .progress .run)) (c .before .before .before .before .before .before .phase2 .given .1)))
+returns-3 c =
+    let f = c .before .before .before in
+    let p = f .before .before .before in
+    let a = start (p .before .before) .args in
+    rw (c .piece3 .ensures .0, c .piece3 .ensures .1)
+    (line-last (a .progress .run) (fault-some _ _) (f .fault-line .ensures)
+    (ap (inPhase (a .table .now) (a .input .now) (a .progress .run)) (p .phase2 .given .1)))
 
 same-length-3 : tie.Need-same-length-3
 same-length-3 c = search needs
 
 returns-4 : tie.Need-returns-4
 unfolding toCome
-returns-4 c = let a = c .before .before .before .before .before .before .before .before .before .before .args in line-as (ap (inPhase (a .table .now) (a .input .now) (a .progress .run)) (c .before .before .before .before .enum-told2 .given .1)) (c .before .before .opening-line .ensures)
+returns-4 c =
+    let o = c .before .before in
+    let e = o .before .before in
+    let a = start (e .before .before) .args in
+    line-as (ap (inPhase (a .table .now) (a .input .now) (a .progress .run)) (e .enum-told2 .given .1)) (o .opening-line .ensures)
 
 same-length-4 : tie.Need-same-length-4
 same-length-4 c = search needs
 
 returns-5 : tie.Need-returns-5
 unfolding toCome
-returns-5 c = let a = c .before .before .before .before .before .before .before .before .before .before .args in line-as (ap (inPhase (a .table .now) (a .input .now) (a .progress .run)) (c .before .before .before .before .enum-told3 .given .1)) (c .before .before .running-line .ensures)
+returns-5 c =
+    let r = c .before .before in
+    let e = r .before .before in
+    let a = start (e .before .before) .args in
+    line-as (ap (inPhase (a .table .now) (a .input .now) (a .progress .run)) (e .enum-told3 .given .1)) (r .running-line .ensures)
 
 pub line-spec : {M : Type 1} → statement M
 line-spec =

@@ -1,3 +1,4 @@
+-- A run's first line.
 use Rattle.transcript.proofs.Phases.{opening-none, opening-comes, first-some}
 use Rattle.transcript.proofs.Continuing.{line-none, line-goes-on}
 use mathlib.Core.Path.{sym, _∙_}
@@ -6,6 +7,11 @@ use borrow.Author.Needs.{needs}
 use Rattle.next_line.proofs.opening_line.Statement.{statement}
 use Rattle.next_line.proofs.opening_line.Tie as tie
 
+-- The places that later needs look back to.
+
+abbrev start : tie.After-belongs → tie.Start
+start c = c .before .before .before .before
+
 belongs-requires : tie.Need-belongs-requires
 belongs-requires c κs = search needs
 
@@ -13,7 +19,12 @@ piece-requires : tie.Need-piece-requires
 piece-requires c κs = search needs
 
 returns : tie.Need-returns
-returns c = let a = c .before .before .before .before .before .before .args in rw (c .piece .ensures .0, c .piece .ensures .1) (line-none (a .run) _ _ (search needs) (opening-none _ _ (a .run) (sym (c .before .before .belongs .ensures) ∙ not-true _ (c .before .if1 .taken))))
+returns c =
+    let b = c .before .before in
+    let a = start b .args in
+    rw (c .piece .ensures .0, c .piece .ensures .1)
+    (line-none (a .run) _ _ (search needs)
+    (opening-none _ _ (a .run) (sym (b .belongs .ensures) ∙ not-true _ (c .before .if1 .taken))))
 
 first-line-requires : tie.Need-first-line-requires
 first-line-requires c κs = search needs
@@ -25,7 +36,14 @@ same-length : tie.Need-same-length
 same-length c = search needs
 
 returns-2 : tie.Need-returns-2
-returns-2 c = let a = c .before .before .before .before .before .before .before .before .before .before .args in rw (c .piece2 .ensures .0, c .piece2 .ensures .1) (line-goes-on (a .run) (first-some _ (a .run)) (c .before .before .before .first-line .ensures) (opening-comes _ _ (a .run) (sym (c .before .before .before .before .before .before .belongs .ensures) ∙ not-false _ (c .before .before .before .before .before .if1 .left))))
+returns-2 c =
+    let w = c .before .before .before in
+    let e = w .before .before in
+    let b = e .before in
+    let a = start b .args in
+    rw (c .piece2 .ensures .0, c .piece2 .ensures .1)
+    (line-goes-on (a .run) (first-some _ (a .run)) (w .first-line .ensures)
+    (opening-comes _ _ (a .run) (sym (b .belongs .ensures) ∙ not-false _ (e .if1 .left))))
 
 pub opening-line-spec : {M : Type 1} → statement M
 opening-line-spec =

@@ -1,9 +1,16 @@
+-- What comes after a sheet.
 use Rattle.transcript.proofs.Beginning.{open-refused, open-solved}
 use lib.ListN.{length}
 use mathlib.Core.Path.{_≡_, _∙_}
 use borrow.Author.Needs.{needs}
 use Rattle.opening.proofs.opened.Statement.{statement}
 use Rattle.opening.proofs.opened.Tie as tie
+
+abbrev start : tie.After-solve → tie.Start
+start c = c .before .before
+
+long : (c : tie.After-solve) → length (start c .args .table .now) ≡ 16384
+long c = search needs
 
 solve-requires : tie.Need-solve-requires
 solve-requires c κs = search needs
@@ -12,13 +19,29 @@ without-requires : tie.Need-without-requires
 without-requires c κs = search needs
 
 returns : tie.Need-returns
-returns c = let a = c .before .before .before .before .before .args in let long : length (a .table .now) ≡ 16384 = search needs in ((c .without .ensures ∙ open-refused (a .a) (c .before .before .before .before .before .pre) (a .table .now) long (a .place) _ (c .before .before .before .solve .ensures .0) (c .before .if1 .taken), c .before .before .before .solve .ensures .1), long)
+returns c =
+    let s = c .before .before .before in
+    let b = start s in
+    let a = b .args in
+    let o = open-refused (a .a) (b .pre) (a .table .now) (long s) (a .place) _ (s .solve .ensures .0) (c .before .if1 .taken) in
+    ((c .without .ensures ∙ o, s .solve .ensures .1), long s)
 
 initial-requires : tie.Need-initial-requires
 initial-requires c κs = search needs
 
 returns-2 : tie.Need-returns-2
-returns-2 c = let a = c .before .before .before .before .before .before .args in let long : length (a .table .now) ≡ 16384 = search needs in ((open-solved (a .a) (c .before .before .before .before .before .before .pre) (a .table .now) long (a .place) _ (c .before .before .before .before .solve .ensures .0) (c .before .before .if1 .left) _ (c .before .initial .ensures), c .before .before .before .before .solve .ensures .1), long)
+returns-2 c =
+    let e = c .before .before in
+    let s = e .before .before in
+    let b = start s in
+    let a = b .args in (
+      (
+        open-solved (a .a) (b .pre) (a .table .now) (long s) (a .place) _ (s .solve .ensures .0) (e .if1 .left) _
+            (c .before .initial .ensures),
+        s .solve .ensures .1,
+      ),
+      long s,
+    )
 
 pub opened-spec : {M : Type 1} → statement M
 opened-spec =

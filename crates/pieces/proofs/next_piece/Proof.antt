@@ -1,3 +1,4 @@
+-- As many lines as have room.
 use Rattle.transcript.proofs.Continuing.{begins, kept-length, within, moves, again, stays, nothing}
 use Rattle.transcript.specs.Pieces.{Continued}
 use lib.ListN.{length}
@@ -12,6 +13,11 @@ Inv-loop input table out₀ rest₀ at₀ out rest at = Continued table input re
 abbrev μ-loop : tie.MeasureT-loop
 μ-loop input table out₀ rest₀ at₀ out rest at = length out₀ - at
 
+-- The places that later needs look back to.
+
+abbrev round : tie.After-line Inv-loop μ-loop → tie.At-loop Inv-loop μ-loop
+round c = c .before .before .before
+
 loop-holds : tie.Need-loop-holds Inv-loop μ-loop
 loop-holds c = begins _ _ _ _
 
@@ -22,10 +28,15 @@ line-requires : tie.Need-line-requires Inv-loop μ-loop
 line-requires c κs = omega (arith, within (c .before .before .loop .inv))
 
 loop-less : tie.Need-loop-less Inv-loop μ-loop
-loop-less c = omega (arith, moves (c .before .before .before .before .before .before .before .before .loop .inv) (c .before .before .before .before .before .line .ensures), c .before .before .before .before .before .line .ensures .continued .stored .inside, kept-length (c .before .before .before .before .before .before .before .before .loop .inv))
+loop-less c =
+    let l = c .before .before .before .before .before in
+    let p = round l in
+    omega (arith, moves (p .loop .inv) (l .line .ensures), l .line .ensures .continued .stored .inside, kept-length (p .loop .inv))
 
 loop-again : tie.Need-loop-again Inv-loop μ-loop
-loop-again c = again (c .before .before .before .before .before .before .before .before .loop .inv) (c .before .before .before .before .before .line .ensures)
+loop-again c =
+    let l = c .before .before .before .before .before in
+    again (round l .loop .inv) (l .line .ensures)
 
 same-length : tie.Need-same-length Inv-loop μ-loop
 same-length c = kept-length (c .before .loop .inv)
@@ -34,10 +45,17 @@ returns : tie.Need-returns Inv-loop μ-loop
 returns c = (c .before .loop .inv, λ room z. absurd (omega (arith, kept-length (c .before .loop .inv))))
 
 same-length-2 : tie.Need-same-length-2 Inv-loop μ-loop
-same-length-2 c = kept-length (stays (c .before .before .before .before .before .before .before .loop .inv) (c .before .before .before .before .line .ensures) (c .if1 .taken))
+same-length-2 c =
+    let l = c .before .before .before .before in
+    kept-length (stays (round l .loop .inv) (l .line .ensures) (c .if1 .taken))
 
 returns-2 : tie.Need-returns-2 Inv-loop μ-loop
-returns-2 c = (stays (c .before .before .before .before .before .before .before .loop .inv) (c .before .before .before .before .line .ensures) (c .if1 .taken), λ room z. nothing (c .before .before .before .before .before .before .before .loop .inv) (c .before .before .before .before .line .ensures .ended (c .if1 .taken)) z)
+returns-2 c =
+    let l = c .before .before .before .before in
+    let p = round l in (
+      stays (p .loop .inv) (l .line .ensures) (c .if1 .taken),
+      λ room z. nothing (p .loop .inv) (l .line .ensures .ended (c .if1 .taken)) z,
+    )
 
 pub next-piece-spec : {M : Type 1} → statement M
 next-piece-spec =

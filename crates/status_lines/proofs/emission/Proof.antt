@@ -1,3 +1,4 @@
+-- What is emitted, and `-` for nothing.
 use Rattle.status_lines.proofs.Spacing.{emission-none, emission-some}
 use Rattle.text.proofs.Appending.{said}
 use Rattle.text.specs.Decimal.{ascii}
@@ -21,7 +22,12 @@ same-length c = search needs
 
 returns : tie.Need-returns
 unfolding ascii
-returns c = (said (sym (emission-none (c .before .before .before .before .before .before .before .args .list) _ (c .before .before .before .before .before .if1 .taken))) (c .before .before .word .ensures), omega (arith, c .before .before .word .ensures .place))
+returns c =
+    let w = c .before .before in
+    let t = w .before .before .before in (
+      said (sym (emission-none (t .before .before .args .list) _ (t .if1 .taken))) (w .word .ensures),
+      omega (arith, w .word .ensures .place),
+    )
 
 spaced-requires : tie.Need-spaced-requires
 spaced-requires c κs = omega arith
@@ -30,7 +36,14 @@ same-length-2 : tie.Need-same-length-2
 same-length-2 c = search needs
 
 returns-2 : tie.Need-returns-2
-returns-2 c = let long : c .before .before .before .before .before .before .args .count ≤ length (c .before .before .before .before .before .before .args .list) = search needs in (said (sym (emission-some (c .before .before .before .before .before .before .args .list) _ (c .before .before .before .before .if1 .left) long)) (c .before .before .spaced .ensures .0), omega (arith, c .before .before .spaced .ensures .1))
+returns-2 c =
+    let p = c .before .before in
+    let e = p .before .before in
+    let a = e .before .before .args in
+    let long : a .count ≤ length (a .list) = search needs in (
+      said (sym (emission-some (a .list) _ (e .if1 .left) long)) (p .spaced .ensures .0),
+      omega (arith, p .spaced .ensures .1),
+    )
 
 pub emission-spec : {M : Type 1} → statement M
 emission-spec =

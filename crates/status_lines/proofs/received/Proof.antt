@@ -1,39 +1,47 @@
+-- The symbol received.
 use Rattle.text.proofs.Appending.{behind}
 use Rattle.text.proofs.Digits.{word-length}
-use Rattle.text.specs.Decimal.{ascii}
+use Rattle.text.specs.Decimal.{ascii, decimal}
+use Prim.Native.Nat.{_≤_}
+use lib.ListN.{length}
 use native.Mathlib.Omega.{arith}
 use borrow.Author.Needs.{needs}
 use Rattle.status_lines.proofs.received.Statement.{statement}
 use Rattle.status_lines.proofs.received.Tie as tie
-use Rattle.status_lines.proofs.received.Reads as reads
-use Rattle.status_lines.proofs.received.Lts as lts
-use Rattle.text.proofs.labelled.Reads as labelled-reads
-use Rattle.text.proofs.word.Reads as word-reads
 
--- src/lib.rt:70:34
+digits : (c : tie.Start) → length (decimal (c .args .event)) ≤ 20
+digits c = word-length (c .args .event) (omega (arith, c .fits .event))
+
+abbrev start : tie.After-labelled → tie.Start
+start c = c .before .before .before .before
+
 slice-aggregate-labelled : tie.Need-slice-aggregate-labelled
 slice-aggregate-labelled c = search needs
 
--- src/lib.rt:70:9
 labelled-requires : tie.Need-labelled-requires
-labelled-requires c κs = omega (arith, c .before .before .before .pre, word-length (c .before .before .before .args .event) (omega (arith, c .before .before .before .fits .event)))
+labelled-requires c κs =
+    let s = c .before .before .before in
+    omega (arith, s .pre, digits s)
 
--- src/lib.rt:71:21
 slice-aggregate-word : tie.Need-slice-aggregate-word
 slice-aggregate-word c = search needs
 
--- src/lib.rt:71:5
 word-requires : tie.Need-word-requires
-word-requires c κs = omega (arith, c .before .before .before .before .before .before .before .before .pre, c .before .before .before .before .labelled .ensures .place, c .before .before .before .before .labelled .kept .0, word-length (c .before .before .before .before .before .before .before .before .args .event) (omega (arith, c .before .before .before .before .before .before .before .before .fits .event)))
+word-requires c κs =
+    let l = c .before .before .before .before in
+    omega (arith, start l .pre, l .labelled .ensures .place, l .labelled .kept .0, digits (start l))
 
--- src/lib.rt:66:1
 same-length : tie.Need-same-length
 same-length c = search needs
 
--- src/lib.rt:66:1
 returns : tie.Need-returns
 unfolding ascii
-returns c = (behind (c .before .before .before .before .before .before .before .labelled .ensures) (c .before .before .word .ensures), omega (arith, c .before .before .word .ensures .place, c .before .before .before .before .before .before .before .labelled .ensures .place, word-length (c .before .before .before .before .before .before .before .before .before .before .before .args .event) (omega (arith, c .before .before .before .before .before .before .before .before .before .before .before .fits .event))))
+returns c =
+    let w = c .before .before in
+    let l = w .before .before .before .before .before in (
+      behind (l .labelled .ensures) (w .word .ensures),
+      omega (arith, w .word .ensures .place, l .labelled .ensures .place, digits (start l)),
+    )
 
 pub received-spec : {M : Type 1} → statement M
 received-spec =

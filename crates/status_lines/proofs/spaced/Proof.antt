@@ -1,3 +1,4 @@
+-- Symbols, each with a space before it.
 use Rattle.text.proofs.Appending.{kept}
 use mathlib.Core.Path.{refl}
 use lib.ListN.{length}
@@ -16,6 +17,9 @@ Inv-loop out₀ at count list place₀ i₀ t8 out place i = Spacing list out₀
 abbrev μ-loop : tie.MeasureT-loop
 μ-loop out₀ at count list place₀ i₀ t8 out place i = count - i
 
+long : (c : tie.Start Inv-loop μ-loop) → c .args .count ≤ length (c .args .t3)
+long c = search needs
+
 loop-holds : tie.Need-loop-holds Inv-loop μ-loop
 loop-holds c = spacing-begins _ _ _ _ (omega arith)
 
@@ -29,7 +33,10 @@ size-requires : tie.Need-size-requires Inv-loop μ-loop
 size-requires c κs = search needs
 
 labelled-requires : tie.Need-labelled-requires Inv-loop μ-loop
-labelled-requires c κs = omega (arith, c .before .before .before .before .loop .inv .near, kept (c .before .before .before .before .loop .inv .so-far), byte-length (c .size .result) (c .size .ensures .1), c .before .before .before .before .before .before .pre .1)
+labelled-requires c κs =
+    let l = c .before .before .before .before in
+    let g = l .loop .inv in
+    omega (arith, g .near, kept (g .so-far), byte-length (c .size .result) (c .size .ensures .1), l .before .before .pre .1)
 
 add-i : tie.Need-add-i Inv-loop μ-loop
 add-i c = search needs
@@ -38,7 +45,12 @@ loop-less : tie.Need-loop-less Inv-loop μ-loop
 loop-less c = search needs
 
 loop-again : tie.Need-loop-again Inv-loop μ-loop
-loop-again c = let long : c .before .before .before .before .before .before .before .before .before .args .count ≤ length (c .before .before .before .before .before .before .before .before .before .args .t3) = search needs in spacing-goes-on (c .before .before .before .before .before .before .before .loop .inv) (c .before .before .before .before .before .before .loop-test .taken) long (rw (c .before .before .before .size .ensures .0) at (c .before .before .before .size .ensures .1)) (rw (c .before .before .before .size .ensures .0) at (c .before .before .labelled .ensures))
+loop-again c =
+    let w = c .before .before in
+    let z = w .before in
+    let t = z .before .before .before in
+    spacing-goes-on (t .before .loop .inv) (t .loop-test .taken) (long (t .before .before .before))
+    (rw (z .size .ensures .0) at (z .size .ensures .1)) (rw (z .size .ensures .0) at (w .labelled .ensures))
 
 same-length : tie.Need-same-length Inv-loop μ-loop
 same-length c = kept (c .before .loop .inv .so-far)

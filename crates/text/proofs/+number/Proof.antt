@@ -46,12 +46,14 @@ number-same-length t c = search needs
 number-returns :
     (t : ℕ) → number-lts.Need-returns (number-below t, number.Post) (number-at t) number.Post
 unfolding digit
-number-returns t c = said (sym (decimal-one _ (c .if1 .taken))) (one-byte _ _ _ (omega (arith, decimal-some (c .before .before .args .n))))
+number-returns t c =
+    said (sym (decimal-one _ (c .if1 .taken))) (one-byte _ _ _ (omega (arith, decimal-some (c .before .before .args .n))))
 
 number-number-requires :
     (t : ℕ) →
     number-lts.Need-number-requires (number-below t, number.Post) (number-at t) number.Post
-number-number-requires t c κs = (omega arith, omega (arith, decimal-longer (c .before .before .before .args .n) (c .before .if1 .left)))
+number-number-requires t c κs =
+    (omega arith, omega (arith, decimal-longer (c .before .before .before .args .n) (c .before .if1 .left)))
 
 number-cast-out-2 :
     (t : ℕ) → number-lts.Need-cast-out-2 (number-below t, number.Post) (number-at t) number.Post
@@ -65,11 +67,17 @@ number-slice-write-out-2 : (t : ℕ) → number-lts.Need-slice-write-out-2 (
   number-below t,
   number.Post,
 ) (number-at t) number.Post
-number-slice-write-out-2 t c = omega (arith, decimal-longer (c .before .before .before .before .before .before .args .n) (c .before .before .before .before .if1 .left), c .before .before .number .ensures .place, c .before .before .number .kept .0)
+number-slice-write-out-2 t c =
+    let n = c .before .before in
+    let e = n .before .before in
+    omega (arith, decimal-longer (e .before .before .args .n) (e .if1 .left), n .number .ensures .place, n .number .kept .0)
 
 number-add-result-2 :
     (t : ℕ) → number-lts.Need-add-result-2 (number-below t, number.Post) (number-at t) number.Post
-number-add-result-2 t c = omega (arith, decimal-longer (c .before .before .before .before .before .before .args .n) (c .before .before .before .before .if1 .left), c .before .before .number .ensures .place, c .before .before .number .kept .0)
+number-add-result-2 t c =
+    let n = c .before .before in
+    let e = n .before .before in
+    omega (arith, decimal-longer (e .before .before .args .n) (e .if1 .left), n .number .ensures .place, n .number .kept .0)
 
 number-same-length-2 :
     (t : ℕ) →
@@ -79,7 +87,13 @@ number-same-length-2 t c = search needs
 number-returns-2 :
     (t : ℕ) → number-lts.Need-returns-2 (number-below t, number.Post) (number-at t) number.Post
 unfolding digit
-number-returns-2 t c = said (sym (decimal-more _ (c .before .before .before .before .if1 .left))) (behind (c .before .before .number .ensures) (one-byte _ _ _ (omega (arith, decimal-longer (c .before .before .before .before .before .before .args .n) (c .before .before .before .before .if1 .left), c .before .before .number .ensures .place, c .before .before .number .kept .0))))
+number-returns-2 t c =
+    let n = c .before .before in
+    let e = n .before .before in
+    said (sym (decimal-more _ (e .if1 .left)))
+    (behind (n .number .ensures)
+    (one-byte _ _ _
+    (omega (arith, decimal-longer (e .before .before .args .n) (e .if1 .left), n .number .ensures .place, n .number .kept .0))))
 
 pub +number-spec : {M : Type 1} → statement M
 +number-spec =
