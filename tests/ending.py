@@ -1,6 +1,7 @@
 """How a command ends: its status, and what it wrote on standard output and on standard error."""
 import collections
 import os
+import pathlib
 import subprocess
 import sys
 import time
@@ -29,6 +30,14 @@ def finished(process, given=None):
 
 def fail(name, text):
     sys.exit("tests/programs: {}: {}".format(name, text))
+
+
+def state(process):
+    """The letter that proc(5) has for a process: S it waits, T it is stopped; Z also where it is gone."""
+    try:
+        return pathlib.Path("/proc", str(process), "stat").read_text().rpartition(")")[2].split()[0]
+    except (FileNotFoundError, ProcessLookupError):
+        return "Z"
 
 
 def until(holds, what):

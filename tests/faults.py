@@ -5,7 +5,6 @@ A program has no status of its own: it says what failed on standard error, or a 
 import contextlib
 import fcntl
 import os
-import pathlib
 import signal
 import socket
 import struct
@@ -13,9 +12,9 @@ import subprocess
 import termios
 import time
 
-from ending import Ended, PATIENCE, compare, ended, fail, finished, until
+from ending import Ended, PATIENCE, compare, ended, fail, finished, state, until
 
-PIPE_ROOM = 65536  # of a Linux pipe
+PAGE = 4096  # a write of at most so many bytes to a pipe is made whole or not at all
 
 # What is wrong, the redirection that makes it, and what is said.
 REDIRECTIONS = [
@@ -70,14 +69,17 @@ def reader_leaves(program, given):
         return finished(process)
 
 
-def not_blocking_output(program, given, filled):
-    """A pipe that does not block and that nobody empties, with no room where it is filled first; also what came out."""
+def not_blocking_output(program, given, room):
+    """A pipe that does not block and that nobody empties, with so much room; also what came out of it."""
     with pipe() as (reading, writing):
         os.set_blocking(reading, False)
         os.set_blocking(writing, False)
-        front = fill(writing) if filled else 0
+        size = fcntl.fcntl(writing, fcntl.F_GETPIPE_SZ)
+        front = os.write(writing, bytes(size - min(room, size)))
         end = ended([program], given, stdout=writing)
-        return end, drain(reading)[front:]
+        with contextlib.suppress(BlockingIOError):
+            return end._replace(stdout=os.read(reading, 2 * size)[front:])
+        return end
 
 
 def slowly_read(program, given):
@@ -94,23 +96,6 @@ def slowly_read(program, given):
             out += part
             time.sleep(0.001)
         return finished(process)._replace(stdout=out)
-
-
-def fill(writing):
-    count = 0
-    for size in PIPE_ROOM, 1:
-        with contextlib.suppress(BlockingIOError):
-            while True:
-                count += os.write(writing, bytes(size))
-    return count
-
-
-def drain(reading):
-    out = b""
-    with contextlib.suppress(BlockingIOError):
-        while True:
-            out += os.read(reading, 1 << 20)
-    return out
 
 
 def not_blocking_input(program, given):
@@ -147,18 +132,21 @@ def interrupted_input(program, given):
 
 
 def interrupted_output(program, given):
-    """A write that a signal interrupts, on a socket that is full."""
+    """Writes that a signal interrupts, on a socket that is full: with none of the bytes gone, and with a part of them."""
     ours, theirs = socket.socketpair()
     with ours, theirs:
         limit(theirs, socket.SO_SNDTIMEO)
-        theirs.setsockopt(socket.SOL_SOCKET, socket.SO_SNDBUF, 8192)
+        theirs.setsockopt(socket.SOL_SOCKET, socket.SO_SNDBUF, 1)  # as small as it can be
         process = subprocess.Popen([program], stdin=subprocess.PIPE, stdout=theirs, stderr=subprocess.PIPE)
         theirs.close()
         process.stdin.write(given)
         process.stdin.close()
         process.stdin = None
         interrupt(process)
-        out = b"".join(iter(lambda: ours.recv(1 << 20), b""))
+        out = ours.recv(3000)  # makes room for half of what the program writes at once
+        interrupt(process)
+        interrupt(process)
+        out += b"".join(iter(lambda: ours.recv(1 << 20), b""))
         return finished(process)._replace(stdout=out)
 
 
@@ -170,17 +158,14 @@ def limit(end, option):
 def interrupt(process):
     asleep(process)
     process.send_signal(signal.SIGSTOP)
-    until(lambda: state(process) == "T", "the program stops")
+    until(lambda: state(process.pid) in "TZ", "the program is stopped")
     process.send_signal(signal.SIGCONT)
     asleep(process)
 
 
-def state(process):
-    return pathlib.Path("/proc", str(process.pid), "stat").read_text().rpartition(")")[2].split()[0]
-
-
 def asleep(process):
-    until(lambda: state(process) == "S", "the program waits")
+    """Waits until a program waits, or has ended."""
+    until(lambda: state(process.pid) in "SZ", "the program waits")
 
 
 def try_faults(program, given, whole):
@@ -194,16 +179,15 @@ def try_faults(program, given, whole):
     check("nobody reads", nobody_reads(program, given), status=-signal.SIGPIPE)
     check("the reader leaves", reader_leaves(program, given), status=-signal.SIGPIPE)
     check("nobody reads, and the signal is ignored", nobody_reads(program, given, "trap '' PIPE; "), stderr=says(program, "cannot write"))
-    for filled, most in (True, 0), (False, PIPE_ROOM):
-        got, out = not_blocking_output(program, given, filled)
-        check("an output that does not block", got._replace(stdout=out), whole[:len(out)], says(program, "cannot write"))
-        if len(out) > most or (not filled and not out):
-            fail(program.name, "{} bytes came out of a pipe that does not block".format(len(out)))
+    for room in 0, PAGE // 2, PAGE - 100, 2 * PAGE:
+        got = not_blocking_output(program, given, room)
+        front = whole[:min(len(got.stdout), room)]
+        check("a pipe that does not block, with room for {} bytes".format(room), got, front, says(program, "cannot write"))
     got = slowly_read(program, given)
-    out, cut = got.stdout, len(got.stdout) < len(whole)
-    check("a pipe that is emptied slowly", got, whole[:len(out)], says(program, "cannot write") if cut else b"")
+    front = whole[:len(got.stdout)]
+    check("a pipe that is emptied slowly", got, front, says(program, "cannot write") if front != whole else b"")
     check("an input that does not block", not_blocking_input(program, given), stderr=says(program, "cannot read"))
     check("an input that is reset", reset_input(program, given), stderr=says(program, "cannot read"))
     check("a read that is interrupted", interrupted_input(program, given), whole)
     check("a write that is interrupted", interrupted_output(program, given), whole)
-    return len(REDIRECTIONS) + 10
+    return len(REDIRECTIONS) + 12

@@ -15,7 +15,7 @@ import tempfile
 import time
 import tty
 
-from ending import Ended, PATIENCE, compare, ended, fail, finished, until
+from ending import Ended, PATIENCE, compare, ended, fail, finished, state, until
 
 CRATES = "base:  # not other\ntext: base\nother: base text\npack: text io\nday: text base libc\n"
 
@@ -426,14 +426,7 @@ def end_while(house, process, number, what, child=None):
     name = "signal {} while {}".format(number, what)
     until(lambda: process.poll() is not None, "./day ends after " + name)
     house.check(name, finished(process), 128 + number)
-    until(lambda: not (child and alive(child)), "process {} ends after ".format(child) + name)
-
-
-def alive(process):
-    try:
-        return pathlib.Path("/proc", str(process), "stat").read_text().rpartition(")")[2].split()[0] != "Z"
-    except (FileNotFoundError, ProcessLookupError):
-        return False
+    until(lambda: not child or state(child) == "Z", "process {} ends after ".format(child) + name)
 
 
 def try_script(root):
