@@ -31,7 +31,8 @@ use Rattle.marked_cases.proofs.Cases.{marked-cases}
 use Rattle.game.specs.Game.{tooLargeIn, gameRefusal}
 use Rattle.game.proofs.Worded.{as-worded}
 use Rattle.game.proofs.Agreement.{agrees, verdict-agrees}
-use Rattle.configuration.specs.Configuration.{heldEvents, controllableSymbol, placeStands, bufferStands, consistentIn, configuration, initialOf, initialAnswer}
+use Rattle.configuration.specs.Configuration.{heldEvents, controllableSymbol, placeStands, bufferStands, consistentIn, configuration, initialOf}
+use Rattle.configuration.specs.Configuration.{initialAnswer}
 use Rattle.releasing.specs.Step.{byTable, qualifies, qualifying, release, remaining, arrival, effect, eventRows, eventRefusal}
 use Rattle.answers.specs.Answers.{callRows, isWinning, callRefusal, status, receiveRefusal, received, room, runRefusal, ran}
 use Rattle.claims.specs.Calls.{handedBack, reply}
@@ -55,8 +56,8 @@ use Rattle.text.specs.Decimal.{ascii}
 use Rattle.notation.proofs.Laws.{never-longer, room-in-text, read-small, cases-read}
 use Rattle.listing.proofs.Trips.{line-reads-back, packs-shortest, line-bounded, packed-reads-back, cases-unpacked}
 use Rattle.transcript.proofs.Cases.{long-refused}
-use Rattle.instances.proofs.Statements.{filled, paddedV, bytesPadded, tableW, calls, second, eager, Encodings, Solving, Judging, Enforcing, textV, Texts}
-use Rattle.instances.proofs.Statements.{recordW, anyRecord, anyBytes, atZero, signed, longDay, later, guarded, Placed, Layouts}
+use Rattle.instances.proofs.Statements.{filled, paddedV, bytesPadded, tableW, calls, second, eager, Encodings, Solving, Judging, Enforcing, Layouts, textV, Texts}
+use Rattle.instances.proofs.Statements.{recordW, anyRecord, anyBytes, atZero, signed, longDay, later, guarded, Placed}
 
 valid-w : valid automatonW ≡ true
 valid-w = read-is-valid bytesW automatonW (marked-cases .1 .0)

@@ -30,12 +30,13 @@ use Rattle.claims.specs.Rival.{Lost, lostBound}
 use Rattle.claims.specs.Claims.{Enforced, Stays, rivalOutput, rivalBuffer}
 use Rattle.claims.specs.Answers.{SaysWinning, SameAnswers}
 use Rattle.marked_cases.specs.Cases.{bytesV, automatonV, automatonW}
-use Rattle.layout.specs.Offsets.{symbolsMost, automatonSize, automatonStates, automatonSymbols, automatonCapacity, automatonInitial}
-use Rattle.layout.specs.Offsets.{automatonClasses, automatonAccepting, automatonNext}
-use Rattle.layout.specs.Offsets.{configurationSize, configurationState, configurationHeld, configurationBuffer, numberSize, statusSize}
-use Rattle.layout.specs.Offsets.{receivedSize, receivedEmitted, receivedCount, receivedWinning}
+use Rattle.layout.specs.Offsets.{automatonSize, automatonStates, automatonSymbols, automatonCapacity, automatonInitial}
+use Rattle.layout.specs.Offsets.{automatonClasses, automatonAccepting, automatonNext, symbolsMost, emittedMost}
+use Rattle.layout.specs.Offsets.{configurationSize, configurationState, configurationHeld, configurationBuffer}
+use Rattle.layout.specs.Offsets.{numberSize, statusSize, receivedSize, receivedEmitted, receivedCount, receivedWinning}
 use Rattle.layout.specs.Offsets.{ranSize, ranLength, ranRefused, verdictSize, verdictMayRest, verdictCanRest}
-use Rattle.layout.specs.Layout.{byteAt, part, automatonBytes, automatonOf, configurationBytes, configurationOf, numberBytes, numberOf}
+use Rattle.layout.specs.Layout.{byteAt, part, automatonBytes, automatonOf, configurationBytes, configurationOf}
+use Rattle.layout.specs.Layout.{numberBytes, numberOf}
 use Rattle.layout.specs.Answers.{statusBytes, verdictBytes}
 use Rattle.layout.specs.Calls.{initialBytes, receivedLeft, ranLeft, receiveLeaves, runLeaves}
 use Rattle.byte_calls.specs.ByteCalls.{laid, leavesAll}
@@ -120,6 +121,16 @@ pub record Enforcing : Type 0 where
   pub once-winning-said : SaysWinning automatonW tableW (configurationAfter automatonW tableW (initialOf automatonW) calls)
   pub others-ignored : SameAnswers automatonW tableW (tableW ++ 9 ∷ []) (initialOf automatonW)
 
+-- bytes of any contents for a record and for a configuration, and a configuration's that are all 0
+abbrev pub anyRecord : List ℕ
+anyRecord = filled automatonSize 7
+
+abbrev pub anyBytes : List ℕ
+anyBytes = filled configurationSize 7
+
+abbrev pub atZero : List ℕ
+atZero = filled configurationSize 0
+
 -- W's record in bytes
 abbrev pub recordW : List ℕ
 recordW = automatonBytes automatonW
@@ -128,10 +139,10 @@ recordW = automatonBytes automatonW
 abbrev pub heldPage : List ℕ
 heldPage = configurationBytes (configuration 1 (2 ∷ []))
 
--- W's answer to Sign with Page and Receipt held; a day's, with 300 bytes of output and 2 events refused; the game's, where rest is
--- only to be reached; and a yes
+-- W's answer to Sign with Page and Receipt held; a day's, with 300 bytes of output and 2 events
+-- refused; the game's, where rest is only to be reached; and that a configuration is winning
 abbrev pub signed : Received
-signed = record { refusal = 0; configuration = configuration 1 []; emitted = pad 7 (0 ∷ 2 ∷ 3 ∷ []); count = 3; winning = true }
+signed = record { refusal = 0; configuration = configuration 1 []; emitted = pad emittedMost (0 ∷ 2 ∷ 3 ∷ []); count = 3; winning = true }
 
 abbrev pub longDay : Ran
 longDay = record { refusal = 0; configuration = configuration 1 []; length = 300; refused = 2 }
@@ -154,12 +165,12 @@ pub record Placed : Type 0 where
   pub accepting : byteAt recordW (automatonAccepting + 1) ≡ 1
   pub next : byteAt recordW (automatonNext + 2 * symbolsMost + 3) ≡ 1
   -- taken out of any bytes
-  pub automaton-out : byteAt (filled automatonSize 7) automatonCapacity ≡ automatonOf (filled automatonSize 7) .capacity
+  pub automaton-out : byteAt anyRecord automatonCapacity ≡ automatonOf anyRecord .capacity
   pub configuration-size : length heldPage ≡ configurationSize
   pub state : byteAt heldPage configurationState ≡ 1
   pub held : byteAt heldPage configurationHeld ≡ 1
   pub buffer : byteAt heldPage (configurationBuffer + 0) ≡ 2
-  pub configuration-out : byteAt (filled configurationSize 7) configurationHeld ≡ configurationOf (filled configurationSize 7) .held
+  pub configuration-out : byteAt anyBytes configurationHeld ≡ configurationOf anyBytes .held
   pub number-size : length (numberBytes numberSize 60001) ≡ numberSize
   pub number-low-first : byteAt (numberBytes numberSize 60001) (0 + 1) ≡ 234
   pub number-value : numberOf (part 0 numberSize (numberBytes numberSize 60001)) ≡ 60001
@@ -176,16 +187,6 @@ pub record Placed : Type 0 where
   pub verdict-size : length (verdictBytes later) ≡ verdictSize
   pub may-rest : byteAt (verdictBytes later) verdictMayRest ≡ 0
   pub can-rest : byteAt (verdictBytes later) verdictCanRest ≡ 1
-
--- bytes of any contents, and a configuration's that are all 0
-abbrev pub anyRecord : List ℕ
-anyRecord = filled automatonSize 7
-
-abbrev pub anyBytes : List ℕ
-anyBytes = filled configurationSize 7
-
-abbrev pub atZero : List ℕ
-atZero = filled configurationSize 0
 
 -- what lies where in lent bytes
 pub record Layouts : Type 0 where
