@@ -117,7 +117,7 @@ uint8_t jaxhophasi_buffers_count(const uint8_t automaton[JAXHOPHASI_AUTOMATON_SI
 uint8_t jaxhophasi_solve(const uint8_t automaton[JAXHOPHASI_AUTOMATON_SIZE], uint32_t *table, size_t table_length,
     uint8_t rounds[JAXHOPHASI_NUMBER_SIZE]);
 
-/* The fresh carried state, written into configuration. Row 11; refused, configuration stays as it was. */
+/* The fresh carried state, into configuration. Row 11; refused, configuration stays as it was. */
 uint8_t jaxhophasi_initial(const uint8_t automaton[JAXHOPHASI_AUTOMATON_SIZE], uint8_t configuration[JAXHOPHASI_CONFIGURATION_SIZE]);
 
 /* Whether a carried state is guarded. Rows 11, 12, 13. */

@@ -1,6 +1,7 @@
 /*
- * Every name that include/jaxhophasi.h defines, against what the calls answer. The sheets, the numbers and the bytes that are expected
- * stand here as document 01 and the layout have them; the answers are indexed by the header's names.
+ * Every name that include/jaxhophasi.h defines, against what the calls answer. The sheets, the numbers
+ * and the bytes that are expected stand here as document 01 has them; the answers are indexed by the
+ * header's names.
  */
 #include <stdio.h>
 #include <stdlib.h>
@@ -30,7 +31,8 @@ static void same_bytes(const char *what, const uint8_t *got, const uint8_t *expe
         same(what, got[i], expected[i]);
 }
 
-/* How many bytes a call writes at the front of what it is lent: it is made twice, over bytes that nowhere agree. CALL lends `lent`. */
+/* How many bytes a call writes at the front of what it is lent: it is made twice, over bytes that
+ * nowhere agree. CALL lends `lent`. */
 static uint8_t first[ROOM], second[ROOM], *lent;
 
 static unsigned long agreeing(void)
@@ -82,7 +84,8 @@ static void check_record(const char *what, const uint8_t *sheet, size_t length)
     same_bytes(what, record, automaton, 564);
 }
 
-/* A sheet with so many states and kinds, none controllable, every state acceptable and every next state the first one. */
+/* A sheet with so many states and kinds, none controllable, every state acceptable and every next
+ * state the first one. */
 static size_t plain_sheet(uint8_t *sheet, unsigned n, unsigned m)
 {
     size_t length = 4 + m + n + n * m;
@@ -193,7 +196,8 @@ static void check_received(void)
     same("guarded in state 2", answer[JAXHOPHASI_RECEIVED_WINNING], 0);
 }
 
-/* Page, Receipt, Sign, three Pages (the last is refused by 15), a kind that there is not, Withdraw. */
+/* Page, Receipt, Sign, three Pages (the last is refused by 15), a kind that W does not have,
+ * Withdraw. */
 static void check_ran(void)
 {
     static const uint32_t day[] = { 2, 3, 0, 2, 2, 2, 7, 1 };
@@ -206,7 +210,8 @@ static void check_ran(void)
     same_bytes("the day's output", out, put_out, 4);
 }
 
-/* With Receipt held W may not rest in state 2, and comes to rest in state 1; in state 0 it may rest; in state 3 neither. */
+/* With Receipt held W may not rest in state 2, and comes to rest in state 1; in state 0 it may rest;
+ * in state 3 neither. */
 static void check_status_and_verdict(void)
 {
     static const uint8_t states[] = { 2, 0, 3 }, may[] = { 0, 1, 0 }, can[] = { 1, 1, 0 };

@@ -29,7 +29,8 @@ module _ (record-bytes t : List ℕ) where
   by-value c (one e) = refl
   by-value c (many es out) = refl
 
-  long-after : (c : List ℕ) → length c ≡ configurationSize → (x : Call) → length (leaves record-bytes t c x .configuration) ≡ configurationSize
+  long-after : (c : List ℕ) → length c ≡ configurationSize → (x : Call)
+      → length (leaves record-bytes t c x .configuration) ≡ configurationSize
   unfolding leaves receiveLeaves runLeaves receivedLeft ranLeft
   long-after c h (one e) = size _ (event-places (automatonOf record-bytes) t (configurationOf c) e (six-places c h))
   long-after c h (many es out) = size _ (run-places (automatonOf record-bytes) t (configurationOf c) es out (six-places c h))
@@ -53,11 +54,13 @@ pub as-by-value : AsByValue
 as-by-value record-bytes t c h calls = all-by-value record-bytes t calls c h
 
 -- the record is accepted, and what stands then in the lent bytes takes as many
-accepted : (record-bytes : List ℕ) → valid (automatonOf record-bytes) ≡ true → initialAnswer (automatonOf record-bytes) .refusal ≡ 0
+accepted : (record-bytes : List ℕ) → valid (automatonOf record-bytes) ≡ true
+    → initialAnswer (automatonOf record-bytes) .refusal ≡ 0
 unfolding initialAnswer
 accepted record-bytes v = rw v
 
-begins-long : (record-bytes lent : List ℕ) → valid (automatonOf record-bytes) ≡ true → length (initialBytes record-bytes lent) ≡ configurationSize
+begins-long : (record-bytes lent : List ℕ) → valid (automatonOf record-bytes) ≡ true
+    → length (initialBytes record-bytes lent) ≡ configurationSize
 unfolding initialAnswer initialOf pad
 begins-long record-bytes lent v =
     ap length (initial-written record-bytes lent (accepted record-bytes v)) ∙

@@ -18,8 +18,8 @@ unfoldable pub laid : Reply → Left
 laid (receive x) = receivedLeft x
 laid (run x out) = ranLeft x out
 
--- what a call leaves over the lent record, table and configuration: by the definitions that the contracts of `jaxhophasi_receive`
--- and `jaxhophasi_run` cite
+-- what a call leaves over the lent record, table and configuration: by the definitions that the
+-- contracts of `jaxhophasi_receive` and `jaxhophasi_run` cite
 unfoldable pub leaves : List ℕ → List ℕ → List ℕ → Call → Left
 leaves record-bytes t c (one e) = receiveLeaves record-bytes t c e
 leaves record-bytes t c (many es out) = runLeaves record-bytes t c es out
@@ -36,11 +36,12 @@ AsByValue =
     (record-bytes t c : List ℕ) → length c ≡ configurationSize → (calls : List Call)
     → leavesAll record-bytes t c calls ≡ map laid (replies (automatonOf record-bytes) t (configurationOf c) calls)
 
--- .. so from what `jaxhophasi_initial` leaves in any lent bytes, over a record that row 11 lets pass and its solved table, it is what
--- demand 3 speaks of.
+-- .. so from what `jaxhophasi_initial` leaves in any lent bytes, over a record that row 11 lets pass
+-- and its solved table, it is what demand 3 speaks of.
 abbrev pub BytesEnforced : Type 0
 BytesEnforced =
-    (record-bytes t lent : List ℕ) → valid (automatonOf record-bytes) ≡ true → Solved (automatonOf record-bytes) t → (calls : List Call)
+    (record-bytes t lent : List ℕ) → valid (automatonOf record-bytes) ≡ true → Solved (automatonOf record-bytes) t
+    → (calls : List Call)
     → (leavesAll record-bytes t (initialBytes record-bytes lent) calls
     ≡ map laid (replies (automatonOf record-bytes) t (initialOf (automatonOf record-bytes)) calls))
     × Enforced (automatonOf record-bytes) t calls

@@ -38,7 +38,8 @@ pub extern "C" fn jaxhophasi_read(
     place: &mut [u8; NUMBER_SIZE],
 ) -> u8
     ensures { λ r. let x = parse (now (bytes .entry)) in
-        ⌜ (r ≡ x .refusal) × (now (automaton .exit) ≡ automatonBytes (x .automaton)) × (now (place .exit) ≡ numberBytes numberSize (x .place)) ⌝ }
+        ⌜ (r ≡ x .refusal) × (now (automaton .exit) ≡ automatonBytes (x .automaton))
+        × (now (place .exit) ≡ numberBytes numberSize (x .place)) ⌝ }
 {
     let parsed = decoder::read(bytes);
     let a = parsed.automaton;
@@ -55,7 +56,8 @@ pub extern "C" fn jaxhophasi_write(
     length: &mut [u8; NUMBER_SIZE],
 ) -> u8
     ensures { λ r. let a = automatonOf (now (automaton .entry)) in let x = writeAnswer a (now (out .entry)) in
-        ⌜ (r ≡ x .refusal) × (now (out .exit) ≡ writeBuffer a (now (out .entry))) × (now (length .exit) ≡ numberBytes numberSize (x .length)) ⌝ }
+        ⌜ (r ≡ x .refusal) × (now (out .exit) ≡ writeBuffer a (now (out .entry)))
+        × (now (length .exit) ≡ numberBytes numberSize (x .length)) ⌝ }
 {
     let written = encoder::write(automaton_of(automaton), out);
     *length = number_bytes(written.length);
@@ -84,7 +86,8 @@ pub extern "C" fn jaxhophasi_solve(
     rounds: &mut [u8; NUMBER_SIZE],
 ) -> u8
     ensures { λ r. let a = automatonOf (now (automaton .entry)) in let x = solution a (now (table .entry)) in
-        ⌜ (r ≡ x .refusal) × (now (table .exit) ≡ solvedTable a (now (table .entry))) × (now (rounds .exit) ≡ numberBytes numberSize (x .rounds)) ⌝ }
+        ⌜ (r ≡ x .refusal) × (now (table .exit) ≡ solvedTable a (now (table .entry)))
+        × (now (rounds .exit) ≡ numberBytes numberSize (x .rounds)) ⌝ }
 {
     let solution = solving::solve(automaton_of(automaton), table);
     *rounds = number_bytes(solution.rounds as usize);

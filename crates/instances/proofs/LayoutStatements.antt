@@ -17,7 +17,7 @@ use Rattle.marked_cases.specs.Cases.{automatonW}
 use Rattle.layout.specs.Offsets.{symbolsMost, automatonSize, automatonStates, automatonSymbols, automatonCapacity, automatonInitial}
 use Rattle.layout.specs.Offsets.{automatonClasses, automatonAccepting, automatonNext}
 use Rattle.layout.specs.Offsets.{configurationSize, configurationState, configurationHeld, configurationBuffer, numberSize, statusSize}
-use Rattle.layout.specs.Offsets.{receivedSize, receivedEmitted, receivedCount, receivedWinning}
+use Rattle.layout.specs.Offsets.{emittedMost, receivedSize, receivedEmitted, receivedCount, receivedWinning}
 use Rattle.layout.specs.Offsets.{ranSize, ranLength, ranRefused, verdictSize, verdictMayRest, verdictCanRest}
 use Rattle.layout.specs.Layout.{byteAt, part, automatonBytes, automatonOf, configurationBytes, configurationOf, numberBytes, numberOf}
 use Rattle.layout.specs.Answers.{statusBytes, verdictBytes}
@@ -36,7 +36,7 @@ heldPage = configurationBytes (configuration (at 1 (2 ∷ [])))
 -- W's answer to Sign with Page and Receipt held; a day's, with 300 bytes of output and 2 events refused; the game's, where rest is
 -- only to be reached; and a yes
 abbrev pub signed : Received
-signed = record { refusal = 0; configuration = configuration (at 1 []); emitted = pad 7 (0 ∷ 2 ∷ 3 ∷ []); count = 3; winning = true }
+signed = record { refusal = 0; configuration = configuration (at 1 []); emitted = pad emittedMost (0 ∷ 2 ∷ 3 ∷ []); count = 3; winning = true }
 
 abbrev pub longDay : Ran
 longDay = record { refusal = 0; configuration = configuration (at 1 []); length = 300; refused = 2 }

@@ -30,7 +30,8 @@ use Rattle.layout.proofs.Trips.{configuration-kept}
 -- a configuration that was taken out of bytes has six places
 pub six-places : (bytes : List ℕ) → length bytes ≡ configurationSize → length (configurationOf bytes .buffer) ≡ capacityMost
 unfolding configurationOf part
-six-places bytes long = length-take-le capacityMost (drop configurationBuffer bytes) (rw (length-drop configurationBuffer bytes) (omega arith))
+six-places bytes long =
+    length-take-le capacityMost (drop configurationBuffer bytes) (rw (length-drop configurationBuffer bytes) (omega arith))
 
 module _ (a : Automaton) (t : List ℕ) (c : Configuration) where
   -- the buffer of what is handed back
@@ -46,7 +47,8 @@ module _ (a : Automaton) (t : List ℕ) (c : Configuration) where
       rw h (configuration-consistent a (valid-facts a v) _ (o .state-below) (o .buffer) .buffer-length))
       (λ h. rw h long)
 
-  pub run-places : (events out : List ℕ) → length (c .buffer) ≡ capacityMost → length (ran a t c events out .configuration .buffer) ≡ capacityMost
+  pub run-places : (events out : List ℕ) → length (c .buffer) ≡ capacityMost
+      → length (ran a t c events out .configuration .buffer) ≡ capacityMost
   unfolding ran
   run-places events out long =
       by (eqb (runRefusal a t c events out) 0)

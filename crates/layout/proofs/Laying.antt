@@ -17,7 +17,8 @@ use Rattle.layout.specs.Offsets.{statesMost, symbolsMost, nextMost, capa
 use Rattle.layout.specs.Offsets.{automatonSize, automatonStates, automatonSymbols, automatonCapacity, automatonInitial}
 use Rattle.layout.specs.Offsets.{automatonClasses, automatonAccepting, automatonNext}
 use Rattle.layout.specs.Offsets.{configurationSize, configurationState, configurationHeld, configurationBuffer, numberSize}
-use Rattle.layout.specs.Offsets.{receivedSize, receivedEmitted, receivedCount, receivedWinning, ranSize, ranLength, ranRefused}
+use Rattle.layout.specs.Offsets.{receivedSize, receivedEmitted, receivedCount, receivedWinning}
+use Rattle.layout.specs.Offsets.{ranSize, ranLength, ranRefused}
 use Rattle.layout.specs.Answers.{receivedBytes, ranBytes}
 use Rattle.layout.specs.Layout.{byteAt, part, numberBytes, automatonOf, automatonBytes, configurationOf, configurationBytes}
 
@@ -159,7 +160,8 @@ module _ (bytes whole : List ℕ) (i w rest : ℕ) where
   unfolding numberBytes
   number-done l m so-far = let e : 0 ≡ w - i = omega arith in ap (λ k. sets bytes i (numberBytes k rest)) e ∙ so-far
 
-pub number-laid : (v : ℕ) (x : List ℕ) → x ≡ sets (replicate numberSize 0) 0 (numberBytes numberSize v) → x ≡ numberBytes numberSize v
+pub number-laid : (v : ℕ) (x : List ℕ) → x ≡ sets (replicate numberSize 0) 0 (numberBytes numberSize v)
+    → x ≡ numberBytes numberSize v
 number-laid v x h = h ∙ sets-whole (replicate numberSize 0) (numberBytes numberSize v) (sym (number-length numberSize v))
 
 -- a flag as a byte
@@ -175,7 +177,9 @@ received-laid r x e xs =
     let size = receivedSize in
     let tail : List ℕ = r .count ∷ cond (r .winning) 1 0 ∷ [] in
     let one : x ≡ pad size (r .emitted) =
-    xs ∙ ap (λ l. sets (replicate size 0) 0 l) (take-all emittedMost (r .emitted) (omega arith)) ∙ pad-stored size (r .emitted) (omega arith) in
+    xs ∙
+    ap (λ l. sets (replicate size 0) 0 l) (take-all emittedMost (r .emitted) (omega arith)) ∙
+    pad-stored size (r .emitted) (omega arith) in
     ap (λ b. set (set x receivedCount (r .count)) receivedWinning b) (flag-byte (r .winning)) ∙
     ap (λ l. sets l receivedCount tail) one ∙
     ap (λ i. sets (pad size (r .emitted)) i tail) (sym e) ∙

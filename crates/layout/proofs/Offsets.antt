@@ -1,23 +1,25 @@
 -- Proof of what stands at each offset.
-use Prim.Native.Nat.{ℕ, zero, suc, _+_, _*_, _/_, _%_, _^_, _≤_, _<_}
+use Prim.Native.Nat.{ℕ, zero, suc, _+_, _*_, _/_, _%_, _^_, _<_}
 use mathlib.Core.Path.{_≡_, refl, sym, _∙_, ap}
 use mathlib.Core.Bool.{Bool, true, cond}
 use mathlib.Core.List.{List, [], _∷_, _++_, append-nil}
 use native.Mathlib.Nat.{zero-add, div-one, div-div-eq-div-mul, mul-comm, pow-suc}
 use native.Mathlib.Omega.{arith}
 use lib.ListN.{length, getD, take, drop, length-append, List·getD-append}
-use lib.Seq.{getD-take, getD-drop, getD-append-add, getD-at, take-at, drop-at, take-all}
+use lib.Seq.{getD-take, getD-drop, getD-append-add, getD-at, take-at, drop-at}
 use Rattle.automaton.specs.declared.Automaton.{Automaton}
 use Rattle.automaton.specs.Automaton.{step, shaped}
 use Rattle.configuration.specs.declared.Configuration.{Configuration}
 use Rattle.answers.specs.declared.Received.{Received}
 use Rattle.answers.specs.declared.Ran.{Ran}
-use Rattle.layout.specs.Offsets.{symbolsMost, statesMost, nextMost, capacityMost, emittedMost, numberSize, automatonSize, configurationSize}
-use Rattle.layout.specs.Offsets.{automatonClasses, automatonAccepting, automatonNext, configurationBuffer, receivedCount, receivedWinning}
-use Rattle.layout.specs.Layout.{byteAt, part, automatonOf, automatonBytes, configurationOf, configurationBytes, numberOf, numberBytes}
+use Rattle.layout.specs.Offsets.{symbolsMost, statesMost, nextMost, capacityMost, emittedMost}
+use Rattle.layout.specs.Offsets.{automatonSize, automatonClasses, automatonAccepting, automatonNext}
+use Rattle.layout.specs.Offsets.{configurationSize, configurationBuffer, numberSize, receivedCount, receivedWinning}
+use Rattle.layout.specs.Layout.{byteAt, part, automatonOf, automatonBytes, configurationOf, configurationBytes}
+use Rattle.layout.specs.Layout.{numberOf, numberBytes}
 use Rattle.layout.specs.Answers.{statusBytes, receivedBytes, ranBytes, verdictBytes}
 use Rattle.layout.specs.Calls.{receivedLeft, ranLeft}
-use Rattle.layout.specs.Claims.{YesOrNo, NumberAt, AutomatonIn, ConfigurationIn, StatusIn, ReceivedIn, RanIn, VerdictIn, OffsetsHold}
+use Rattle.layout.specs.Claims.{YesOrNo, NumberAt, AutomatonIn, ConfigurationIn, ReceivedIn, RanIn, OffsetsHold}
 use Rattle.layout.proofs.Laying.{number-length}
 use Rattle.layout.proofs.Trips.{shaped-lengths, automaton-kept, configuration-kept, number-kept}
 
@@ -40,12 +42,14 @@ automaton-out bytes long =
       initial = refl;
       classes = λ e h. part-byte automatonClasses symbolsMost e bytes h;
       accepting = λ q h. part-byte automatonAccepting statesMost q bytes h;
-      next = λ q e h k. ap (byteAt bytes) (omega arith) ∙ part-byte automatonNext nextMost (q * symbolsMost + e) bytes (omega arith);
+      next = λ q e h k.
+          ap (byteAt bytes) (omega arith) ∙ part-byte automatonNext nextMost (q * symbolsMost + e) bytes (omega arith);
     }
 
 configuration-out : (bytes : List ℕ) → length bytes ≡ configurationSize → ConfigurationIn (configurationOf bytes) bytes
 unfolding configurationOf
-configuration-out bytes long = record { size = long; state = refl; held = refl; buffer = λ i h. part-byte configurationBuffer capacityMost i bytes h }
+configuration-out bytes long =
+    record { size = long; state = refl; held = refl; buffer = λ i h. part-byte configurationBuffer capacityMost i bytes h }
 
 -- a record's bytes, and a configuration's
 automaton-in : (a : Automaton) → shaped a ≡ true → AutomatonIn a (automatonBytes a)

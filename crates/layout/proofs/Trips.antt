@@ -4,7 +4,7 @@ use mathlib.Core.Path.{_≡_, refl, sym, _∙_, ap}
 use mathlib.Core.Bool.{true, _&&_}
 use mathlib.Core.List.{List, [], _∷_, _++_}
 use native.Mathlib.Omega.{arith}
-use lib.ListN.{length, replicate, take, drop, take-append-drop, length-drop}
+use lib.ListN.{length, take, drop, take-append-drop, length-drop}
 use lib.Seq.{take-at, drop-at, take-all, drop-drop}
 use lib.Dec.{eqb}
 use borrow.Author.Tests.{eqb-true, ne-eqb}
@@ -13,7 +13,8 @@ use Rattle.automaton.specs.declared.Automaton.{Automaton}
 use Rattle.automaton.specs.Automaton.{shaped}
 use Rattle.answers.specs.Answers.{received, receiveRefusal, ran, ranBuffer, runRefusal}
 use Rattle.configuration.specs.Configuration.{initialAnswer}
-use Rattle.layout.specs.Offsets.{statesMost, symbolsMost, nextMost, capacityMost, automatonClasses, automatonAccepting, automatonNext}
+use Rattle.layout.specs.Offsets.{statesMost, symbolsMost, nextMost, capacityMost}
+use Rattle.layout.specs.Offsets.{automatonClasses, automatonAccepting, automatonNext}
 use Rattle.layout.specs.Layout.{part, automatonOf, automatonBytes, configurationOf, configurationBytes, numberOf, numberBytes}
 use Rattle.layout.specs.Answers.{receivedBytes, ranBytes}
 use Rattle.layout.specs.Calls.{initialBytes, receivedLeft, ranLeft, receiveLeaves, runLeaves}
@@ -73,7 +74,8 @@ parts-joined : (l : List ℕ) → length l ≡ symbolsMost + statesMost + nextMo
 parts-joined l h =
     let behind = drop (symbolsMost + statesMost) l in
     let last : take nextMost behind ≡ drop statesMost (drop symbolsMost l) =
-    take-all nextMost behind (rw (length-drop (symbolsMost + statesMost) l) (omega arith)) ∙ sym (drop-drop statesMost symbolsMost l) in
+    take-all nextMost behind (rw (length-drop (symbolsMost + statesMost) l) (omega arith)) ∙
+    sym (drop-drop statesMost symbolsMost l) in
     ap (λ r. take symbolsMost l ++ (take statesMost (drop symbolsMost l) ++ r)) last ∙
     ap (λ r. take symbolsMost l ++ r) (take-append-drop statesMost (drop symbolsMost l)) ∙
     take-append-drop symbolsMost l

@@ -1,4 +1,5 @@
--- What is proved of the layout: what stands at each offset, and that nothing is lost on the way into bytes or out of them.
+-- What is proved of the layout: what stands at each offset, and that nothing is lost on the way into
+-- bytes or out of them.
 use Prim.Native.Nat.{ℕ, _+_, _*_, _/_, _%_, _<_, _^_}
 use mathlib.Core.Path.{_≡_}
 use mathlib.Core.Bool.{Bool, true, false}
@@ -19,11 +20,14 @@ use Rattle.layout.specs.Offsets.{automatonClasses, automatonAccepting, a
 use Rattle.layout.specs.Offsets.{configurationSize, configurationState, configurationHeld, configurationBuffer}
 use Rattle.layout.specs.Offsets.{numberSize, statusSize, receivedSize, receivedEmitted, receivedCount, receivedWinning}
 use Rattle.layout.specs.Offsets.{ranSize, ranLength, ranRefused, verdictSize, verdictMayRest, verdictCanRest}
-use Rattle.layout.specs.Layout.{byteAt, part, automatonOf, automatonBytes, configurationOf, configurationBytes, numberOf, numberBytes}
+use Rattle.layout.specs.Layout.{byteAt, part, automatonOf, automatonBytes, configurationOf, configurationBytes}
+use Rattle.layout.specs.Layout.{numberOf, numberBytes}
 use Rattle.layout.specs.Answers.{statusBytes, verdictBytes}
 use Rattle.layout.specs.Calls.{initialBytes, receivedLeft, ranLeft, receiveLeaves, runLeaves}
 
--- What stands at each offset, in the header's words. A yes-or-no is 1 or 0.
+-- What stands at each offset, in the header's words.
+
+-- a yes-or-no: 1 or 0
 abbrev pub YesOrNo : Bool → ℕ → Type 0
 YesOrNo b byte = (b ≡ true → byte ≡ 1) × (b ≡ false → byte ≡ 0)
 
@@ -68,7 +72,7 @@ pub record VerdictIn (v : Verdict) (bytes : List ℕ) : Type 0 where
   pub may-rest : YesOrNo (v .«may_rest») (byteAt bytes verdictMayRest)
   pub can-rest : YesOrNo (v .«can_rest») (byteAt bytes verdictCanRest)
 
--- (Arrays have the lengths that their types give.)
+-- so it is with what the calls lay and take out (arrays have the lengths that their types give)
 pub record OffsetsHold : Type 0 where
   pub automaton : (a : Automaton) → shaped a ≡ true → AutomatonIn a (automatonBytes a)
   pub automaton-out : (bytes : List ℕ) → length bytes ≡ automatonSize → AutomatonIn (automatonOf bytes) bytes
@@ -98,10 +102,12 @@ ConfigurationBytesKept = (bytes : List ℕ) → length bytes ≡ configurationSi
 abbrev pub NumberKept : Type 0
 NumberKept = (width v : ℕ) → v < 256 ^ width → numberOf (numberBytes width v) ≡ v
 
--- a refused call leaves the lent configuration as it was, and a day its output; of its answer every byte is 0
+-- a refused call leaves the lent configuration as it was, and a day its output; of its answer every
+-- byte is 0
 abbrev pub RefusedInitialKeeps : Type 0
 RefusedInitialKeeps =
-    (record-bytes lent : List ℕ) → (initialAnswer (automatonOf record-bytes) .refusal ≡ 0 → ⊥) → initialBytes record-bytes lent ≡ lent
+    (record-bytes lent : List ℕ) → (initialAnswer (automatonOf record-bytes) .refusal ≡ 0 → ⊥)
+    → initialBytes record-bytes lent ≡ lent
 
 abbrev pub RefusedEventKeeps : Type 0
 RefusedEventKeeps =

@@ -34,7 +34,8 @@ automatonOf bytes =
       next = part automatonNext nextMost bytes;
     }
 
--- the configuration (document 01's carried state): the state, how many are held, the places of the buffer
+-- the configuration (document 01's carried state): the state, how many are held, the places of the
+-- buffer
 unfoldable pub configurationBytes : Configuration → List ℕ
 configurationBytes c = (c .state ∷ c .held ∷ []) ++ c .buffer
 

@@ -1,6 +1,7 @@
 // How the record, the configuration, numbers and answers lie in the bytes that a caller from another language lends: the layout is
 // defined in specs/, and what holds of it is proved here. The crates `automaton_layout`, `configuration_layout` and `answer_layout`
-// lay values into bytes and take them out, with the sizes and offsets below; specs/Offsets.antt has the same numbers.
+// lay values into bytes and take them out, with the sizes and offsets below: the numbers of
+// specs/Offsets.antt.
 
 // How many places the arrays of a record, of a configuration and of an answer have.
 pub const STATES_MOST: usize = 32;

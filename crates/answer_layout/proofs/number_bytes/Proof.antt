@@ -1,4 +1,5 @@
 use Rattle.layout.proofs.Laying.{number-more, number-done, number-laid}
+use Rattle.layout.specs.Offsets.{numberSize}
 use Rattle.layout.specs.Layout.{numberBytes}
 use lib.Seq.{sets}
 use mathlib.Core.Path.{_≡_, refl}
@@ -9,10 +10,10 @@ use Rattle.answer_layout.proofs.number_bytes.Statement.{statement}
 use Rattle.answer_layout.proofs.number_bytes.Tie as tie
 
 abbrev Inv-loop : tie.InvT-loop
-Inv-loop value bytes₀ rest₀ i₀ bytes rest i = (i ≤ 8) × (sets bytes i (numberBytes (8 - i) rest) ≡ sets bytes₀ 0 (numberBytes 8 value))
+Inv-loop value bytes₀ rest₀ i₀ bytes rest i = (i ≤ numberSize) × (sets bytes i (numberBytes (numberSize - i) rest) ≡ sets bytes₀ 0 (numberBytes numberSize value))
 
 abbrev μ-loop : tie.MeasureT-loop
-μ-loop value bytes₀ rest₀ i₀ bytes rest i = 8 - i
+μ-loop value bytes₀ rest₀ i₀ bytes rest i = numberSize - i
 
 loop-holds : tie.Need-loop-holds Inv-loop μ-loop
 loop-holds c = (omega arith, refl)
@@ -30,10 +31,10 @@ loop-less : tie.Need-loop-less Inv-loop μ-loop
 loop-less c = search needs
 
 loop-again : tie.Need-loop-again Inv-loop μ-loop
-loop-again c = (omega arith, number-more _ _ _ 8 (c .before .loop .rest) (omega arith) (c .before .loop .inv .1))
+loop-again c = (omega arith, number-more _ _ _ numberSize (c .before .loop .rest) (omega arith) (c .before .loop .inv .1))
 
 returns : tie.Need-returns Inv-loop μ-loop
-returns c = number-laid _ _ (number-done _ _ _ 8 _ (omega arith) (omega arith) (c .before .loop .inv .1))
+returns c = number-laid _ _ (number-done _ _ _ numberSize _ (omega arith) (omega arith) (c .before .loop .inv .1))
 
 pub number-bytes-spec : {M : Type 1} → statement M
 number-bytes-spec =

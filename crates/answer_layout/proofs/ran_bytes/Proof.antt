@@ -28,7 +28,13 @@ copy-requires-2 : tie.Need-copy-requires-2
 copy-requires-2 c κs = search needs
 
 returns : tie.Need-returns
-returns c = ran-laid (c .before .before .before .before .before .before .before .before .before .before .args .r) _ _ _ _ (c .before .before .before .before .before .before .before .before .before .number-bytes .ensures) (c .before .before .before .before .before .before .before .before .number-bytes2 .ensures) (c .before .before .before .before .before .copy .ensures) (c .before .copy2 .ensures)
+returns c =
+    let second = c .before in
+    let first = second .before .before .before .before in
+    let refused = first .before .before .before in
+    let length = refused .before in
+    ran-laid (length .before .args .r) _ _ _ _ (length .number-bytes .ensures) (refused .number-bytes2 .ensures)
+    (first .copy .ensures) (second .copy2 .ensures)
 
 pub ran-bytes-spec : {M : Type 1} → statement M
 ran-bytes-spec =

@@ -1,4 +1,5 @@
 use Rattle.layout.proofs.Laying.{received-laid}
+use Rattle.layout.specs.Offsets.{emittedMost}
 use lib.ListN.{length}
 use mathlib.Core.Path.{_≡_}
 use borrow.Author.Needs.{needs}
@@ -21,7 +22,11 @@ array-write-bytes-2 : tie.Need-array-write-bytes-2
 array-write-bytes-2 c = search needs
 
 returns : tie.Need-returns
-returns c = let r = c .before .before .before .before .before .before .args .t1 in let k : length (r .emitted) ≡ 7 = search needs in received-laid r _ k (c .before .copy .ensures)
+returns c =
+    let copied = c .before in
+    let r = copied .before .before .before .before .before .args .t1 in
+    let k : length (r .emitted) ≡ emittedMost = search needs in
+    received-laid r _ k (copied .copy .ensures)
 
 pub received-bytes-spec : {M : Type 1} → statement M
 received-bytes-spec =

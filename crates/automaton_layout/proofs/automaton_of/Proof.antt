@@ -1,9 +1,21 @@
 use Rattle.layout.proofs.Laying.{automaton-made}
+use Rattle.layout.specs.Offsets.{automatonSize}
 use lib.ListN.{length}
 use mathlib.Core.Path.{_≡_}
 use borrow.Author.Needs.{needs}
 use Rattle.automaton_layout.proofs.automaton_of.Statement.{statement}
 use Rattle.automaton_layout.proofs.automaton_of.Tie as tie
+
+-- The places after each copy, and the entry.
+
+abbrev start : tie.After-copy → tie.Start
+start c = c .before .before .before
+
+abbrev first : tie.After-copy2 → tie.After-copy
+first c = c .before .before .before .before
+
+abbrev second : tie.After-copy3 → tie.After-copy2
+second c = c .before .before .before .before
 
 slice-aggregate-copy : tie.Need-slice-aggregate-copy
 slice-aggregate-copy c = search needs
@@ -36,7 +48,11 @@ element-copy-out-t29 : tie.Need-element-copy-out-t29
 element-copy-out-t29 c = search needs
 
 returns : tie.Need-returns
-returns c = let b = c .before .before .before .before .before .before .before .before .before .before .before .before .before .before .before .before .args .bytes .now in let long : length b ≡ 564 = search needs in automaton-made b _ _ _ long (c .before .before .before .before .before .before .before .before .before .before .before .before .before .copy .ensures) (c .before .before .before .before .before .before .before .before .before .copy2 .ensures) (c .before .before .before .before .before .copy3 .ensures)
+returns c =
+    let third = c .before .before .before .before .before in
+    let b = start (first (second third)) .args .bytes .now in
+    let long : length b ≡ automatonSize = search needs in
+    automaton-made b _ _ _ long (first (second third) .copy .ensures) (second third .copy2 .ensures) (third .copy3 .ensures)
 
 pub automaton-of-spec : {M : Type 1} → statement M
 automaton-of-spec =

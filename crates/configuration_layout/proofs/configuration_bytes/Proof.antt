@@ -1,4 +1,5 @@
 use Rattle.layout.proofs.Laying.{configuration-laid}
+use Rattle.layout.specs.Offsets.{capacityMost}
 use lib.ListN.{length}
 use mathlib.Core.Path.{_≡_}
 use borrow.Author.Needs.{needs}
@@ -18,7 +19,11 @@ copy-requires : tie.Need-copy-requires
 copy-requires c κs = search needs
 
 returns : tie.Need-returns
-returns c = let a = c .before .before .before .before .before .before .args .t1 in let k : length (a .buffer) ≡ 6 = search needs in configuration-laid a _ k (c .before .copy .ensures)
+returns c =
+    let copied = c .before in
+    let k = copied .before .before .before .before .before .args .t1 in
+    let six : length (k .buffer) ≡ capacityMost = search needs in
+    configuration-laid k _ six (copied .copy .ensures)
 
 pub configuration-bytes-spec : {M : Type 1} → statement M
 configuration-bytes-spec =

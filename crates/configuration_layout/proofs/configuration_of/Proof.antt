@@ -1,4 +1,5 @@
 use Rattle.layout.proofs.Laying.{configuration-made}
+use Rattle.layout.specs.Offsets.{configurationSize}
 use lib.ListN.{length}
 use mathlib.Core.Path.{_≡_}
 use borrow.Author.Needs.{needs}
@@ -18,7 +19,11 @@ element-copy-out-t13 : tie.Need-element-copy-out-t13
 element-copy-out-t13 c = search needs
 
 returns : tie.Need-returns
-returns c = let b = c .before .before .before .before .before .before .args .bytes .now in let long : length b ≡ 8 = search needs in configuration-made b _ long (c .before .before .before .copy .ensures)
+returns c =
+    let copied = c .before .before .before in
+    let b = copied .before .before .before .args .bytes .now in
+    let long : length b ≡ configurationSize = search needs in
+    configuration-made b _ long (copied .copy .ensures)
 
 pub configuration-of-spec : {M : Type 1} → statement M
 configuration-of-spec =

@@ -1,3 +1,4 @@
+use Rattle.layout.specs.Offsets.{numberSize}
 use Rattle.layout.specs.Layout.{numberBytes}
 use Rattle.winning.specs.Solving.{countAnswer}
 use mathlib.Core.Path.{_∙_, ap}
@@ -18,7 +19,10 @@ number-bytes-requires : tie.Need-number-bytes-requires
 number-bytes-requires c κs = search needs
 
 returns : tie.Need-returns
-returns c = let x = c .before .before .buffers-count .ensures ∙ ap countAnswer (c .before .before .before .automaton-of .ensures) in (ap (λ n. n .refusal) x, c .number-bytes .ensures ∙ ap (λ n. numberBytes 8 (n .count)) x)
+returns c =
+    let call = c .before .before in
+    let x = call .buffers-count .ensures ∙ ap countAnswer (call .before .automaton-of .ensures) in
+    (ap (λ n. n .refusal) x, c .number-bytes .ensures ∙ ap (λ n. numberBytes numberSize (n .count)) x)
 
 pub jaxhophasi-buffers-count-spec : {M : Type 1} → statement M
 jaxhophasi-buffers-count-spec =

@@ -10,7 +10,8 @@ use Rattle.embedding.proofs.jaxhophasi_initial.Tie as tie
 answered : (c : tie.After-initial) → c .initial .result ≡ initialAnswer (automatonOf (c .before .before .args .automaton .now))
 answered c = c .initial .ensures ∙ ap initialAnswer (c .before .automaton-of .ensures)
 
-refusal : (c : tie.After-initial) → c .initial .result .refusal ≡ initialAnswer (automatonOf (c .before .before .args .automaton .now)) .refusal
+refusal : (c : tie.After-initial)
+    → c .initial .result .refusal ≡ initialAnswer (automatonOf (c .before .before .args .automaton .now)) .refusal
 refusal c = ap (λ s. s .refusal) (answered c)
 
 automaton-of-requires : tie.Need-automaton-of-requires

@@ -19,7 +19,11 @@ verdict-bytes-requires : tie.Need-verdict-bytes-requires
 verdict-bytes-requires c κs = search needs
 
 returns : tie.Need-returns
-returns c = let x = over verdict (c .before .judge .ensures) (c .before .before .before .automaton-of .ensures) (c .before .before .configuration-of .ensures) in (ap (λ v. v .refusal) x, c .verdict-bytes .ensures ∙ ap verdictBytes x)
+returns c =
+    let call = c .before in
+    let a = call .before .before .automaton-of .ensures in
+    let x = over verdict (call .judge .ensures) a (call .before .configuration-of .ensures) in
+    (ap (λ v. v .refusal) x, c .verdict-bytes .ensures ∙ ap verdictBytes x)
 
 pub jaxhophasi-judge-spec : {M : Type 1} → statement M
 jaxhophasi-judge-spec =

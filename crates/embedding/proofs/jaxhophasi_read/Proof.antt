@@ -1,3 +1,4 @@
+use Rattle.layout.specs.Offsets.{numberSize}
 use Rattle.layout.specs.Layout.{automatonBytes, numberBytes}
 use mathlib.Core.Path.{_∙_, ap}
 use borrow.Author.Needs.{needs}
@@ -14,7 +15,13 @@ number-bytes-requires : tie.Need-number-bytes-requires
 number-bytes-requires c κs = search needs
 
 returns : tie.Need-returns
-returns c = let x = c .before .before .before .read .ensures in (ap (λ p. p .refusal) x, c .before .automaton-bytes .ensures ∙ ap (λ p. automatonBytes (p .automaton)) x, c .number-bytes .ensures ∙ ap (λ p. numberBytes 8 (p .place)) x)
+returns c =
+    let laid = c .before in
+    let x = laid .before .before .read .ensures in (
+      ap (λ p. p .refusal) x,
+      laid .automaton-bytes .ensures ∙ ap (λ p. automatonBytes (p .automaton)) x,
+      c .number-bytes .ensures ∙ ap (λ p. numberBytes numberSize (p .place)) x,
+    )
 
 pub jaxhophasi-read-spec : {M : Type 1} → statement M
 jaxhophasi-read-spec =

@@ -10,7 +10,8 @@ use Rattle.embedding.proofs.jaxhophasi_receive.Tie as tie
 
 -- what the call under it answers, over what the lent bytes say
 answered : (c : tie.After-receive) → let g = c .before .before .before .before .before .args in
-    c .receive .result ≡ received (automatonOf (g .automaton .now)) (g .table .now) (configurationOf (g .configuration .now)) (g .event)
+    c .receive .result
+    ≡ received (automatonOf (g .automaton .now)) (g .table .now) (configurationOf (g .configuration .now)) (g .event)
 answered c =
     let g = c .before .before .before .before .before .args in
     over

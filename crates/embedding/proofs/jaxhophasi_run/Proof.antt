@@ -13,8 +13,8 @@ start c = c .before .before .before .before .before .before .before .before
 
 -- what the call under it answers, over what the lent bytes say
 answered : (c : tie.After-run) → let g = start c .args in
-    c .run .result
-    ≡ ran (automatonOf (g .automaton .now)) (g .table .now) (configurationOf (g .configuration .now)) (g .events .now) (g .out .now)
+    let k = configurationOf (g .configuration .now) in
+    c .run .result ≡ ran (automatonOf (g .automaton .now)) (g .table .now) k (g .events .now) (g .out .now)
 answered c =
     let g = start c .args in
     over

@@ -1,3 +1,4 @@
+use Rattle.layout.specs.Offsets.{numberSize}
 use Rattle.layout.specs.Layout.{numberBytes}
 use Rattle.winning.specs.Solving.{solution, solvedTable}
 use mathlib.Core.Path.{_∙_, ap}
@@ -21,7 +22,15 @@ same-length : tie.Need-same-length
 same-length c = search needs
 
 returns : tie.Need-returns
-returns c = let t = c .before .before .before .before .before .before .before .before .args .table .now in let a = c .before .before .before .before .before .before .automaton-of .ensures in let x = c .before .before .before .before .solve .ensures .0 ∙ ap (λ k. solution k t) a in (ap (λ s. s .refusal) x, c .before .before .before .before .solve .ensures .1 ∙ ap (λ k. solvedTable k t) a, c .number-bytes .ensures ∙ ap (λ s. numberBytes 8 (s .rounds)) x)
+returns c =
+    let call = c .before .before .before .before in
+    let t = call .before .before .before .before .args .table .now in
+    let a = call .before .before .automaton-of .ensures in
+    let x = call .solve .ensures .0 ∙ ap (λ k. solution k t) a in (
+      ap (λ s. s .refusal) x,
+      call .solve .ensures .1 ∙ ap (λ k. solvedTable k t) a,
+      c .number-bytes .ensures ∙ ap (λ s. numberBytes numberSize (s .rounds)) x,
+    )
 
 pub jaxhophasi-solve-spec : {M : Type 1} → statement M
 jaxhophasi-solve-spec =

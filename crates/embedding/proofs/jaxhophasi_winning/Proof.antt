@@ -19,7 +19,12 @@ status-bytes-requires : tie.Need-status-bytes-requires
 status-bytes-requires c κs = search needs
 
 returns : tie.Need-returns
-returns c = let t = c .before .before .before .before .before .args .table .now in let x = over (λ a k. status a t k) (c .before .winning .ensures) (c .before .before .before .automaton-of .ensures) (c .before .before .configuration-of .ensures) in (ap (λ s. s .refusal) x, c .status-bytes .ensures ∙ ap statusBytes x)
+returns c =
+    let call = c .before in
+    let t = call .before .before .before .before .args .table .now in
+    let a = call .before .before .automaton-of .ensures in
+    let x = over (λ a k. status a t k) (call .winning .ensures) a (call .before .configuration-of .ensures) in
+    (ap (λ s. s .refusal) x, c .status-bytes .ensures ∙ ap statusBytes x)
 
 pub jaxhophasi-winning-spec : {M : Type 1} → statement M
 jaxhophasi-winning-spec =

@@ -1,3 +1,4 @@
+use Rattle.layout.specs.Offsets.{numberSize}
 use Rattle.layout.specs.Layout.{numberBytes}
 use Rattle.encoding.specs.Writing.{writeAnswer, writeBuffer}
 use mathlib.Core.Path.{_∙_, ap}
@@ -18,7 +19,15 @@ same-length : tie.Need-same-length
 same-length c = search needs
 
 returns : tie.Need-returns
-returns c = let out = c .before .before .before .before .before .before .before .args .out .now in let a = c .before .before .before .before .before .automaton-of .ensures in let x = c .before .before .before .write .ensures .0 ∙ ap (λ k. writeAnswer k out) a in (ap (λ w. w .refusal) x, c .before .before .before .write .ensures .1 ∙ ap (λ k. writeBuffer k out) a, c .number-bytes .ensures ∙ ap (λ w. numberBytes 8 (w .length)) x)
+returns c =
+    let call = c .before .before .before in
+    let out = call .before .before .before .before .args .out .now in
+    let a = call .before .before .automaton-of .ensures in
+    let x = call .write .ensures .0 ∙ ap (λ k. writeAnswer k out) a in (
+      ap (λ w. w .refusal) x,
+      call .write .ensures .1 ∙ ap (λ k. writeBuffer k out) a,
+      c .number-bytes .ensures ∙ ap (λ w. numberBytes numberSize (w .length)) x,
+    )
 
 pub jaxhophasi-write-spec : {M : Type 1} → statement M
 jaxhophasi-write-spec =
