@@ -1,9 +1,24 @@
+-- The record as bytes.
 use Rattle.layout.proofs.Laying.{automaton-laid}
 use lib.ListN.{length}
 use mathlib.Core.Path.{_≡_}
 use borrow.Author.Needs.{needs}
 use Rattle.automaton_layout.proofs.automaton_bytes.Statement.{statement}
 use Rattle.automaton_layout.proofs.automaton_bytes.Tie as tie
+
+-- The places that the last need looks back to.
+
+abbrev next : tie.After-bytes6 → tie.After-copy3
+next c = c .before
+
+abbrev accepting : tie.After-copy3 → tie.After-copy2
+accepting c = c .before .before .before .before .before .before
+
+abbrev classes : tie.After-copy2 → tie.After-copy
+classes c = c .before .before .before .before .before .before
+
+abbrev start : tie.After-copy → tie.Start
+start c = c .before .before .before .before .before
 
 array-write-bytes : tie.Need-array-write-bytes
 array-write-bytes c = search needs
@@ -36,7 +51,12 @@ copy-requires-3 : tie.Need-copy-requires-3
 copy-requires-3 c κs = search needs
 
 returns : tie.Need-returns
-returns c = let a = c .before .before .before .before .before .before .before .before .before .before .before .before .before .before .before .before .before .before .args .t1 in let k : length (a .classes) ≡ 16 = search needs in let f : length (a .accepting) ≡ 32 = search needs in let n : length (a .next) ≡ 512 = search needs in automaton-laid a _ _ _ k f n (c .before .before .before .before .before .before .before .before .before .before .before .before .before .copy .ensures) (c .before .before .before .before .before .before .before .copy2 .ensures) (c .before .copy3 .ensures)
+returns c =
+    let a = start (classes (accepting (next c))) .args .t1 in
+    let k : length (a .classes) ≡ 16 = search needs in
+    let f : length (a .accepting) ≡ 32 = search needs in
+    let n : length (a .next) ≡ 512 = search needs in
+    automaton-laid a _ _ _ k f n (classes (accepting (next c)) .copy .ensures) (accepting (next c) .copy2 .ensures) (next c .copy3 .ensures)
 
 pub automaton-bytes-spec : {M : Type 1} → statement M
 automaton-bytes-spec =

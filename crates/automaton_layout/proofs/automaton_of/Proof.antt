@@ -1,9 +1,24 @@
+-- A record from its bytes.
 use Rattle.layout.proofs.Laying.{automaton-made}
 use lib.ListN.{length}
 use mathlib.Core.Path.{_≡_}
 use borrow.Author.Needs.{needs}
 use Rattle.automaton_layout.proofs.automaton_of.Statement.{statement}
 use Rattle.automaton_layout.proofs.automaton_of.Tie as tie
+
+-- The places that the last need looks back to.
+
+abbrev next : tie.After-t29 → tie.After-copy3
+next c = c .before .before .before .before .before
+
+abbrev accepting : tie.After-copy3 → tie.After-copy2
+accepting c = c .before .before .before .before
+
+abbrev classes : tie.After-copy2 → tie.After-copy
+classes c = c .before .before .before .before
+
+abbrev start : tie.After-copy → tie.Start
+start c = c .before .before .before
 
 slice-aggregate-copy : tie.Need-slice-aggregate-copy
 slice-aggregate-copy c = search needs
@@ -36,7 +51,10 @@ element-copy-out-t29 : tie.Need-element-copy-out-t29
 element-copy-out-t29 c = search needs
 
 returns : tie.Need-returns
-returns c = let b = c .before .before .before .before .before .before .before .before .before .before .before .before .before .before .before .before .args .bytes .now in let long : length b ≡ 564 = search needs in automaton-made b _ _ _ long (c .before .before .before .before .before .before .before .before .before .before .before .before .before .copy .ensures) (c .before .before .before .before .before .before .before .before .before .copy2 .ensures) (c .before .before .before .before .before .copy3 .ensures)
+returns c =
+    let b = start (classes (accepting (next c))) .args .bytes .now in
+    let long : length b ≡ 564 = search needs in
+    automaton-made b _ _ _ long (classes (accepting (next c)) .copy .ensures) (accepting (next c) .copy2 .ensures) (next c .copy3 .ensures)
 
 pub automaton-of-spec : {M : Type 1} → statement M
 automaton-of-spec =
