@@ -13,7 +13,10 @@ use Rattle.conversion.specs.Outputs.{packedBytes, packOutput, faultNote,
 use Rattle.conversion.specs.Claims.{CasesWritten}
 
 pub cases-written : CasesWritten
-unfolding groups read encode bytes ascii digit digits decimal faultLine before separator ends comment newlines beginning run tokenAt bytesOf isDigit allDigits valueFrom wordFrom wordOf sound readingFrom reading encoded refused decodedFrom decoded mark lineOf visible shown tokenLine said message packedBytes packOutput faultNote packNote lineText unpackOutput rowNote unpackNote
+unfolding groups read encode bytes ascii digit digits decimal faultLine before separator ends comment newlines beginning run
+    tokenAt bytesOf isDigit allDigits valueFrom wordFrom wordOf sound readingFrom reading encoded refused decodedFrom decoded
+    mark lineOf visible shown tokenLine said message packedBytes packOutput faultNote packNote lineText unpackOutput rowNote
+    unpackNote
 cases-written =
     record {
       packs = (refl, refl);

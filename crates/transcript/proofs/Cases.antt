@@ -24,7 +24,15 @@ use Rattle.transcript.specs.Claims.{v, large, lines, CasesPrinted, LongR
 
 -- every definition that the transcript rests on
 unfoldable all : ℕ
-unfolding each count those lastOr has mask pad first groups read controllableIn stands placesStand controllable controllables accepts step run shaped ranged classesStand flagsStand nextStand valid checked between itemRow numbers runs one many tables automatonFrom parse acceptingSet admits stays refine settle settled setsOf emptySets into sets rank value shorter index buffersCount short extended buffersAt buffersTo pairs table heldEvents controllableSymbol placeStands bufferStands consistentIn initialOf byTable qualifies qualifying release remaining arrival effect eventRows tableRows configurationRows callRows isWinning callRefusal status receiveRefusal received ascii digit digits decimal spaced emission eventLine refusedEventLine endLine faultLine refusalLine opening runFrom firstLine answerLine after eventLines runLines tooLong overPlaces transcript v large lines winningEnd automatonLine automatonAt
+unfolding each count those lastOr has mask pad first groups read controllableIn stands placesStand controllable controllables
+    accepts step run shaped ranged classesStand flagsStand nextStand valid checked between itemRow numbers runs one many tables
+    automatonFrom parse acceptingSet admits stays refine settle settled setsOf emptySets into sets rank value shorter index
+    buffersCount short extended buffersAt buffersTo pairs table heldEvents controllableSymbol placeStands bufferStands
+    consistentIn initialOf byTable qualifies qualifying release remaining arrival effect eventRows tableRows configurationRows
+    callRows isWinning
+    callRefusal status receiveRefusal received ascii digit digits decimal spaced emission eventLine refusedEventLine endLine
+    faultLine refusalLine opening runFrom firstLine answerLine after eventLines runLines tooLong overPlaces transcript v large
+    lines winningEnd automatonLine automatonAt
 all = 0
 
 pub cases-printed : CasesPrinted

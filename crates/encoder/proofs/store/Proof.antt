@@ -1,12 +1,31 @@
+-- The sheet's numbers, stored part by part.
 use lib.ListN.{length}
 use Prim.Native.Nat.{_≤_, _+_, _*_}
 use mathlib.Core.Path.{_∙_}
-use Rattle.automaton.proofs.Facts.{valid-facts}
+use Rattle.automaton.proofs.Facts.{Valid, valid-facts}
 use Rattle.encoding.proofs.Storing.{numbers-length, parts-join}
 use native.Mathlib.Omega.{arith}
 use borrow.Author.Needs.{needs}
 use Rattle.encoder.proofs.store.Statement.{statement}
 use Rattle.encoder.proofs.store.Tie as tie
+
+-- The places that later needs look back to, and what is known there.
+
+stands : (c : tie.Start) → Valid (c .args .t1)
+stands c = valid-facts (c .args .t1) (c .pre .0)
+
+room : (c : tie.Start) → let t = c .args .t1 in
+    4 + t .symbols + t .states + t .states * t .symbols ≤ length (c .args .out .now)
+room c = omega (arith, numbers-length (c .args .t1) (stands c), c .pre .1)
+
+abbrev sized : tie.After-store-four → tie.After-size2
+sized c = c .before .before
+
+abbrev start : tie.After-store-four → tie.Start
+start c = sized c .before .before .before
+
+abbrev four : tie.After-copy → tie.After-store-four
+four c = c .before .before .before .before .before .before .before
 
 size-requires : tie.Need-size-requires
 size-requires c κs = search needs
@@ -15,16 +34,32 @@ size-requires-2 : tie.Need-size-requires-2
 size-requires-2 c κs = search needs
 
 store-four-requires : tie.Need-store-four-requires
-store-four-requires c κs = let a = c .before .before .before .before .args in let v = valid-facts (a .t1) (c .before .before .before .before .pre .0) in let l : 4 ≤ length (a .out .now) = omega (arith, numbers-length (a .t1) v, c .before .before .before .before .pre .1) in l
+store-four-requires c κs =
+    let s = c .before .before .before .before in
+    let l : 4 ≤ length (s .args .out .now) = omega (arith, room s) in
+    l
 
 copy-requires : tie.Need-copy-requires
-copy-requires c κs = let a = c .before .before .before .before .before .before .before .before .before .before .before .args in let v = valid-facts (a .t1) (c .before .before .before .before .before .before .before .before .before .before .before .pre .0) in let s = c .before .before .before .before .before .before .before .before .size2 .ensures .0 in let k = c .before .before .before .before .before .before .store-four .kept .0 in let l : 4 + c .before .before .before .before .before .before .before .before .size2 .result ≤ length (c .before .before .before .before .before .before .store-four .last .0) = omega (arith, numbers-length (a .t1) v, c .before .before .before .before .before .before .before .before .before .before .before .pre .1, s, k) in (omega (arith, s, v .classes-length, v .symbols-high), l)
+copy-requires c κs =
+    let f = c .before .before .before .before .before .before in
+    let v = stands (start f) in
+    let z = sized f .size2 .ensures .0 in
+    let l : 4 + sized f .size2 .result ≤ length (f .store-four .last .0) = omega (arith, room (start f), z, f .store-four .kept .0) in
+    (omega (arith, z, v .classes-length, v .symbols-high), l)
 
 add-copy : tie.Need-add-copy
 add-copy c = search needs
 
 copy-requires-2 : tie.Need-copy-requires-2
-copy-requires-2 c κs = let a = c .before .before .before .before .before .before .before .before .before .before .before .before .before .before .before .before .before .before .args in let v = valid-facts (a .t1) (c .before .before .before .before .before .before .before .before .before .before .before .before .before .before .before .before .before .before .pre .0) in let s = c .before .before .before .before .before .before .before .before .before .before .before .before .before .before .before .size2 .ensures .0 in let z = c .before .before .before .before .before .before .before .before .before .before .before .before .before .before .before .before .size .ensures .0 in let k = c .before .before .before .before .before .before .before .before .before .before .before .before .before .store-four .kept .0 in let j = c .before .before .before .before .before .before .copy .kept .1 .1 .1 .0 in let l : 4 + c .before .before .before .before .before .before .before .before .before .before .before .before .before .before .before .size2 .result + c .before .before .before .before .before .before .before .before .before .before .before .before .before .before .before .before .size .result ≤ length (c .before .before .before .before .before .before .copy .last .1 .1 .1 .0) = omega (arith, numbers-length (a .t1) v, c .before .before .before .before .before .before .before .before .before .before .before .before .before .before .before .before .before .before .pre .1, s, z, k, j) in (omega (arith, z, v .accepting-length, v .states-high), l)
+copy-requires-2 c κs =
+    let p = c .before .before .before .before .before .before in
+    let f = four p in
+    let v = stands (start f) in
+    let z = sized f .size2 .ensures .0 in
+    let y = sized f .before .size .ensures .0 in
+    let l : 4 + sized f .size2 .result + sized f .before .size .result ≤ length (p .copy .last .1 .1 .1 .0) =
+    omega (arith, room (start f), z, y, f .store-four .kept .0, p .copy .kept .1 .1 .1 .0) in
+    (omega (arith, y, v .accepting-length, v .states-high), l)
 
 add-store-rows : tie.Need-add-store-rows
 add-store-rows c = search needs
@@ -33,13 +68,32 @@ add-store-rows-2 : tie.Need-add-store-rows-2
 add-store-rows-2 c = search needs
 
 store-rows-requires : tie.Need-store-rows-requires
-store-rows-requires c κs = let a = c .before .before .before .before .before .before .before .before .before .before .before .before .before .before .before .before .before .before .before .before .before .before .before .before .args in let v = valid-facts (a .t1) (c .before .before .before .before .before .before .before .before .before .before .before .before .before .before .before .before .before .before .before .before .before .before .before .before .pre .0) in let s = c .before .before .before .before .before .before .before .before .before .before .before .before .before .before .before .before .before .before .before .before .before .size2 .ensures .0 in let z = c .before .before .before .before .before .before .before .before .before .before .before .before .before .before .before .before .before .before .before .before .before .before .size .ensures .0 in let k = c .before .before .before .before .before .before .before .before .before .before .before .before .before .before .before .before .before .before .before .store-four .kept .0 in let j = c .before .before .before .before .before .before .before .before .before .before .before .before .copy .kept .1 .1 .1 .0 in let i = c .before .before .before .before .before .copy2 .kept .1 .1 .1 .0 in let l : 4 + c .before .before .before .before .before .before .before .before .before .before .before .before .before .before .before .before .before .before .before .before .before .size2 .result + c .before .before .before .before .before .before .before .before .before .before .before .before .before .before .before .before .before .before .before .before .before .before .size .result + c .before .before .before .before .before .before .before .before .before .before .before .before .before .before .before .before .before .before .before .before .before .before .size .result * c .before .before .before .before .before .before .before .before .before .before .before .before .before .before .before .before .before .before .before .before .before .size2 .result ≤ length (c .before .before .before .before .before .copy2 .last .1 .1 .1 .0) = rw (s, z) (omega (arith, numbers-length (a .t1) v, c .before .before .before .before .before .before .before .before .before .before .before .before .before .before .before .before .before .before .before .before .before .before .before .before .pre .1, k, j, i)) in (omega (arith, z, v .states-high), omega (arith, s, v .symbols-high), l)
+store-rows-requires c κs =
+    let g = c .before .before .before .before .before in
+    let p = g .before .before .before .before .before .before .before in
+    let f = p .before .before .before .before .before .before .before in
+    let m = f .before .before in
+    let n = m .before in
+    let v = stands (start f) in
+    let l : 4 + m .size2 .result + n .size .result + n .size .result * m .size2 .result ≤ length (g .copy2 .last .1 .1 .1 .0) =
+    rw (m .size2 .ensures .0, n .size .ensures .0)
+    (omega (arith, room (start f), f .store-four .kept .0, p .copy .kept .1 .1 .1 .0, g .copy2 .kept .1 .1 .1 .0)) in
+    (omega (arith, n .size .ensures .0, v .states-high), omega (arith, m .size2 .ensures .0, v .symbols-high), l)
 
 same-length : tie.Need-same-length
 same-length c = search needs
 
 returns : tie.Need-returns
-returns c = let a = c .before .before .before .before .before .before .before .before .before .before .before .before .before .before .before .before .before .before .before .before .before .before .before .before .before .before .before .args in let v = valid-facts (a .t1) (c .before .before .before .before .before .before .before .before .before .before .before .before .before .before .before .before .before .before .before .before .before .before .before .before .before .before .before .pre .0) in c .before .before .store-rows .ensures ∙ rw (c .before .before .before .before .before .before .before .before .copy2 .ensures, c .before .before .before .before .before .before .before .before .before .before .before .before .before .before .before .copy .ensures, c .before .before .before .before .before .before .before .before .before .before .before .before .before .before .before .before .before .before .before .before .before .before .store-four .ensures, c .before .before .before .before .before .before .before .before .before .before .before .before .before .before .before .before .before .before .before .before .before .before .before .before .before .size .ensures .0, c .before .before .before .before .before .before .before .before .before .before .before .before .before .before .before .before .before .before .before .before .before .before .before .before .size2 .ensures .0) (parts-join (a .t1) v (a .out .now))
+returns c =
+    let r = c .before .before in
+    let g = r .before .before .before .before .before .before in
+    let p = g .before .before .before .before .before .before .before in
+    let f = p .before .before .before .before .before .before .before in
+    let m = f .before .before in
+    let a = m .before .before .before .args in
+    r .store-rows .ensures ∙
+    rw (g .copy2 .ensures, p .copy .ensures, f .store-four .ensures, m .before .size .ensures .0, m .size2 .ensures .0)
+    (parts-join (a .t1) (stands (start f)) (a .out .now))
 
 pub store-spec : {M : Type 1} → statement M
 store-spec =

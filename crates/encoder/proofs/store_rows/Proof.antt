@@ -1,3 +1,4 @@
+-- The next states, row by row.
 use Prim.Native.Nat.{_*_}
 use Rattle.encoding.specs.Writing.{nextNumbers}
 use lib.Seq.{sets}
@@ -24,13 +25,24 @@ mul-copy : tie.Need-mul-copy Inv-loop μ-loop
 mul-copy c = search needs
 
 mul-copy-2 : tie.Need-mul-copy-2 Inv-loop μ-loop
-mul-copy-2 c = let a = c .before .before .before .before .before .args in omega (arith, row-within (a .n) (a .m) (c .before .before .before .loop .q) (omega arith), rows-small (a .n) (a .m) (omega arith) (omega arith))
+mul-copy-2 c =
+    let l = c .before .before .before in
+    let a = l .before .before .args in
+    omega (arith, row-within (a .n) (a .m) (l .loop .q) (omega arith), rows-small (a .n) (a .m) (omega arith) (omega arith))
 
 add-copy : tie.Need-add-copy Inv-loop μ-loop
-add-copy c = let a = c .before .before .before .before .before .args in omega (arith, row-within (a .n) (a .m) (c .before .before .before .loop .q) (omega arith), rows-small (a .n) (a .m) (omega arith) (omega arith))
+add-copy c =
+    let l = c .before .before .before in
+    let a = l .before .before .args in
+    omega (arith, row-within (a .n) (a .m) (l .loop .q) (omega arith), rows-small (a .n) (a .m) (omega arith) (omega arith))
 
 copy-requires : tie.Need-copy-requires Inv-loop μ-loop
-copy-requires c κs = let a = c .before .before .before .before .before .args in let l : a .at + c .before .before .before .loop .q * a .m + a .m ≤ length (c .before .before .before .loop .out) = omega (arith, row-within (a .n) (a .m) (c .before .before .before .loop .q) (omega arith), c .before .before .before .loop .inv .1) in (search needs, l)
+copy-requires c κs =
+    let l = c .before .before .before in
+    let a = l .before .before .args in
+    let i : a .at + l .loop .q * a .m + a .m ≤ length (l .loop .out) =
+    omega (arith, row-within (a .n) (a .m) (l .loop .q) (omega arith), l .loop .inv .1) in
+    (search needs, i)
 
 add-q : tie.Need-add-q Inv-loop μ-loop
 add-q c = search needs
@@ -39,7 +51,15 @@ loop-less : tie.Need-loop-less Inv-loop μ-loop
 loop-less c = search needs
 
 loop-again : tie.Need-loop-again Inv-loop μ-loop
-loop-again c = let a = c .before .before .before .before .before .before .before .before .args in let long : length (a .next .now) ≡ 512 = search needs in (omega arith, search needs, c .before .before .copy .ensures ∙ rw (c .before .before .before .before .before .before .loop .inv .2) (row-more (a .next .now) long (a .m) (omega arith) _ _ _ (omega arith)))
+loop-again c =
+    let p = c .before .before in
+    let l = p .before .before .before .before in
+    let a = l .before .before .args in
+    let long : length (a .next .now) ≡ 512 = search needs in (
+      omega arith,
+      search needs,
+      p .copy .ensures ∙ rw (l .loop .inv .2) (row-more (a .next .now) long (a .m) (omega arith) _ _ _ (omega arith)),
+    )
 
 same-length : tie.Need-same-length Inv-loop μ-loop
 same-length c = search needs

@@ -1,8 +1,10 @@
+-- Row 11, then row 16, and then the sheet.
 use Prim.Native.Nat.{_≤_, _+_, _*_}
 use lib.ListN.{length}
 use Rattle.automaton.specs.Automaton.{valid}
 use borrow.Author.Tests.{not-true, not-false}
-use mathlib.Core.Path.{_∙_, sym}
+use mathlib.Core.Bool.{true}
+use mathlib.Core.Path.{_≡_, _∙_, sym}
 use Rattle.automaton.proofs.Facts.{valid-facts}
 use Rattle.encoding.proofs.Storing.{numbers-length, rows-small}
 use Rattle.encoding.proofs.Outcomes.{write-invalid, write-short, write-fits}
@@ -10,6 +12,29 @@ use native.Mathlib.Omega.{arith}
 use borrow.Author.Needs.{needs}
 use Rattle.encoder.proofs.write.Statement.{statement}
 use Rattle.encoder.proofs.write.Tie as tie
+
+-- The places that later needs look back to, and what is known there.
+
+abbrev checked : tie.Else1 → tie.After-valid
+checked c = c .before
+
+abbrev start : tie.Else1 → tie.Start
+start c = checked c .before .before
+
+stands : (c : tie.Else1) → valid (start c .args .a) ≡ true
+stands c = sym (checked c .valid .ensures) ∙ not-false _ (c .if1 .left)
+
+few : (c : tie.After-size2) → c .before .size .result * c .size2 .result ≤ 512
+few c =
+    let v = valid-facts (start (c .before .before) .args .a) (stands (c .before .before)) in
+    rows-small (c .before .size .result) (c .size2 .result)
+    (omega (arith, c .before .size .ensures .0, v .states-high)) (omega (arith, c .size2 .ensures .0, v .symbols-high))
+
+fits : (c : tie.Else2) → let a = c .before .before .before .before .before .before .args in
+    4 + a .a .symbols + a .a .states + a .a .states * a .a .symbols ≤ length (a .out .now)
+fits c =
+    let z = c .before in
+    rw (z .before .size .ensures .0, z .size2 .ensures .0) at (c .if2 .left)
 
 valid-requires : tie.Need-valid-requires
 valid-requires c κs = search needs
@@ -30,22 +55,35 @@ add-length-2 : tie.Need-add-length-2
 add-length-2 c = search needs
 
 mul-length : tie.Need-mul-length
-mul-length c = let v = valid-facts (c .before .before .before .before .before .args .a) (sym (c .before .before .before .valid .ensures) ∙ not-false _ (c .before .before .if1 .left)) in omega (arith, rows-small (c .before .size .result) (c .size2 .result) (omega (arith, c .before .size .ensures .0, v .states-high)) (omega (arith, c .size2 .ensures .0, v .symbols-high)))
+mul-length c = omega (arith, few c)
 
 add-length-3 : tie.Need-add-length-3
-add-length-3 c = let v = valid-facts (c .before .before .before .before .before .args .a) (sym (c .before .before .before .valid .ensures) ∙ not-false _ (c .before .before .if1 .left)) in omega (arith, rows-small (c .before .size .result) (c .size2 .result) (omega (arith, c .before .size .ensures .0, v .states-high)) (omega (arith, c .size2 .ensures .0, v .symbols-high)))
+add-length-3 c = omega (arith, few c)
 
 returns-2 : tie.Need-returns-2
-returns-2 c = write-short _ _ (sym (c .before .before .before .before .valid .ensures) ∙ not-false _ (c .before .before .before .if1 .left)) (rw (c .before .before .size .ensures .0, c .before .size2 .ensures .0) at (c .if2 .taken))
+returns-2 c =
+    let z = c .before in
+    write-short _ _ (stands (z .before .before)) (rw (z .before .size .ensures .0, z .size2 .ensures .0) at (c .if2 .taken))
 
 store-requires : tie.Need-store-requires
-store-requires c κs = let a = c .before .before .before .before .before .before .before .args in let h = sym (c .before .before .before .before .before .valid .ensures) ∙ not-false _ (c .before .before .before .before .if1 .left) in let l : 4 + a .a .symbols + a .a .states + a .a .states * a .a .symbols ≤ length (a .out .now) = rw (c .before .before .before .size .ensures .0, c .before .before .size2 .ensures .0) at (c .before .if2 .left) in (h, rw (numbers-length (a .a) (valid-facts (a .a) h)) l)
+store-requires c κs =
+    let e = c .before in
+    let o = e .before .before .before in
+    let a = start o .args .a in
+    (stands o, rw (numbers-length a (valid-facts a (stands o))) (fits e))
 
 same-length : tie.Need-same-length
 same-length c = search needs
 
 returns-3 : tie.Need-returns-3
-returns-3 c = let a = c .before .before .before .before .before .before .before .before .before .before .args in let h = sym (c .before .before .before .before .before .before .before .before .valid .ensures) ∙ not-false _ (c .before .before .before .before .before .before .before .if1 .left) in let l : 4 + a .a .symbols + a .a .states + a .a .states * a .a .symbols ≤ length (a .out .now) = rw (c .before .before .before .before .before .before .size .ensures .0, c .before .before .before .before .before .size2 .ensures .0) at (c .before .before .before .before .if2 .left) in let p = write-fits (a .a) (a .out .now) h l in (rw (c .before .before .before .before .before .before .size .ensures .0, c .before .before .before .before .before .size2 .ensures .0) (p .0), c .before .before .store .ensures ∙ p .1)
+returns-3 c =
+    let w = c .before .before in
+    let e = w .before .before in
+    let z = e .before in
+    let o = z .before .before in
+    let a = o .before .before .before .args in
+    let p = write-fits (a .a) (a .out .now) (stands o) (fits e) in
+    (rw (z .before .size .ensures .0, z .size2 .ensures .0) (p .0), w .store .ensures ∙ p .1)
 
 pub write-spec : {M : Type 1} → statement M
 write-spec =

@@ -1,3 +1,4 @@
+-- The length of the line.
 use Rattle.listing.proofs.Lines.{Measuring, measuring-begins, measuring-short, measuring-done, measuring-refused, measuring-fits, measuring-lacks}
 use Rattle.listing.proofs.Decoding.{number-after, number-inside}
 use mathlib.Core.Path.{_∙_, ap}
@@ -14,6 +15,11 @@ Inv-loop bytes room at₀ left₀ short₀ at left short = Measuring bytes room 
 abbrev μ-loop : tie.MeasureT-loop
 μ-loop bytes room at₀ left₀ short₀ at left short = length bytes - at
 
+-- The places that later needs look back to.
+
+abbrev read : tie.Else1 Inv-loop μ-loop → tie.After-read Inv-loop μ-loop
+read c = c .before .before
+
 loop-holds : tie.Need-loop-holds Inv-loop μ-loop
 loop-holds c = measuring-begins _ _
 
@@ -24,7 +30,11 @@ refused-requires : tie.Need-refused-requires Inv-loop μ-loop
 refused-requires c κs = search needs
 
 returns : tie.Need-returns Inv-loop μ-loop
-returns c = c .refused .ensures ∙ measuring-refused (c .before .before .before .before .before .loop .inv) (c .before .before .before .before .loop-test .taken) _ (c .before .before .before .read .ensures) (c .before .if1 .taken)
+returns c =
+    let r = c .before .before .before in
+    let i = r .before in
+    c .refused .ensures ∙ measuring-refused (i .before .loop .inv) (i .loop-test .taken) _ (r .read .ensures)
+    (c .before .if1 .taken)
 
 digits-requires : tie.Need-digits-requires Inv-loop μ-loop
 digits-requires c κs = search needs
@@ -33,16 +43,42 @@ add-size : tie.Need-add-size Inv-loop μ-loop
 add-size c = omega (arith, c .digits .ensures .1)
 
 loop-less : tie.Need-loop-less Inv-loop μ-loop
-loop-less c = omega (arith, number-after _ _ _ (c .before .before .before .before .read .ensures) (c .before .before .if1 .left), number-inside _ _ _ (c .before .before .before .before .read .ensures) (c .before .before .if1 .left), c .before .before .before .before .before .loop-test .taken)
+loop-less c =
+    let e = c .before .before in
+    let r = read e in
+    omega (
+      arith,
+      number-after _ _ _ (r .read .ensures) (e .if1 .left),
+      number-inside _ _ _ (r .read .ensures) (e .if1 .left),
+      r .before .loop-test .taken,
+    )
 
 loop-again : tie.Need-loop-again Inv-loop μ-loop
-loop-again c = measuring-lacks (c .before .before .before .before .before .before .loop .inv) (c .before .before .before .before .before .loop-test .taken) _ (c .before .before .before .before .read .ensures) (c .before .before .if1 .left) _ (ap (_+ 1) (c .before .digits .ensures .0)) (c .if2 .taken)
+loop-again c =
+    let e = c .before .before in
+    let r = read e in
+    let i = r .before in
+    measuring-lacks (i .before .loop .inv) (i .loop-test .taken) _ (r .read .ensures) (e .if1 .left) _
+    (ap (_+ 1) (c .before .digits .ensures .0)) (c .if2 .taken)
 
 loop-less-2 : tie.Need-loop-less-2 Inv-loop μ-loop
-loop-less-2 c = omega (arith, number-after _ _ _ (c .before .before .before .before .read .ensures) (c .before .before .if1 .left), number-inside _ _ _ (c .before .before .before .before .read .ensures) (c .before .before .if1 .left), c .before .before .before .before .before .loop-test .taken)
+loop-less-2 c =
+    let e = c .before .before in
+    let r = read e in
+    omega (
+      arith,
+      number-after _ _ _ (r .read .ensures) (e .if1 .left),
+      number-inside _ _ _ (r .read .ensures) (e .if1 .left),
+      r .before .loop-test .taken,
+    )
 
 loop-again-2 : tie.Need-loop-again-2 Inv-loop μ-loop
-loop-again-2 c = measuring-fits (c .before .before .before .before .before .before .loop .inv) (c .before .before .before .before .before .loop-test .taken) _ (c .before .before .before .before .read .ensures) (c .before .before .if1 .left) _ (ap (_+ 1) (c .before .digits .ensures .0)) (c .if2 .left)
+loop-again-2 c =
+    let e = c .before .before in
+    let r = read e in
+    let i = r .before in
+    measuring-fits (i .before .loop .inv) (i .loop-test .taken) _ (r .read .ensures) (e .if1 .left) _
+    (ap (_+ 1) (c .before .digits .ensures .0)) (c .if2 .left)
 
 refused-requires-2 : tie.Need-refused-requires-2 Inv-loop μ-loop
 refused-requires-2 c κs = search needs

@@ -1,3 +1,4 @@
+-- The check, and then the groups.
 use Rattle.notation.proofs.Checks.{pack-refused, pack-short, pack-fits, pack-done}
 use borrow.Author.Tests.{not-true, not-false}
 use mathlib.Core.Path.{sym, _∙_}
@@ -18,16 +19,30 @@ no-room-requires : tie.Need-no-room-requires
 no-room-requires c κs = search needs
 
 returns-2 : tie.Need-returns-2
-returns-2 c = rw (c .no-room .ensures) (pack-short _ _ _ (c .before .before .before .before .before .check .ensures) (sym (c .before .before .before .before .sound .ensures) ∙ not-false _ (c .before .before .before .if1 .left)) (c .before .if2 .taken))
+returns-2 c =
+    let e = c .before .before .before in
+    let s = e .before in
+    rw (c .no-room .ensures)
+    (pack-short _ _ _ (s .before .check .ensures) (sym (s .sound .ensures) ∙ not-false _ (e .if1 .left)) (c .before .if2 .taken))
 
 store-requires : tie.Need-store-requires
-store-requires c κs = pack-fits _ _ _ (c .before .before .before .before .before .check .ensures) (sym (c .before .before .before .before .sound .ensures) ∙ not-false _ (c .before .before .before .if1 .left)) (c .before .if2 .left)
+store-requires c κs =
+    let e = c .before .before .before in
+    let s = e .before in
+    pack-fits _ _ _ (s .before .check .ensures) (sym (s .sound .ensures) ∙ not-false _ (e .if1 .left)) (c .before .if2 .left)
 
 same-length : tie.Need-same-length
 same-length c = search needs
 
 returns-3 : tie.Need-returns-3
-returns-3 c = (pack-done _ _ _ (c .before .before .before .before .before .before .before .before .check .ensures) (sym (c .before .before .before .before .before .before .before .sound .ensures) ∙ not-false _ (c .before .before .before .before .before .before .if1 .left)) (c .before .before .before .before .if2 .left), c .before .before .store .ensures)
+returns-3 c =
+    let w = c .before .before in
+    let f = w .before .before in
+    let e = f .before .before in
+    let s = e .before in (
+      pack-done _ _ _ (s .before .check .ensures) (sym (s .sound .ensures) ∙ not-false _ (e .if1 .left)) (f .if2 .left),
+      w .store .ensures,
+    )
 
 pub pack-spec : {M : Type 1} → statement M
 pack-spec =

@@ -1,8 +1,14 @@
+-- A number's groups at a place.
 use Rattle.notation.proofs.Groups.{groups-stored}
 use native.Mathlib.Omega.{arith}
 use borrow.Author.Needs.{needs}
 use Rattle.packing.proofs.write_at.Statement.{statement}
 use Rattle.packing.proofs.write_at.Tie as tie
+
+-- The places that later needs look back to.
+
+abbrev start : tie.After-write → tie.Start
+start c = c .before .before .before
 
 sub-write : tie.Need-sub-write
 sub-write c = search needs
@@ -17,13 +23,24 @@ write-requires : tie.Need-write-requires
 write-requires c κs = search needs
 
 add-result : tie.Need-add-result
-add-result c = let a = c .before .before .before .before .before .args in omega (arith, groups-stored (a .v) (c .before .before .before .before .before .pre .0) (a .out .now) (a .at) _ (c .before .before .write .result) (c .before .before .before .before .before .pre .1) (c .before .before .write .ensures .0) (c .before .before .write .ensures .1) .inside)
+add-result c =
+    let w = c .before .before in
+    let s = start w in
+    let a = s .args in
+    omega (
+      arith,
+      groups-stored (a .v) (s .pre .0) (a .out .now) (a .at) _ (w .write .result) (s .pre .1) (w .write .ensures .0)
+          (w .write .ensures .1) .inside,
+    )
 
 same-length : tie.Need-same-length
 same-length c = search needs
 
 returns : tie.Need-returns
-returns c = groups-stored _ (c .before .before .before .before .before .pre .0) _ _ _ _ (c .before .before .before .before .before .pre .1) (c .before .before .write .ensures .0) (c .before .before .write .ensures .1)
+returns c =
+    let w = c .before .before in
+    let s = start w in
+    groups-stored _ (s .pre .0) _ _ _ _ (s .pre .1) (w .write .ensures .0) (w .write .ensures .1)
 
 pub write-at-spec : {M : Type 1} → statement M
 write-at-spec =

@@ -1,8 +1,8 @@
-use lib.ListN.{getD}
+-- Where a token begins.
+use lib.ListN.{length, getD}
 use Rattle.notation.proofs.Finding.{Beginning, beginning-begins, beginning-ended, beginning-found, beginning-goes-on, newlines-most}
 use borrow.Author.Tests.{not-true, not-false}
 use mathlib.Core.Path.{sym, _∙_}
-use lib.ListN.{length}
 use Prim.Native.Nat.{_-_}
 use native.Mathlib.Omega.{arith}
 use borrow.Author.Needs.{needs}
@@ -14,6 +14,10 @@ Inv-loop source lines from ended₀ at₀ c₀ ended at c = Beginning source lin
 
 abbrev μ-loop : tie.MeasureT-loop
 μ-loop source lines from ended₀ at₀ c₀ ended at c = length source - at
+
+-- the loop's round
+abbrev round : tie.After-between Inv-loop μ-loop → tie.In-loop Inv-loop μ-loop
+round c = c .before .before
 
 loop-holds : tie.Need-loop-holds Inv-loop μ-loop
 loop-holds c = beginning-begins _ _ _ (search needs) (search needs)
@@ -31,7 +35,11 @@ newlines-requires : tie.Need-newlines-requires Inv-loop μ-loop
 newlines-requires c κs = search needs
 
 add-ended : tie.Need-add-ended Inv-loop μ-loop
-add-ended c = record { fits = omega (arith, newlines-most (getD (c .before .before .before .before .before .before .before .before .args .source .now) (c .before .before .before .before .before .before .loop .at) 0), c .newlines .ensures, c .before .before .before .before .before .before .loop .inv .counted, c .before .before .before .before .before .loop-test .taken) }
+add-ended c =
+    let i = round (c .before .before .before) in
+    let l = i .before in
+    let n = newlines-most (getD (l .before .before .args .source .now) (l .loop .at) 0) in
+    record { fits = omega (arith, n, c .newlines .ensures, l .loop .inv .counted, i .loop-test .taken) }
 
 add-at : tie.Need-add-at Inv-loop μ-loop
 add-at c = search needs
@@ -40,13 +48,20 @@ loop-less : tie.Need-loop-less Inv-loop μ-loop
 loop-less c = search needs
 
 loop-again : tie.Need-loop-again Inv-loop μ-loop
-loop-again c = rw (c .newlines .ensures, c .before .comment .ensures) (beginning-goes-on (c .before .before .before .before .before .before .loop .inv) (c .before .before .before .before .before .loop-test .taken) (sym (c .before .before .before .between .ensures) ∙ not-false _ (c .before .before .if1 .left)))
+loop-again c =
+    let e = c .before .before in
+    let b = e .before in
+    let i = b .before .before in
+    rw (c .newlines .ensures, c .before .comment .ensures)
+    (beginning-goes-on (i .before .loop .inv) (i .loop-test .taken) (sym (b .between .ensures) ∙ not-false _ (e .if1 .left)))
 
 returns : tie.Need-returns Inv-loop μ-loop
 returns c = beginning-ended (c .before .loop .inv) (omega arith)
 
 returns-2 : tie.Need-returns-2 Inv-loop μ-loop
-returns-2 c = beginning-found (c .before .before .before .before .loop .inv) (c .before .before .before .loop-test .taken) (sym (c .before .between .ensures) ∙ not-true _ (c .if1 .taken))
+returns-2 c =
+    let i = round (c .before) in
+    beginning-found (i .before .loop .inv) (i .loop-test .taken) (sym (c .before .between .ensures) ∙ not-true _ (c .if1 .taken))
 
 pub beginning-spec : {M : Type 1} → statement M
 beginning-spec =

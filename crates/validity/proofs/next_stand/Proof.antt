@@ -1,3 +1,4 @@
+-- Row 11's tests of the next states.
 use Rattle.automaton.proofs.Whole.{next-falls, next-rest}
 use borrow.Author.Tests.{not-true, not-false}
 use mathlib.Core.Path.{_∙_, sym}
@@ -16,7 +17,11 @@ rows-below-requires : tie.Need-rows-below-requires
 rows-below-requires c κs = search needs
 
 returns : tie.Need-returns
-returns c = next-falls _ _ _ (omega arith) (omega arith) (rw (c .before .before .before .before .size .ensures .0, c .before .before .before .limits-of .ensures) at (sym (c .before .rows-below .ensures) ∙ not-true _ (c .if1 .taken)))
+returns c =
+    let r = c .before in
+    let l = r .before .before in
+    next-falls _ _ _ (omega arith) (omega arith)
+    (rw (l .before .size .ensures .0, l .limits-of .ensures) at (sym (r .rows-below .ensures) ∙ not-true _ (c .if1 .taken)))
 
 mul-used : tie.Need-mul-used
 mul-used c = search needs
@@ -28,7 +33,13 @@ below-from-requires : tie.Need-below-from-requires
 below-from-requires c κs = search needs
 
 returns-2 : tie.Need-returns-2
-returns-2 c = (rw (c .before .before .before .before .before .before .size .ensures .0) at (c .below-from .ensures)) ∙ next-rest _ _ _ (omega arith) (omega arith) (rw (c .before .before .before .before .before .before .size .ensures .0, c .before .before .before .before .before .limits-of .ensures) at (sym (c .before .before .before .rows-below .ensures) ∙ not-false _ (c .before .before .if1 .left)))
+returns-2 c =
+    let e = c .before .before in
+    let r = e .before in
+    let l = r .before .before in
+    (rw (l .before .size .ensures .0) at (c .below-from .ensures)) ∙
+    next-rest _ _ _ (omega arith) (omega arith)
+    (rw (l .before .size .ensures .0, l .limits-of .ensures) at (sym (r .rows-below .ensures) ∙ not-false _ (e .if1 .left)))
 
 pub next-stand-spec : {M : Type 1} → statement M
 next-stand-spec =

@@ -1,3 +1,4 @@
+-- Next states in range, row by row.
 use mathlib.Core.Logic.{⊎-elim}
 use mathlib.Core.Path.{_≡_, refl, _∙_, sym}
 use Prim.Native.Nat.{_≤_, _-_}
@@ -30,7 +31,13 @@ loop-less : tie.Need-loop-less Inv-loop μ-loop
 loop-less c = search needs
 
 loop-again : tie.Need-loop-again Inv-loop μ-loop
-loop-again c = (omega arith, ⊎-elim (λ w. w .1 ∙ rows-fall _ _ _ _ (c .before .before .before .loop .inv .1) (sym (c .before .row-below .ensures) ∙ not-true _ (w .0 .taken))) (λ w. w .1 ∙ rows-keep _ _ _ _ (c .before .before .before .loop .inv .1) (sym (c .before .row-below .ensures) ∙ not-false _ (w .0 .left))) (c .if1 .came))
+loop-again c =
+    let r = c .before in
+    let g = r .before .before .loop .inv .1 in (
+      omega arith,
+      ⊎-elim (λ w. w .1 ∙ rows-fall _ _ _ _ g (sym (r .row-below .ensures) ∙ not-true _ (w .0 .taken)))
+          (λ w. w .1 ∙ rows-keep _ _ _ _ g (sym (r .row-below .ensures) ∙ not-false _ (w .0 .left))) (c .if1 .came),
+    )
 
 returns : tie.Need-returns Inv-loop μ-loop
 returns c = let e : c .before .loop .q ≡ c .before .before .args .count = omega arith in rw e at (c .before .loop .inv .1)

@@ -1,3 +1,4 @@
+-- Row 11's tests of the tables.
 use Rattle.automaton.proofs.Whole.{tables-classes, tables-ninth, tables-flags, tables-next}
 use borrow.Author.Tests.{not-true, not-false}
 use mathlib.Core.Path.{_∙_, sym}
@@ -5,6 +6,11 @@ use native.Mathlib.Omega.{arith}
 use borrow.Author.Needs.{needs}
 use Rattle.validity.proofs.tables_stand.Statement.{statement}
 use Rattle.validity.proofs.tables_stand.Tie as tie
+
+-- The places that later needs look back to.
+
+abbrev counted : tie.After-places-stand2 → tie.After-controllable-in
+counted c = c .before .before .before .before
 
 places-stand-requires : tie.Need-places-stand-requires
 places-stand-requires c κs = search needs
@@ -16,7 +22,10 @@ controllable-in-requires : tie.Need-controllable-in-requires
 controllable-in-requires c κs = search needs
 
 returns-2 : tie.Need-returns-2
-returns-2 c = tables-ninth _ _ _ _ _ (sym (c .before .before .before .places-stand .ensures) ∙ not-false _ (c .before .before .if1 .left)) (omega (arith, c .before .controllable-in .ensures))
+returns-2 c =
+    let e = c .before .before in
+    tables-ninth _ _ _ _ _ (sym (e .before .places-stand .ensures) ∙ not-false _ (e .if1 .left))
+    (omega (arith, c .before .controllable-in .ensures))
 
 size-requires : tie.Need-size-requires
 size-requires c κs = search needs
@@ -25,13 +34,24 @@ places-stand-requires-2 : tie.Need-places-stand-requires-2
 places-stand-requires-2 c κs = search needs
 
 returns-3 : tie.Need-returns-3
-returns-3 c = tables-flags _ _ _ _ _ (sym (c .before .before .before .before .before .before .before .places-stand .ensures) ∙ not-false _ (c .before .before .before .before .before .before .if1 .left)) (omega (arith, c .before .before .before .before .before .controllable-in .ensures)) (rw (c .before .before .size .ensures .0) at (sym (c .before .places-stand2 .ensures) ∙ not-true _ (c .if3 .taken)))
+returns-3 c =
+    let p = c .before in
+    let k = counted p in
+    tables-flags _ _ _ _ _ (sym (k .before .before .places-stand .ensures) ∙ not-false _ (k .before .if1 .left))
+    (omega (arith, k .controllable-in .ensures))
+    (rw (p .before .size .ensures .0) at (sym (p .places-stand2 .ensures) ∙ not-true _ (c .if3 .taken)))
 
 next-stand-requires : tie.Need-next-stand-requires
 next-stand-requires c κs = search needs
 
 returns-4 : tie.Need-returns-4
-returns-4 c = c .next-stand .ensures ∙ tables-next _ _ _ _ _ (sym (c .before .before .before .before .before .before .before .before .places-stand .ensures) ∙ not-false _ (c .before .before .before .before .before .before .before .if1 .left)) (omega (arith, c .before .before .before .before .before .before .controllable-in .ensures)) (rw (c .before .before .before .size .ensures .0) at (sym (c .before .before .places-stand2 .ensures) ∙ not-false _ (c .before .if3 .left)))
+returns-4 c =
+    let p = c .before .before in
+    let k = counted p in
+    c .next-stand .ensures ∙
+    tables-next _ _ _ _ _ (sym (k .before .before .places-stand .ensures) ∙ not-false _ (k .before .if1 .left))
+    (omega (arith, k .controllable-in .ensures))
+    (rw (p .before .size .ensures .0) at (sym (p .places-stand2 .ensures) ∙ not-false _ (c .before .if3 .left)))
 
 pub tables-stand-spec : {M : Type 1} → statement M
 tables-stand-spec =

@@ -1,9 +1,18 @@
+-- The number at a place.
 use mathlib.Core.Path.{_∙_}
 use Rattle.varint.proofs.Laws.{ended-at, one-byte, ended-second, two-bytes, ended-third, three-bytes, too-long}
 use native.Mathlib.Omega.{arith}
 use borrow.Author.Needs.{needs}
 use Rattle.varint.proofs.read.Statement.{statement}
 use Rattle.varint.proofs.read.Tie as tie
+
+-- The places that later needs look back to.
+
+abbrev first : tie.After-wide2 → tie.After-wide
+first c = c .before .before .before .before
+
+abbrev second : tie.After-wide3 → tie.After-wide2
+second c = c .before .before .before .before
 
 fault-requires : tie.Need-fault-requires
 fault-requires c κs = search needs
@@ -30,7 +39,8 @@ fault-requires-2 : tie.Need-fault-requires-2
 fault-requires-2 c κs = search needs
 
 returns-3 : tie.Need-returns-3
-returns-3 c = c .fault2 .ensures ∙ ended-second _ _ _ (omega arith) (c .before .before .before .wide .ensures .0) (omega arith) (omega arith)
+returns-3 c =
+    c .fault2 .ensures ∙ ended-second _ _ _ (omega arith) (c .before .before .before .wide .ensures .0) (omega arith) (omega arith)
 
 add-wide : tie.Need-add-wide
 add-wide c = search needs
@@ -51,7 +61,9 @@ add-t16 : tie.Need-add-t16
 add-t16 c = search needs
 
 returns-4 : tie.Need-returns-4
-returns-4 c = two-bytes _ _ _ (omega arith) (c .before .before .before .before .before .wide .ensures .0) (omega arith) _ (omega arith) (c .before .wide2 .ensures .0) (omega arith)
+returns-4 c =
+    two-bytes _ _ _ (omega arith) (first (c .before) .wide .ensures .0) (omega arith) _ (omega arith) (c .before .wide2 .ensures .0)
+    (omega arith)
 
 sub-if5 : tie.Need-sub-if5
 sub-if5 c = search needs
@@ -60,7 +72,9 @@ fault-requires-3 : tie.Need-fault-requires-3
 fault-requires-3 c κs = search needs
 
 returns-5 : tie.Need-returns-5
-returns-5 c = c .fault3 .ensures ∙ ended-third _ _ _ (omega arith) (c .before .before .before .before .before .before .before .wide .ensures .0) (omega arith) _ (omega arith) (c .before .before .before .wide2 .ensures .0) (omega arith) (omega arith)
+returns-5 c =
+    c .fault3 .ensures ∙ ended-third _ _ _ (omega arith) (first (c .before .before .before) .wide .ensures .0) (omega arith) _
+    (omega arith) (c .before .before .before .wide2 .ensures .0) (omega arith) (omega arith)
 
 add-wide-2 : tie.Need-add-wide-2
 add-wide-2 c = search needs
@@ -87,13 +101,18 @@ add-t24 : tie.Need-add-t24
 add-t24 c = search needs
 
 returns-6 : tie.Need-returns-6
-returns-6 c = three-bytes _ _ _ (omega arith) (c .before .before .before .before .before .before .before .before .before .wide .ensures .0) (omega arith) _ (omega arith) (c .before .before .before .before .before .wide2 .ensures .0) (omega arith) _ (omega arith) (c .before .wide3 .ensures .0) (omega arith)
+returns-6 c =
+    three-bytes _ _ _ (omega arith) (first (second (c .before)) .wide .ensures .0) (omega arith) _ (omega arith)
+    (second (c .before) .wide2 .ensures .0) (omega arith) _ (omega arith) (c .before .wide3 .ensures .0) (omega arith)
 
 fault-requires-4 : tie.Need-fault-requires-4
 fault-requires-4 c κs = search needs
 
 returns-7 : tie.Need-returns-7
-returns-7 c = c .fault4 .ensures ∙ too-long _ _ _ (omega arith) (c .before .before .before .before .before .before .before .before .before .before .wide .ensures .0) (omega arith) _ (omega arith) (c .before .before .before .before .before .before .wide2 .ensures .0) (omega arith) _ (omega arith) (c .before .before .wide3 .ensures .0) (omega arith)
+returns-7 c =
+    c .fault4 .ensures ∙ too-long _ _ _ (omega arith) (first (second (c .before .before)) .wide .ensures .0) (omega arith) _
+    (omega arith) (second (c .before .before) .wide2 .ensures .0) (omega arith) _ (omega arith)
+    (c .before .before .wide3 .ensures .0) (omega arith)
 
 pub read-spec : {M : Type 1} → statement M
 read-spec =

@@ -1,3 +1,4 @@
+-- What the program `pack` writes on an input.
 use lib.ListN.{length}
 use mathlib.Core.Path.{_≡_, sym}
 use Rattle.text.specs.Decimal.{ascii}
@@ -7,6 +8,9 @@ use borrow.Author.Needs.{needs}
 use Rattle.conversion.proofs.programs.pack_input.Statement.{statement}
 use Rattle.conversion.proofs.programs.pack_input.Tie as tie
 
+long : (c : tie.After-pack) → length (c .before .before .before .before .args .out .now) ≡ 262144
+long c = search needs
+
 slice-aggregate-word : tie.Need-slice-aggregate-word
 slice-aggregate-word c = search needs
 
@@ -15,16 +19,26 @@ word-requires c κs = search needs
 
 returns : tie.Need-returns
 unfolding ascii
-returns c = (said (sym (pack-long-output _ (c .before .before .before .if1 .taken))) (nothing _), said (pack-long-note _ (c .before .before .before .if1 .taken)) (c .word .ensures))
+returns c =
+    let t = c .before .before .before .if1 .taken in
+    (said (sym (pack-long-output _ t)) (nothing _), said (pack-long-note _ t) (c .word .ensures))
 
 pack-requires : tie.Need-pack-requires
 pack-requires c κs = search needs
 
 message-requires : tie.Need-message-requires
-message-requires c κs = let l : length (c .before .before .before .before .before .args .out .now) ≡ 262144 = search needs in let x = pack-part _ _ (c .before .before .before .if1 .left) l _ (c .before .pack .ensures .0) in (x .0, x .1, search needs)
+message-requires c κs =
+    let p = c .before in
+    let x = pack-part _ _ (p .before .before .if1 .left) (long p) _ (p .pack .ensures .0) in
+    (x .0, x .1, search needs)
 
 returns-2 : tie.Need-returns-2
-returns-2 c = let l : length (c .before .before .before .before .before .before .args .out .now) ≡ 262144 = search needs in (pack-stored _ _ (c .before .before .before .before .if1 .left) l _ (c .before .before .pack .ensures .0) (c .before .before .pack .ensures .1), said (pack-note _ _ (c .before .before .before .before .if1 .left) l _ (c .before .before .pack .ensures .0)) (c .message .ensures))
+returns-2 c =
+    let p = c .before .before in
+    let e = p .before .before in (
+      pack-stored _ _ (e .if1 .left) (long p) _ (p .pack .ensures .0) (p .pack .ensures .1),
+      said (pack-note _ _ (e .if1 .left) (long p) _ (p .pack .ensures .0)) (c .message .ensures),
+    )
 
 pub pack-input-spec : {M : Type 1} → statement M
 pack-input-spec =
