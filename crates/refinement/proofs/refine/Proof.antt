@@ -32,8 +32,11 @@ abbrev μ-loop : tie.MeasureT-loop
 abbrev start : tie.At-loop Inv-scan μ-scan Inv-loop μ-loop → tie.Start Inv-scan μ-scan Inv-loop μ-loop
 start c = c .before
 
+abbrev turn : tie.After-has Inv-scan μ-scan Inv-loop μ-loop → tie.At-loop Inv-scan μ-scan Inv-loop μ-loop
+turn c = c .before .before
+
 abbrev state : tie.At-scan Inv-scan μ-scan Inv-loop μ-loop → tie.At-loop Inv-scan μ-scan Inv-loop μ-loop
-state c = c .before .before .before .before
+state c = turn (c .before .before)
 
 abbrev symbol : tie.After-size Inv-scan μ-scan Inv-loop μ-loop → tie.At-scan Inv-scan μ-scan Inv-loop μ-loop
 symbol c = c .before .before .before
@@ -61,6 +64,14 @@ leads-out c h =
     (λ x. let next = x .4 .ensures .0 ∙ ap (λ e. goes (a .next .now) (o .loop .q) e) (x .2 .ensures .0) in
     scan-fails _ _ _ _ (c .before .scan .k) _ (x .0 .taken) (sym (x .5 .ensures ∙ ap (has _) next) ∙ not-true _ (x .6 .taken)))
     (c .scan-test .came)
+
+-- the state is one of the set's, and is taken out
+out : (c : tie.Then3 Inv-scan μ-scan Inv-loop μ-loop) → let o = state (c .before .before) in
+    let a = start o .args in
+    (o .loop .q < a .n) × (has (a .set) (o .loop .q) ≡ true) × (leads (a .next .now) (a .free .now) (a .u) (bitOr (a .set) (a .intermediate)) (o .loop .q) ≡ false)
+out c =
+    let t = c .before .before .before in
+    (omega arith, sym (t .before .has .ensures) ∙ t .if1 .taken, leads-out (c .before) (c .if3 .taken))
 
 loop-holds : tie.Need-loop-holds Inv-scan μ-scan Inv-loop μ-loop
 loop-holds c = (omega arith, leave-none _ _ _ _ _ _ (c .pre .1))
@@ -91,8 +102,7 @@ size-requires-2 c κs = search needs
 
 has-requires-2 : tie.Need-has-requires-2 Inv-scan μ-scan Inv-loop μ-loop
 has-requires-2 c κs =
-    let o = state (symbol (listed c)) in
-    omega (arith, c .size2 .ensures .0, start o .pre .0 .next-below (o .loop .q * 16 + listed c .size .result))
+    omega (arith, c .size2 .ensures .0, start (state (symbol (listed c))) .pre .0 .next-below (state (symbol (listed c)) .loop .q * 16 + listed c .size .result))
 
 add-k : tie.Need-add-k Inv-scan μ-scan Inv-loop μ-loop
 add-k c = search needs
@@ -101,18 +111,18 @@ scan-less : tie.Need-scan-less Inv-scan μ-scan Inv-loop μ-loop
 scan-less c = search needs
 
 scan-again : tie.Need-scan-again Inv-scan μ-scan Inv-loop μ-loop
-scan-again c =
-    let o = c .before .before in
-    (omega arith, scan-more _ _ _ _ _ (symbol (listed o) .scan .inv .1) (sym (c .before .has2 .ensures ∙ ap (has _) (next-state o)) ∙ not-false _ (c .if2 .left)))
+scan-again c = (
+  omega arith,
+  scan-more _ _ _ _ _ (symbol (listed (c .before .before)) .scan .inv .1) (sym (c .before .has2 .ensures ∙ ap (has _) (next-state (c .before .before))) ∙ not-false _ (c .if2 .left)),
+)
 
 bit-requires : tie.Need-bit-requires Inv-scan μ-scan Inv-loop μ-loop
 bit-requires c κs = search needs
 
 sub-left : tie.Need-sub-left Inv-scan μ-scan Inv-loop μ-loop
 sub-left c =
-    let s = c .before .before in
-    let t = s .before .before in
-    leave-room _ _ _ _ _ _ _ _ (state (s .before) .loop .inv .1) (omega arith) (sym (t .before .has .ensures) ∙ t .if1 .taken) (leads-out s (c .before .if3 .taken)) (c .bit .ensures)
+    let t = out (c .before) in
+    leave-room _ _ _ _ _ _ _ _ (state (c .before .before .before) .loop .inv .1) (t .0) (t .1) (t .2) (c .bit .ensures)
 
 add-q : tie.Need-add-q Inv-scan μ-scan Inv-loop μ-loop
 add-q c = search needs
@@ -121,19 +131,16 @@ loop-less : tie.Need-loop-less Inv-scan μ-scan Inv-loop μ-loop
 loop-less c = search needs
 
 loop-again : tie.Need-loop-again Inv-scan μ-scan Inv-loop μ-loop
-loop-again c =
-    let h = c .before in
-    let o = h .before .before in
-    let s = o .loop .inv .1 in (
-      omega arith,
-      ⊎-elim
-          (λ w. let l : tie.Left-scan Inv-scan μ-scan Inv-loop μ-loop = record { before = record { before = record { before = h; if1 = w .0 }; scan = w .1 }; scan-test = w .2 } in
-          rw (w .5) (leave-taken _ _ _ _ _ _ _ _ s (omega arith) (sym (h .has .ensures) ∙ w .0 .taken) (leads-out l (w .3 .taken)) (w .4 .ensures)))
-          (⊎-elim
-          (λ w. let e : w .1 .k ≡ start o .args .u = omega arith in rw (w .4) (leave-stays _ _ _ _ _ _ _ _ s (rw e at (w .1 .inv .1))))
-          (λ w. rw (w .1) (leave-absent _ _ _ _ _ _ _ _ s (sym (h .has .ensures) ∙ w .0 .left))))
-          (c .if1 .came),
-    )
+loop-again c = (
+  omega arith,
+  ⊎-elim
+      (λ w. let t = out (record { before = record { before = record { before = record { before = c .before; if1 = w .0 }; scan = w .1 }; scan-test = w .2 }; if3 = w .3 }) in
+      rw (w .5) (leave-taken _ _ _ _ _ _ _ _ (turn (c .before) .loop .inv .1) (t .0) (t .1) (t .2) (w .4 .ensures)))
+      (⊎-elim
+      (λ w. let e : w .1 .k ≡ start (turn (c .before)) .args .u = omega arith in rw (w .4) (leave-stays _ _ _ _ _ _ _ _ (turn (c .before) .loop .inv .1) (rw e at (w .1 .inv .1))))
+      (λ w. rw (w .1) (leave-absent _ _ _ _ _ _ _ _ (turn (c .before) .loop .inv .1) (sym (c .before .has .ensures) ∙ w .0 .left))))
+      (c .if1 .came),
+)
 
 returns : tie.Need-returns Inv-scan μ-scan Inv-loop μ-loop
 returns c = leave-all _ _ _ _ _ _ _ _ (c .before .loop .inv .1) (omega arith)

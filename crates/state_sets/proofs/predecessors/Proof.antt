@@ -44,9 +44,7 @@ size-requires : tie.Need-size-requires Inv-loop μ-loop
 size-requires c κs = search needs
 
 has-requires : tie.Need-has-requires Inv-loop μ-loop
-has-requires c κs =
-    let o = turn c in
-    omega (arith, c .size .ensures .0, o .before .pre .1 (o .loop .q * 16 + o .before .args .symbol))
+has-requires c κs = omega (arith, c .size .ensures .0, turn c .before .pre .1 (turn c .loop .q * 16 + turn c .before .args .symbol))
 
 bit-requires : tie.Need-bit-requires Inv-loop μ-loop
 bit-requires c κs = search needs
@@ -61,15 +59,15 @@ loop-less : tie.Need-loop-less Inv-loop μ-loop
 loop-less c = search needs
 
 loop-again : tie.Need-loop-again Inv-loop μ-loop
-loop-again c =
-    let h = c .before in
-    let v = turn (h .before) .loop .inv .1 in (
-      omega arith,
+loop-again c = (
+  omega arith,
+  let h = c .before in
+      let v = turn (h .before) .loop .inv .1 in
       ⊎-elim
-          (λ w. w .2 ∙ mask-adds _ _ _ v (w .1 .ensures) (sym (leads h) ∙ w .0 .taken))
-          (λ w. w .1 ∙ mask-passes _ _ _ v (sym (leads h) ∙ w .0 .left))
-          (c .if1 .came),
-    )
+      (λ w. w .2 ∙ mask-adds _ _ _ v (w .1 .ensures) (sym (leads h) ∙ w .0 .taken))
+      (λ w. w .1 ∙ mask-passes _ _ _ v (sym (leads h) ∙ w .0 .left))
+      (c .if1 .came),
+)
 
 returns : tie.Need-returns Inv-loop μ-loop
 unfolding predecessors

@@ -47,16 +47,16 @@ loop-less : tie.Need-loop-less Inv-loop μ-loop
 loop-less c = search needs
 
 loop-again : tie.Need-loop-again Inv-loop μ-loop
-loop-again c =
-    let o = turn (c .before .before) in
-    let v = o .loop .inv .1 in
-    let class = ap (λ i. getD (o .before .args .classes .now) i 0) (c .before .before .size2 .ensures .0) in (
-      omega arith,
+loop-again c = (
+  omega arith,
+  let o = turn (c .before .before) in
+      let v = o .loop .inv .1 in
+      let class = ap (λ i. getD (o .before .args .classes .now) i 0) (c .before .before .size2 .ensures .0) in
       ⊎-elim
-          (λ w. rw (w .1, w .2) (listed-more _ _ _ _ v (omega arith) (λ h. w .0 .taken (class ∙ h))))
-          (λ w. rw (w .1, w .2) (listed-same _ _ _ _ v (sym class ∙ w .0 .left)))
-          (c .if2 .came),
-    )
+      (λ w. rw (w .1, w .2) (listed-more _ _ _ _ v (omega arith) (λ h. w .0 .taken (class ∙ h))))
+      (λ w. rw (w .1, w .2) (listed-same _ _ _ _ v (sym class ∙ w .0 .left)))
+      (c .if2 .came),
+)
 
 returns : tie.Need-returns Inv-loop μ-loop
 returns c = listed-all _ _ _ _ (c .before .before .loop .inv .1) _ (omega arith)

@@ -1,9 +1,11 @@
 -- Row 11, then the count.
+use Prim.Native.Nat.{_+_, _≤_}
 use mathlib.Core.Bool.{true}
 use mathlib.Core.Path.{_≡_, sym, _∙_}
 use borrow.Author.Tests.{not-true, not-false}
 use Rattle.automaton.specs.Automaton.{valid}
 use Rattle.automaton.proofs.Facts.{valid-facts}
+use Rattle.sets.specs.Table.{shorter}
 use Rattle.winning.proofs.Answers.{count-refused, count-given, buffers-few, buffers-all, buffers-fit}
 use native.Mathlib.Omega.{arith}
 use borrow.Author.Needs.{needs}
@@ -20,6 +22,12 @@ symbols c = c .before .before
 
 stands : (c : tie.Else1) → valid (c .before .before .args .t1) ≡ true
 stands c = sym (c .before .valid .ensures) ∙ not-false _ (c .if1 .left)
+
+-- the count is small
+fits : (c : tie.After-size2) → shorter (c .before .controllable-in .result) (c .size2 .result + 1) ≤ 1835008
+fits c =
+    let s = symbols c in
+    buffers-fit _ (stands (passed s)) _ _ _ (s .size .ensures .0) (c .size2 .ensures .0) (c .before .controllable-in .ensures)
 
 valid-requires : tie.Need-valid-requires
 valid-requires c κs = search needs
@@ -42,10 +50,7 @@ buffers-to-requires c κs =
     buffers-few _ (stands (passed s)) _ _ _ (s .size .ensures .0) (c .size2 .ensures .0) (c .before .controllable-in .ensures)
 
 cast-t11 : tie.Need-cast-t11
-cast-t11 c =
-    let o = c .before in
-    let s = symbols o in
-    omega (arith, c .buffers-to .ensures, buffers-fit _ (stands (passed s)) _ _ _ (s .size .ensures .0) (o .size2 .ensures .0) (o .before .controllable-in .ensures))
+cast-t11 c = omega (arith, c .buffers-to .ensures, fits (c .before))
 
 returns-2 : tie.Need-returns-2
 returns-2 c =
