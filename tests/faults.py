@@ -74,7 +74,7 @@ def not_blocking_output(program, given, room):
     with pipe() as (reading, writing):
         os.set_blocking(reading, False)
         os.set_blocking(writing, False)
-        size = fcntl.fcntl(writing, fcntl.F_GETPIPE_SZ)
+        size = fcntl.fcntl(writing, getattr(fcntl, "F_GETPIPE_SZ", 1032))
         front = os.write(writing, bytes(size - min(room, size)))
         end = ended([program], given, stdout=writing)
         with contextlib.suppress(BlockingIOError):
