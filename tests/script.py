@@ -391,7 +391,7 @@ def try_failed_builds(house):
     if log.read_text() != "".join(whole):
         fail("a failed build", "its log is not whole")
     house.write(house.rt, "#!/bin/sh\n")
-    nothing = "day: rt check left no {}; remove {} and try again\n".format(
+    nothing = "day: rt left no {}; remove {} and try again\n".format(
         house.script.parent / "target" / "bin" / "day", house.script.parent / "target")
     house.check("a build that leaves nothing", house.run(["v.bytes"]), 1, "", BUILDING.format("day") + nothing)
     house.rt.unlink()
