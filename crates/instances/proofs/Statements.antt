@@ -142,7 +142,14 @@ heldPage = configurationBytes (configuration 1 (2 ∷ []))
 -- W's answer to Sign with Page and Receipt held; a day's, with 300 bytes of output and 2 events
 -- refused; the game's, where rest is only to be reached; and that a configuration is winning
 abbrev pub signed : Received
-signed = record { refusal = 0; configuration = configuration 1 []; emitted = pad emittedMost (0 ∷ 2 ∷ 3 ∷ []); count = 3; winning = true }
+signed =
+    record {
+      refusal = 0;
+      configuration = configuration 1 [];
+      emitted = pad emittedMost (0 ∷ 2 ∷ 3 ∷ []);
+      count = 3;
+      winning = true;
+    }
 
 abbrev pub longDay : Ran
 longDay = record { refusal = 0; configuration = configuration 1 []; length = 300; refused = 2 }
