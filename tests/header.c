@@ -1,7 +1,7 @@
 /*
- * Every name that include/jaxhophasi.h defines, against what the calls answer. The sheets, the numbers
- * and the bytes that are expected stand here as document 01 has them; the answers are indexed by the
- * header's names.
+ * Every name that include/jaxhophasi.h defines, against what the calls answer. The sheets, the
+ * numbers and the bytes that are expected stand here as document 01 has them; the answers are
+ * indexed by the header's names.
  */
 #include <stdio.h>
 #include <stdlib.h>
@@ -210,8 +210,8 @@ static void check_ran(void)
     same_bytes("the day's output", out, put_out, 4);
 }
 
-/* With Receipt held W may not rest in state 2, and comes to rest in state 1; in state 0 it may rest;
- * in state 3 neither. */
+/* With Receipt held W may not rest in state 2, and comes to rest in state 1; in state 0 it may
+ * rest; in state 3 neither. */
 static void check_status_and_verdict(void)
 {
     static const uint8_t states[] = { 2, 0, 3 }, may[] = { 0, 1, 0 }, can[] = { 1, 1, 0 };

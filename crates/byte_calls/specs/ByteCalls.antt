@@ -36,8 +36,8 @@ AsByValue =
     (record-bytes t c : List ℕ) → length c ≡ configurationSize → (calls : List Call)
     → leavesAll record-bytes t c calls ≡ map laid (replies (automatonOf record-bytes) t (configurationOf c) calls)
 
--- .. so from what `jaxhophasi_initial` leaves in any lent bytes, over a record that row 11 lets pass
--- and its solved table, it is what demand 3 speaks of.
+-- .. so from what `jaxhophasi_initial` leaves in any lent bytes, over a record that row 11 lets
+-- pass and its solved table, it is what demand 3 speaks of.
 abbrev pub BytesEnforced : Type 0
 BytesEnforced =
     (record-bytes t lent : List ℕ) → valid (automatonOf record-bytes) ≡ true → Solved (automatonOf record-bytes) t

@@ -13,8 +13,8 @@ use Rattle.layout.specs.Layout.{numberBytes}
 unfoldable pub statusBytes : Status → List ℕ
 statusBytes s = cond (s .winning) 1 0 ∷ []
 
--- one event: the places of what is emitted, how many of them are used, and whether the configuration
--- is winning
+-- one event: the places of what is emitted, how many of them are used, and whether the
+-- configuration is winning
 unfoldable pub receivedBytes : Received → List ℕ
 receivedBytes r = r .emitted ++ (r .count ∷ cond (r .winning) 1 0 ∷ [])
 

@@ -1,6 +1,6 @@
 -- What the calls of the interface for C leave in the bytes that are lent to them. The contracts of
--- `jaxhophasi_initial`, `jaxhophasi_receive` and `jaxhophasi_run` cite these definitions, and so do the
--- claims on lists of calls.
+-- `jaxhophasi_initial`, `jaxhophasi_receive` and `jaxhophasi_run` cite these definitions, and so do
+-- the claims on lists of calls.
 use Prim.Native.Nat.{ℕ}
 use mathlib.Core.Bool.{cond}
 use mathlib.Core.List.{List, []}
@@ -12,15 +12,15 @@ use Rattle.answers.specs.Answers.{received, ran, ranBuffer}
 use Rattle.layout.specs.Layout.{automatonOf, configurationOf, configurationBytes}
 use Rattle.layout.specs.Answers.{receivedBytes, ranBytes}
 
--- the lent configuration after `jaxhophasi_initial`: the initial one where the record is not refused,
--- and what stood there where it is
+-- the lent configuration after `jaxhophasi_initial`: the initial one where the record is not
+-- refused, and what stood there where it is
 unfoldable pub initialBytes : List ℕ → List ℕ → List ℕ
 initialBytes record-bytes lent =
     let x = initialAnswer (automatonOf record-bytes) in
     cond (eqb (x .refusal) 0) (configurationBytes (x .configuration)) lent
 
--- what a call leaves: its refusal, and the bytes lent for the configuration, for the answer and, by a
--- day, for the output
+-- what a call leaves: its refusal, and the bytes lent for the configuration, for the answer and,
+-- by a day, for the output
 pub record Left : Type 0 where
   pub refusal : ℕ
   pub configuration : List ℕ

@@ -1,5 +1,5 @@
--- What is proved of the layout: what stands at each offset, and that nothing is lost on the way into
--- bytes or out of them.
+-- What is proved of the layout: what stands at each offset, and that nothing is lost on the way
+-- into bytes or out of them.
 use Prim.Native.Nat.{ℕ, _+_, _*_, _/_, _%_, _<_, _^_}
 use mathlib.Core.Path.{_≡_}
 use mathlib.Core.Bool.{Bool, true, false}
@@ -102,8 +102,8 @@ ConfigurationBytesKept = (bytes : List ℕ) → length bytes ≡ configurationSi
 abbrev pub NumberKept : Type 0
 NumberKept = (width v : ℕ) → v < 256 ^ width → numberOf (numberBytes width v) ≡ v
 
--- a refused call leaves the lent configuration as it was, and a day its output; of its answer every
--- byte is 0
+-- a refused call leaves the lent configuration as it was, and a day its output; of its answer
+-- every byte is 0
 abbrev pub RefusedInitialKeeps : Type 0
 RefusedInitialKeeps =
     (record-bytes lent : List ℕ) → (initialAnswer (automatonOf record-bytes) .refusal ≡ 0 → ⊥)

@@ -1,5 +1,5 @@
--- Sizes and offsets in the bytes that a caller lends. `include/jaxhophasi.h` has them under the same
--- names (all but `nextMost`, `capacityMost` and `emittedMost`).
+-- Sizes and offsets in the bytes that a caller lends. `include/jaxhophasi.h` has them under the
+-- same names (all but `nextMost`, `capacityMost` and `emittedMost`).
 use Prim.Native.Nat.{ℕ, _*_}
 
 -- the record: how many places an array has, its size, and where each part begins

@@ -10,7 +10,8 @@ use Rattle.answer_layout.proofs.number_bytes.Statement.{statement}
 use Rattle.answer_layout.proofs.number_bytes.Tie as tie
 
 abbrev Inv-loop : tie.InvT-loop
-Inv-loop value bytes₀ rest₀ i₀ bytes rest i = (i ≤ numberSize) × (sets bytes i (numberBytes (numberSize - i) rest) ≡ sets bytes₀ 0 (numberBytes numberSize value))
+Inv-loop value bytes₀ rest₀ i₀ bytes rest i =
+    (i ≤ numberSize) × (sets bytes i (numberBytes (numberSize - i) rest) ≡ sets bytes₀ 0 (numberBytes numberSize value))
 
 abbrev μ-loop : tie.MeasureT-loop
 μ-loop value bytes₀ rest₀ i₀ bytes rest i = numberSize - i
