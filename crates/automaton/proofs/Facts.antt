@@ -11,27 +11,9 @@ use Rattle.base.specs.Each.{each}
 use Rattle.base.proofs.Bools.{by, either, and-left, and-right, and-pair, and-both, and-none, and-left-false, and-right-false}
 use Rattle.base.proofs.Ranges.{each-at, each-all}
 use Rattle.automaton.specs.Parts.{goes, stands, placesStand}
+pub use Rattle.automaton.specs.Claims.{Valid}
+use Rattle.automaton.specs.Claims.{ValidAsWorded}
 use Rattle.automaton.specs.Automaton.{Automaton, class, controllables, flag, step, shaped, ranged, classesStand, flagsStand, nextStand, mostClass, valid}
-
-pub record Valid (a : Automaton) : Type 0 where
-  pub classes-length : length (a .classes) ≡ 16
-  pub accepting-length : length (a .accepting) ≡ 32
-  pub next-length : length (a .next) ≡ 512
-  pub states-low : 1 ≤ a .states
-  pub states-high : a .states ≤ 32
-  pub symbols-low : 1 ≤ a .symbols
-  pub symbols-high : a .symbols ≤ 16
-  pub capacity-low : 1 ≤ a .capacity
-  pub capacity-high : a .capacity ≤ 6
-  pub initial-below : a .initial < a .states
-  pub class-high : (e : ℕ) → class a e ≤ mostClass
-  pub class-unused : (e : ℕ) → a .symbols ≤ e → class a e ≡ 0
-  pub controllables-high : controllables a ≤ 8
-  pub flag-high : (q : ℕ) → flag a q ≤ 1
-  pub flag-unused : (q : ℕ) → a .states ≤ q → flag a q ≡ 0
-  pub step-below : (q e : ℕ) → q < a .states → e < a .symbols → step a q e < a .states
-  pub step-no-state : (q e : ℕ) → a .states ≤ q → e < 16 → step a q e ≡ 0
-  pub step-no-symbol : (q e : ℕ) → a .symbols ≤ e → e < 16 → step a q e ≡ 0
 
 -- a place that is used, and one that is not
 module _ (used : Bool) (limit v : ℕ) where
@@ -186,3 +168,6 @@ step-high {a} v q e l =
     (λ w. v .step-below q e (ltb-true q (a .states) u) (ltb-true e (a .symbols) w))
     (λ w. omega (arith, v .step-no-symbol q e (ltb-false e (a .symbols) w) l)))
     (λ u. omega (arith, v .step-no-state q e (ltb-false q (a .states) u) l))
+
+pub valid-as-worded : ValidAsWorded
+valid-as-worded a = (valid-facts a, valid-of a)

@@ -79,13 +79,17 @@ module _ (a : Automaton) (s : Store) where
   day-row es out = row-of-day (length out) es held _ (λ h. rw h) (λ h. rw h)
 
 pub follows-published : FollowsPublished
-unfolding expected refusalIn
+unfolding expected refusalIn storeAll feed refusedOf
 follows-published a s = record {
   passes = passes a s;
   holds = holds a s;
   refuses = refuses a s;
+  event-fed = λ e. refl;
+  none-fed = refl;
+  first-fed = λ e es. refl;
   day-short = day-short a s;
   day-fed = day-fed a s;
+  none-counted = refl;
   counted = counted a s;
   not-counted = not-counted a s;
   event-row = event-rows-as-worded (bySets a) a (positionAt a s);

@@ -11,7 +11,7 @@ use Rattle.automaton.specs.Automaton.{class, run}
 use Rattle.sets.specs.Claims.{Winning}
 use Rattle.releasing.specs.Claims.{Unknown, Full, Taken, RowsOfEvent, Longest}
 use Rattle.answers.specs.Claims.{RowOfDay}
-use Rattle.claims.specs.Store.{Store, store, storeAll, events, feed, refusedOf}
+use Rattle.claims.specs.Store.{Store, store, storeAll, event, events, feed, refusedOf}
 use Rattle.claims.specs.Calls.{one, many, refusalIn, expected}
 
 -- From an output and a buffer the function goes on to z: of the buffer's front parts that lead the
@@ -30,10 +30,15 @@ pub record AsPublished (a : Automaton) (s : Store) : Type 0 where
       → Releases a (s .output) (s .buffer ++ e ∷ []) (store a s e)
   -- an event that a row refuses, by this buffer, changes nothing
   pub refuses : (e : ℕ) → Unknown a e ⊎ Full a (length (s .buffer)) e → store a s e ≡ s
+  -- an event is fed as it is; of a list, one after the other
+  pub event-fed : (e : ℕ) → feed a s (event e) ≡ store a s e
+  pub none-fed : storeAll a s [] ≡ s
+  pub first-fed : (e : ℕ) (es : List ℕ) → storeAll a s (e ∷ es) ≡ storeAll a (store a s e) es
   -- a day that row 16 refuses, by this buffer, brings no event; any other brings all, in order
   pub day-short : (es : List ℕ) (size : ℕ) → size < length es + length (s .buffer) → feed a s (events es size) ≡ s
   pub day-fed : (es : List ℕ) (size : ℕ) → length es + length (s .buffer) ≤ size → feed a s (events es size) ≡ storeAll a s es
   -- of a day's events those are counted that a row refuses
+  pub none-counted : refusedOf a s [] ≡ 0
   pub counted : (e : ℕ) (es : List ℕ) → Unknown a e ⊎ Full a (length (s .buffer)) e
       → refusedOf a s (e ∷ es) ≡ suc (refusedOf a s es)
   pub not-counted : (e : ℕ) (es : List ℕ) → Taken a (length (s .buffer)) e → refusedOf a s (e ∷ es) ≡ refusedOf a (store a s e) es

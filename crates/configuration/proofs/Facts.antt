@@ -15,8 +15,10 @@ use Rattle.base.proofs.Padding.{pad-length, pad-outside, pad-take, take-pad}
 use Rattle.base.proofs.Every.{Every}
 use Rattle.automaton.specs.declared.Automaton.{Automaton}
 use Rattle.automaton.specs.Automaton.{controllable}
-use Rattle.automaton.proofs.Facts.{Valid}
+use Rattle.automaton.proofs.Facts.{Valid, valid-facts}
+use Rattle.automaton.proofs.Classes.{class-one}
 use Rattle.sets.specs.Table.{Controllable, Buffer}
+use Rattle.configuration.specs.Claims.{ConsistentAsWorded}
 use Rattle.configuration.specs.Configuration.{Configuration, Position, heldEvents, positionOf, configuration, controllableSymbol, placeStands, bufferStands, consistentIn, consistent}
 
 -- a controllable symbol
@@ -112,6 +114,28 @@ module _ (a : Automaton) (c : Configuration) where
 
   pub held-buffer : Consistent a c → Buffer a (heldEvents c)
   held-buffer k = (k .events, omega (arith, k .held-length, k .held-high))
+
+-- row 13 in document 01's words
+pub consistent-as-worded : ConsistentAsWorded
+unfolding consistentIn bufferStands placeStands
+consistent-as-worded a c v long = (
+  λ h.
+      let k = consistent-facts a c (valid-facts a v) h in
+      record {
+        state-below = k .state-below;
+        few = k .held-high;
+        events = λ i l. let e = held-event a c k i l in (e .0, class-one a (getD (c .buffer) i 0) .0 (e .1));
+        unused = λ i l _. unused-place a c k i l;
+      },
+  λ w.
+      and-both (eq-eqb _ 6 long)
+      (and-both (lt-ltb _ _ (w .state-below))
+      (and-both (le-leb _ _ (w .few))
+      (each-all 6 (place a c) (λ i b.
+      place-when a c i
+      (λ l. let e = w .events i l in (e .0, class-one a (getD (c .buffer) i 0) .1 (e .1)))
+      (λ l. w .unused i l b))))),
+)
 
 -- the position comes back from the configuration that is made of it
 pub position-made : (p : Position) → positionOf (configuration p) ≡ p

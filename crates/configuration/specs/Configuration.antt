@@ -28,7 +28,7 @@ positionOf c = record { state = c .state; buffer = heldEvents c }
 abbrev pub begun : ℕ → Position
 begun q = record { state = q; buffer = [] }
 
--- the configuration that says so
+-- the configuration of a position
 abbrev pub configuration : Position → Configuration
 configuration p = record { state = p .state; held = length (p .buffer); buffer = pad 6 (p .buffer) }
 

@@ -10,10 +10,10 @@ use Rattle.automaton.specs.Automaton.{step, shaped, ranged, valid}
 use Rattle.configuration.specs.Configuration.{initialAnswer}
 use Rattle.layout.specs.Offsets.{automatonSize, numberSize}
 use Rattle.layout.specs.Layout.{part, automatonOf, configurationOf}
-use Rattle.layout.specs.Calls.{receivedLeft, ranLeft, receiveLeaves, runLeaves}
+use Rattle.answers.specs.Answers.{received, ran}
 use Rattle.layout.proofs.Offsets.{offsets-hold}
 use Rattle.layout.proofs.Trips.{automaton-kept, automaton-bytes-kept, configuration-kept, configuration-bytes-kept, number-kept}
-use Rattle.layout.proofs.Trips.{refused-initial-keeps, refused-event-keeps, refused-run-keeps}
+use Rattle.layout.proofs.Trips.{left-as-answered, refused-initial-keeps, refused-event-keeps, refused-run-keeps}
 use Rattle.layout.proofs.Handing.{initial-handed-on, event-handed-on, run-handed-on}
 use Rattle.byte_calls.proofs.ByteCalls.{as-by-value, bytes-enforced}
 use Rattle.marked_cases.specs.Cases.{automatonW}
@@ -81,12 +81,12 @@ accepted-w : initialAnswer (automatonOf recordW) .refusal ≡ 0
 unfolding initialAnswer
 accepted-w = rw (kept-w, valid-w)
 
-refused-14 : receiveLeaves recordW tableW atZero 4 .refusal ≡ 14
-unfolding computing part configurationOf receiveLeaves receivedLeft
+refused-14 : received (automatonOf recordW) tableW (configurationOf atZero) 4 .refusal ≡ 14
+unfolding computing part configurationOf
 refused-14 = rw kept-w refl
 
-refused-16 : runLeaves recordW tableW atZero (0 ∷ []) [] .refusal ≡ 16
-unfolding computing part configurationOf runLeaves ranLeft
+refused-16 : ran (automatonOf recordW) tableW (configurationOf atZero) (0 ∷ []) [] .refusal ≡ 16
+unfolding computing part configurationOf
 refused-16 = rw kept-w refl
 
 pub layouts : Layouts
@@ -105,6 +105,8 @@ layouts =
       initial-handed-on = initial-handed-on recordW anyBytes accepted-w;
       event-handed-on = event-handed-on recordW tableW atZero 0 refl;
       run-handed-on = run-handed-on recordW tableW atZero (0 ∷ 2 ∷ []) (filled 2 9) refl;
-      as-by-value = λ xs. as-by-value anyRecord [] anyBytes refl xs;
+      left-as-answered =
+          (left-as-answered .event-refusal signed, left-as-answered .run-refusal longDay (7 ∷ []), left-as-answered .run-output longDay (7 ∷ []));
+      as-by-value = λ xs. as-by-value recordW tableW atZero refl xs;
       bytes-enforced = λ xs. bytes-enforced recordW tableW anyBytes (rw kept-w valid-w) (rw kept-w solved-w) xs;
     }

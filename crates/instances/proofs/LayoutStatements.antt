@@ -115,9 +115,11 @@ pub record Layouts : Type 0 where
       ≡ received (automatonOf recordW) tableW (configurationOf atZero) 0 .configuration
   pub run-handed-on : configurationOf (runLeaves recordW tableW atZero (0 ∷ 2 ∷ []) (filled 2 9) .configuration)
       ≡ ran (automatonOf recordW) tableW (configurationOf atZero) (0 ∷ 2 ∷ []) (filled 2 9) .configuration
-  -- calls through the interface over any bytes for a record, with a table that is none of it
-  pub as-by-value : (xs : List Call) → leavesAll anyRecord [] anyBytes xs
-      ≡ map laid (replies (automatonOf anyRecord) [] (configurationOf anyBytes) xs)
+  -- what a call leaves beside its answer
+  pub left-as-answered : (receivedLeft signed .refusal ≡ 0) × (ranLeft longDay (7 ∷ []) .refusal ≡ 0) × (ranLeft longDay (7 ∷ []) .output ≡ 7 ∷ [])
+  -- calls through the interface over W's bytes
+  pub as-by-value : (xs : List Call) → leavesAll recordW tableW atZero xs
+      ≡ map laid (replies (automatonOf recordW) tableW (configurationOf atZero) xs)
   -- W's record in its bytes, any calls
   pub bytes-enforced : (xs : List Call) → (leavesAll recordW tableW (initialBytes recordW anyBytes) xs
       ≡ map laid (replies (automatonOf recordW) tableW (initialOf (automatonOf recordW)) xs))

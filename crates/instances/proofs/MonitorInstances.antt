@@ -11,18 +11,21 @@ use Rattle.base.specs.Pad.{pad}
 use Rattle.base.specs.Masks.{has}
 use Rattle.base.proofs.Bools.{either}
 use Rattle.automaton.specs.Automaton.{accepts, run, valid}
-use Rattle.automaton.proofs.Classes.{class-one}
+use Rattle.automaton.proofs.Facts.{valid-as-worded}
+use Rattle.automaton.proofs.Classes.{class-one, flag-one}
 use Rattle.sets.specs.Sets.{acceptingSet, admits, stays, refine, settle, settled, setsOf, emptySets, into, sets}
 use Rattle.sets.specs.Table.{index, short, table}
 use Rattle.sets.specs.Claims.{Winning}
 use Rattle.sets.proofs.Numbering.{numbered}
+use Rattle.sets.proofs.Tables.{short-as-worded}
 use Rattle.configuration.specs.Configuration.{heldEvents, consistent, configuration, initialOf}
 use Rattle.releasing.specs.Step.{bySets, byTable, release}
 use Rattle.releasing.specs.Claims.{Full, Longest}
 use Rattle.releasing.proofs.Worded.{event-rows-as-worded, releases-longest, only-longest}
 use Rattle.answers.specs.Answers.{isWinning, status, received}
 use Rattle.answers.specs.Claims.{Clear}
-use Rattle.answers.proofs.Worded.{status-rows-as-worded, receive-rows-as-worded, run-rows-as-worded}
+use Rattle.configuration.proofs.Facts.{consistent-as-worded}
+use Rattle.answers.proofs.Worded.{status-rows-as-worded, receive-rows-as-worded, run-rows-as-worded, room-as-worded}
 use Rattle.claims.specs.Store.{Store, empty, stateOf, added, moved, store, storeAll, lacksRoom, feed, feedAll, refusedOf}
 use Rattle.claims.specs.Store.{acceptedOf, acceptedBy, acceptedAll}
 use Rattle.claims.specs.Calls.{Call, handedBack, reply, fedBy, configurationAt, since, expected, expectedAll}
@@ -93,6 +96,20 @@ rows =
       only-14 = λ p e. event-rows-as-worded over-w automatonW p e .row-14 .0;
       only-15 = λ p h. event-rows-as-worded over-w automatonW p 2 .row-15 .0 h .2;
       only-0 = λ p h. either (event-rows-as-worded over-w automatonW p 2 .accepted .0 h .1) (λ c. absurd (c refl)) (λ l. l);
+      event-14 = λ p. event-rows-as-worded over-w automatonW p 4 .row-14 .1 (omega arith);
+      event-0 = event-rows-as-worded over-w automatonW (at 0 []) 2 .accepted .1 (omega arith, inr (omega arith));
+      receive-11 = receive-rows-as-worded wideV t startV 0 .first-rows .row-11 .1 invalid-wide;
+      receive-0 = receive-rows-as-worded automatonV t startV 1 .accepted .1 (clear-v, (omega arith, inr (omega arith)));
+      receive-only-0 = λ e h. receive-rows-as-worded automatonW tableW (configuration (at 0 (2 ∷ 2 ∷ []))) e .accepted .0 h .1;
+      run-11 = run-rows-as-worded wideV t startV (0 ∷ 1 ∷ []) (9 ∷ []) .first-rows .row-11 .1 invalid-wide;
+      run-0 = run-rows (9 ∷ 9 ∷ []) .accepted .1 (clear-v, omega arith);
+      run-only-0 = λ out h. run-rows out .accepted .0 h .1;
+      lacks = room-as-worded 1 (0 ∷ 1 ∷ []) 0 .lacks .1 (omega arith);
+      enough = λ size h. room-as-worded size (0 ∷ 1 ∷ []) 0 .enough .0 h;
+      valid-words = λ h. valid-as-worded wideV .0 h .states-high;
+      short-words = λ l h. let k = short-as-worded automatonW l .0 h in omega (arith, buffers-w);
+      consistent-words = λ c l h. consistent-as-worded automatonV c valid-v l .0 h .state-below;
+      flag-one = flag-one automatonV 2 .1 refl;
       only-16 = λ out h. run-rows out .row-16 .0 h .1;
     }
 
@@ -161,6 +178,9 @@ releasing =
       unknown = full .refuses 4 (inl (omega arith));
       day-short = full .day-short (0 ∷ []) 2 (omega arith);
       day-fed = full .day-fed (0 ∷ []) 3 (omega arith);
+      event-fed = full .event-fed 0;
+      one-by-one = full .first-fed 4 (0 ∷ []) ∙ follows-published automatonW _ .first-fed 0 [] ∙ follows-published automatonW _ .none-fed;
+      day-accepted = full .day-row (0 ∷ []) (9 ∷ 9 ∷ 9 ∷ []) .accepted .1 (omega arith);
       counts =
           full .counted 2 (4 ∷ 1 ∷ []) (inr third) ∙
           ap suc (full .counted 4 (1 ∷ []) (inl (omega arith))) ∙

@@ -5,17 +5,17 @@ use mathlib.Core.Bool.{true, false}
 use mathlib.Core.List.{List, [], _∷_, _++_, map}
 use lib.ListN.{length}
 use Rattle.automaton.specs.declared.Automaton.{Automaton}
-use Rattle.automaton.specs.Automaton.{controllable, accepts, run, assembled}
-use Rattle.sets.specs.Table.{table, Solved}
+use Rattle.automaton.specs.Automaton.{controllable, accepts, run, valid, assembled}
+use Rattle.sets.specs.Table.{short, table, Solved}
 use Rattle.sets.specs.Definition6.{AllUncontrollable}
 use Rattle.sets.specs.Claims.{Winning}
 use Rattle.configuration.specs.declared.Configuration.{Configuration}
 use Rattle.configuration.specs.Configuration.{Position, configuration, consistent, initialOf}
 use Rattle.winning.specs.Solving.{solvedTable}
 use Rattle.releasing.specs.Step.{byTable, eventRefusal}
-use Rattle.releasing.specs.Claims.{Longest}
-use Rattle.answers.specs.Answers.{callRefusal, status, receiveRefusal, received, refusedRun, runRefusal}
-use Rattle.claims.specs.Store.{Store, empty, positionAt, store, storeAll, events, feed, refusedOf}
+use Rattle.releasing.specs.Claims.{Taken, Longest}
+use Rattle.answers.specs.Answers.{tooShort, callRefusal, status, receiveRefusal, received, refusedRun, runRefusal}
+use Rattle.claims.specs.Store.{Store, empty, positionAt, store, storeAll, event, events, feed, refusedOf}
 use Rattle.claims.specs.Calls.{Call, one, many, Reply, receive, refusalIn, replies, configurationAfter, emittedAll, expected}
 use Rattle.claims.specs.Moments.{Moment, emittedAt}
 use Rattle.claims.specs.Rival.{Strategy, play, Lost, lostBound}
@@ -53,6 +53,22 @@ pub record Rows : Type 0 where
   pub only-14 : (p : Position) (e : ℕ) → rowW p e ≡ 14 → 4 ≤ e
   pub only-15 : (p : Position) → rowW p 2 ≡ 15 → 2 ≤ length (p .buffer)
   pub only-0 : (p : Position) → rowW p 2 ≡ 0 → length (p .buffer) < 2
+  -- the same of a call: what refuses one event or a day by 11, and what accepts it
+  pub event-14 : (p : Position) → rowW p 4 ≡ 14
+  pub event-0 : rowW (at 0 []) 2 ≡ 0
+  pub receive-11 : receiveRefusal wideV (table automatonV) startV 0 ≡ 11
+  pub receive-0 : receiveRefusal automatonV (table automatonV) startV 1 ≡ 0
+  pub receive-only-0 : (e : ℕ) → receiveRefusal automatonW tableW (configuration (at 0 (2 ∷ 2 ∷ []))) e ≡ 0 → Taken automatonW 2 e
+  pub run-11 : runRefusal wideV (table automatonV) startV (0 ∷ 1 ∷ []) (9 ∷ []) ≡ 11
+  pub run-0 : runRefusal automatonV (table automatonV) startV (0 ∷ 1 ∷ []) (9 ∷ 9 ∷ []) ≡ 0
+  pub run-only-0 : (out : List ℕ) → runRefusal automatonV (table automatonV) startV (0 ∷ 1 ∷ []) out ≡ 0 → 2 ≤ length out
+  pub lacks : tooShort 1 (0 ∷ 1 ∷ []) 0 ≡ true
+  pub enough : (size : ℕ) → tooShort size (0 ∷ 1 ∷ []) 0 ≡ false → 2 ≤ size
+  -- rows 11, 12 and 13 themselves: no record that passes has 40 states, W's table has 14 places at least, V has no state 3
+  pub valid-words : valid wideV ≡ true → 40 ≤ 32
+  pub short-words : (t : List ℕ) → short automatonW t ≡ true → length t < 14
+  pub consistent-words : (c : Configuration) → length (c .buffer) ≡ 6 → consistent automatonV c ≡ true → c .state < 3
+  pub flag-one : accepts automatonV 2 ≡ true
   pub only-16 : (out : List ℕ) → runRefusal automatonV (table automatonV) startV (0 ∷ 1 ∷ []) out ≡ 16 → length out < 2
 
 -- the published function with so much put out and held
@@ -78,6 +94,9 @@ pub record Releasing : Type 0 where
   -- a day of Sign, with two held, wants room for three
   pub day-short : feed automatonW twoHeld (events (0 ∷ []) 2) ≡ twoHeld
   pub day-fed : feed automatonW twoHeld (events (0 ∷ []) 3) ≡ store automatonW twoHeld 0
+  pub event-fed : feed automatonW twoHeld (event 0) ≡ store automatonW twoHeld 0
+  pub one-by-one : storeAll automatonW twoHeld (4 ∷ 0 ∷ []) ≡ store automatonW (store automatonW twoHeld 4) 0
+  pub day-accepted : refusalIn (expected automatonW twoHeld (many (0 ∷ []) (9 ∷ 9 ∷ 9 ∷ []))) ≡ 0
   -- of a day of Page, a kind that there is not and Withdraw it then refuses two
   pub counts : refusedOf automatonW twoHeld (2 ∷ 4 ∷ 1 ∷ []) ≡ 2
   pub event-row : refusalIn (expected automatonW twoHeld (one 2)) ≡ 15

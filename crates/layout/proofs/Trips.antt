@@ -18,7 +18,7 @@ use Rattle.layout.specs.Offsets.{automatonClasses, automatonAccepting, a
 use Rattle.layout.specs.Layout.{part, automatonOf, automatonBytes, configurationOf, configurationBytes, numberOf, numberBytes}
 use Rattle.layout.specs.Answers.{receivedBytes, ranBytes}
 use Rattle.layout.specs.Calls.{initialBytes, receivedLeft, ranLeft, receiveLeaves, runLeaves}
-use Rattle.layout.specs.Claims.{AutomatonKept, AutomatonBytesKept, ConfigurationKept, ConfigurationBytesKept, NumberKept}
+use Rattle.layout.specs.Claims.{AutomatonKept, AutomatonBytesKept, ConfigurationKept, ConfigurationBytesKept, NumberKept, LeftAsAnswered}
 use Rattle.layout.specs.Claims.{RefusedInitialKeeps, RefusedEventKeeps, RefusedRunKeeps}
 
 -- the arrays of a record, found again behind its four numbers
@@ -128,3 +128,14 @@ refused-run-keeps record-bytes t c events out long refused =
     by (eqb (runRefusal (automatonOf record-bytes) t (configurationOf c) events out) 0)
     (λ h. absurd (refused (rw h)))
     (λ h. rw h (configuration-bytes-kept c long, refl, refl))
+
+pub left-as-answered : LeftAsAnswered
+unfolding receivedLeft ranLeft
+left-as-answered =
+    record {
+      event-refusal = λ r. refl;
+      event-configuration = λ r. refl;
+      run-refusal = λ r out. refl;
+      run-configuration = λ r out. refl;
+      run-output = λ r out. refl;
+    }

@@ -102,6 +102,15 @@ ConfigurationBytesKept = (bytes : List ℕ) → length bytes ≡ configurationSi
 abbrev pub NumberKept : Type 0
 NumberKept = (width v : ℕ) → v < 256 ^ width → numberOf (numberBytes width v) ≡ v
 
+-- a call leaves what it answers by value: the refusal and a day's output as they are, the
+-- configuration in its bytes
+pub record LeftAsAnswered : Type 0 where
+  pub event-refusal : (r : Received) → receivedLeft r .refusal ≡ r .refusal
+  pub event-configuration : (r : Received) → receivedLeft r .configuration ≡ configurationBytes (r .configuration)
+  pub run-refusal : (r : Ran) (out : List ℕ) → ranLeft r out .refusal ≡ r .refusal
+  pub run-configuration : (r : Ran) (out : List ℕ) → ranLeft r out .configuration ≡ configurationBytes (r .configuration)
+  pub run-output : (r : Ran) (out : List ℕ) → ranLeft r out .output ≡ out
+
 -- a refused call leaves the lent configuration as it was, and a day its output; of its answer
 -- every byte is 0
 abbrev pub RefusedInitialKeeps : Type 0
@@ -111,13 +120,13 @@ RefusedInitialKeeps =
 
 abbrev pub RefusedEventKeeps : Type 0
 RefusedEventKeeps =
-    (record-bytes t c : List ℕ) (e : ℕ) → length c ≡ configurationSize → let x = receiveLeaves record-bytes t c e in
-    (x .refusal ≡ 0 → ⊥) → (x .configuration ≡ c) × (x .answer ≡ replicate receivedSize 0)
+    (record-bytes t c : List ℕ) (e : ℕ) → length c ≡ configurationSize
+    → (received (automatonOf record-bytes) t (configurationOf c) e .refusal ≡ 0 → ⊥) → let x = receiveLeaves record-bytes t c e in (x .configuration ≡ c) × (x .answer ≡ replicate receivedSize 0)
 
 abbrev pub RefusedRunKeeps : Type 0
 RefusedRunKeeps =
-    (record-bytes t c events out : List ℕ) → length c ≡ configurationSize → let x = runLeaves record-bytes t c events out in
-    (x .refusal ≡ 0 → ⊥) → (x .configuration ≡ c) × (x .answer ≡ replicate ranSize 0) × (x .output ≡ out)
+    (record-bytes t c events out : List ℕ) → length c ≡ configurationSize
+    → (ran (automatonOf record-bytes) t (configurationOf c) events out .refusal ≡ 0 → ⊥) → let x = runLeaves record-bytes t c events out in (x .configuration ≡ c) × (x .answer ≡ replicate ranSize 0) × (x .output ≡ out)
 
 -- what a call hands back is what the next call takes out of the lent bytes, so a list of calls over lent bytes is that list of calls
 abbrev pub InitialHandedOn : Type 0

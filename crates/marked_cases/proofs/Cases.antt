@@ -13,7 +13,7 @@ use Rattle.sets.specs.Table.{rank, value, shorter, index, buffersCount, short, 
 use Rattle.configuration.specs.Configuration.{heldEvents, controllableSymbol, placeStands, bufferStands, consistentIn, initialOf}
 use Rattle.winning.specs.Solving.{countAnswer}
 use Rattle.releasing.specs.Step.{byTable, qualifies, qualifying, release, remaining, arrival, effect, eventRows}
-use Rattle.answers.specs.Answers.{tableRows, configurationRows, tableRows, configurationRows, callRows, isWinning, callRefusal, status, receiveRefusal, received}
+use Rattle.answers.specs.Answers.{tableRows, configurationRows, callRows, isWinning, callRefusal, status, receiveRefusal, received}
 use Rattle.claims.specs.Calls.{handedBack, reply, replies}
 use Rattle.marked_cases.specs.Cases.{automatonV, automatonW, sized, MarkedCases}
 

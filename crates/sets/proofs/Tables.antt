@@ -3,12 +3,13 @@ use Prim.Native.Nat.{ℕ, zero, suc, _+_, _*_, _<_}
 use mathlib.Core.Path.{_≡_, refl, _∙_, ap}
 use mathlib.Core.List.{List, [], _∷_, _++_, map}
 use native.Mathlib.Omega.{arith}
+use borrow.Author.Tests.{ltb-true, lt-ltb}
 use lib.ListN.{length, getD, length-append, length-map, List·getD-append, List·getD-map}
 use Rattle.base.specs.Masks.{has}
 use Rattle.automaton.specs.declared.Automaton.{Automaton}
 use Rattle.sets.specs.Sets.{Sets, sets}
-use Rattle.sets.specs.Table.{index, buffersCount, Buffer, buffersTo, pairs, table}
-use Rattle.sets.specs.Claims.{TableIsSolved}
+use Rattle.sets.specs.Table.{index, buffersCount, short, Buffer, buffersTo, pairs, table}
+use Rattle.sets.specs.Claims.{ShortAsWorded, TableIsSolved}
 use Rattle.sets.proofs.Numbering.{buffers-length, buffer-at}
 
 pub pairs-length : (ts : List Sets) → length (pairs ts) ≡ 2 * length ts
@@ -59,3 +60,7 @@ table-is-solved a v = (
     intermediate = λ w b q _. ap (λ x. has x q) (before a rest (2 * index a w + 1) (omega (arith, buffer-at a w b .0)) ∙ table-at a w b .1);
   },
 )
+
+pub short-as-worded : ShortAsWorded
+unfolding short
+short-as-worded a t = (ltb-true (length t) (2 * buffersCount a), lt-ltb (length t) (2 * buffersCount a))

@@ -10,7 +10,7 @@ use Rattle.base.specs.Masks.{has}
 use Rattle.automaton.specs.declared.Automaton.{Automaton}
 use Rattle.automaton.specs.Automaton.{accepts, step, valid}
 use Rattle.sets.specs.Sets.{sets}
-use Rattle.sets.specs.Table.{index, buffersCount, Buffer, table, Solved}
+use Rattle.sets.specs.Table.{index, buffersCount, short, Buffer, table, Solved}
 use Rattle.sets.specs.Definition6.{States, Final, Uncontrollable, Definition6}
 
 -- q is in S, or in I, of a buffer
@@ -64,6 +64,10 @@ OneToOne = (a : Automaton) → valid a ≡ true → (v w : List ℕ) → Buffer 
 -- .. and each number below T is a buffer's
 abbrev pub Onto : Type 0
 Onto = (a : Automaton) → valid a ≡ true → (j : ℕ) → j < buffersCount a → (w : List ℕ) × Buffer a w × (index a w ≡ j)
+
+-- row 12: a table is too short exactly when it has fewer than 2T places
+abbrev pub ShortAsWorded : Type 0
+ShortAsWorded = (a : Automaton) (t : List ℕ) → (short a t ≡ true) ↔ (length t < 2 * buffersCount a)
 
 -- the table has 2T places and is solved, whatever follows it
 abbrev pub TableIsSolved : Type 0

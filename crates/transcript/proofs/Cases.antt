@@ -15,7 +15,7 @@ use Rattle.sets.specs.Sets.{acceptingSet, admits, stays, refine, settle, settle
 use Rattle.sets.specs.Table.{rank, value, shorter, index, buffersCount, short, extended, buffersAt, buffersTo, pairs, table}
 use Rattle.configuration.specs.Configuration.{heldEvents, controllableSymbol, placeStands, bufferStands, consistentIn, initialOf}
 use Rattle.releasing.specs.Step.{byTable, qualifies, qualifying, release, remaining, arrival, effect, eventRows}
-use Rattle.answers.specs.Answers.{tableRows, configurationRows, tableRows, configurationRows, callRows, isWinning, callRefusal, status, receiveRefusal, received}
+use Rattle.answers.specs.Answers.{tableRows, configurationRows, callRows, isWinning, callRefusal, status, receiveRefusal, received}
 use Rattle.text.specs.Decimal.{ascii, digit, digits, decimal}
 use Rattle.lines.specs.Lines.{refusedEventLine, endLine, faultLine, refusalLine}
 use Rattle.status_lines.specs.StatusLines.{winningEnd, automatonLine, spaced, emission, eventLine}
