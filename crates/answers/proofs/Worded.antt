@@ -18,7 +18,7 @@ use Rattle.releasing.specs.Step.{byTable, eventRows, eventRefusal}
 use Rattle.releasing.specs.Claims.{RowsOfEvent}
 use Rattle.releasing.proofs.Worded.{event-number, event-rows-as-worded}
 use Rattle.answers.specs.Answers.{tableRows, configurationRows, callRows, callRefusal, receiveRefusal, room, tooShort, runRefusal}
-use Rattle.answers.specs.Claims.{CallRows, Clear, RowOfDay}
+use Rattle.answers.specs.Claims.{CallRows, Clear, RowOfRun}
 use Rattle.answers.specs.Claims.{StatusRowsAsWorded, ReceiveRowsAsWorded, RoomAsWorded, RunRowsAsWorded}
 use Rattle.answers.proofs.Refusals.{rows-pass, place}
 
@@ -152,32 +152,32 @@ module _ (size : ℕ) (events : List ℕ) (held : ℕ) where
   lacking = tooShort size events held
 
   -- a number that is 16 where there is too little room, and else 0
-  pub row-of-day : (n : ℕ) → (lacking ≡ true → n ≡ 16) → (lacking ≡ false → n ≡ 0) → RowOfDay size events held n
-  row-of-day n f g =
+  pub row-of-run : (n : ℕ) → (lacking ≡ true → n ≡ 16) → (lacking ≡ false → n ≡ 0) → RowOfRun size events held n
+  row-of-run n f g =
       let r = room-as-worded size events held in
       record {
         row-16 = (λ h. by lacking (r .lacks .0) (λ k. absurd (omega (arith, g k))), λ h. f (r .lacks .1 h));
         accepted = (λ h. by lacking (λ k. absurd (omega (arith, f k))) (r .enough .0), λ h. g (r .enough .1 h));
       }
 
-  abbrev dayRows : List (ℕ × Bool)
-  dayRows = (16, lacking) ∷ []
+  abbrev roomRows : List (ℕ × Bool)
+  roomRows = (16, lacking) ∷ []
 
-  day-row : RowOfDay size events held (first dayRows)
+  run-row : RowOfRun size events held (first roomRows)
   unfolding first
-  day-row = row-of-day _ (λ h. rw h) (λ h. rw h)
+  run-row = row-of-run _ (λ h. rw h) (λ h. rw h)
 
-  day-late : Early (first dayRows) → ⊥
+  run-late : Early (first roomRows) → ⊥
   unfolding first
-  day-late l = by lacking (λ h. let z = rw h at l in omega arith) (λ h. let z = rw h at l in omega arith)
+  run-late l = by lacking (λ h. let z = rw h at l in omega arith) (λ h. let z = rw h at l in omega arith)
 
 pub run-rows-as-worded : RunRowsAsWorded
 unfolding runRefusal
 run-rows-as-worded a t c events out =
-    let rows = dayRows (length out) events (c .held) in
-    let day = day-row (length out) events (c .held) in
+    let rows = roomRows (length out) events (c .held) in
+    let day = run-row (length out) events (c .held) in
     record {
-      first-rows = call-rows a t c rows (day-late (length out) events (c .held));
+      first-rows = call-rows a t c rows (run-late (length out) events (c .held));
       row-16 = instead (beyond a t c rows 16 (λ l. omega arith)) (λ _. day .row-16);
       accepted = instead (beyond a t c rows 0 (λ l. omega arith)) (λ _. day .accepted);
     }

@@ -53,7 +53,7 @@ abbrev pub RoomAsWorded : Type 0
 RoomAsWorded = (size : ℕ) (events : List ℕ) (held : ℕ) → RoomAsked size events held
 
 -- n is the number of refusal of a day by it
-pub record RowOfDay (size : ℕ) (events : List ℕ) (held n : ℕ) : Type 0 where
+pub record RowOfRun (size : ℕ) (events : List ℕ) (held n : ℕ) : Type 0 where
   pub row-16 : (n ≡ 16) ↔ (size < length events + held)
   pub accepted : (n ≡ 0) ↔ (length events + held ≤ size)
 

@@ -14,8 +14,8 @@ use Rattle.automaton.proofs.Classes.{class-one}
 use Rattle.releasing.specs.Step.{bySets, remaining}
 use Rattle.releasing.specs.Claims.{Unknown, Full, Taken}
 use Rattle.releasing.proofs.Worded.{event-rows-as-worded, releases-longest}
-use Rattle.answers.specs.Claims.{RowOfDay}
-use Rattle.answers.proofs.Worded.{room-as-worded, row-of-day}
+use Rattle.answers.specs.Claims.{RowOfRun}
+use Rattle.answers.proofs.Worded.{room-as-worded, row-of-run}
 use Rattle.claims.specs.Store.{Store, stateOf, positionAt, refusalAt, added, moved, store, storeAll, events, lacksRoom, feed, refusedOf}
 use Rattle.claims.specs.Calls.{many, refusalIn, expected}
 use Rattle.claims.specs.Published.{Releases, FollowsPublished}
@@ -66,17 +66,17 @@ module _ (a : Automaton) (s : Store) where
 
   -- a day
   module _ (es : List ℕ) (size : ℕ) where
-    day-short : size < length es + held → feed a s (events es size) ≡ s
+    run-short : size < length es + held → feed a s (events es size) ≡ s
     unfolding feed lacksRoom
-    day-short h = rw (room-as-worded size es held .lacks .1 h)
+    run-short h = rw (room-as-worded size es held .lacks .1 h)
 
-    day-fed : length es + held ≤ size → feed a s (events es size) ≡ storeAll a s es
+    run-fed : length es + held ≤ size → feed a s (events es size) ≡ storeAll a s es
     unfolding feed lacksRoom
-    day-fed h = rw (room-as-worded size es held .enough .1 h)
+    run-fed h = rw (room-as-worded size es held .enough .1 h)
 
-  day-row : (es out : List ℕ) → RowOfDay (length out) es held (refusalIn (expected a s (many es out)))
+  run-row : (es out : List ℕ) → RowOfRun (length out) es held (refusalIn (expected a s (many es out)))
   unfolding expected refusalIn lacksRoom
-  day-row es out = row-of-day (length out) es held _ (λ h. rw h) (λ h. rw h)
+  run-row es out = row-of-run (length out) es held _ (λ h. rw h) (λ h. rw h)
 
 pub follows-published : FollowsPublished
 unfolding expected refusalIn storeAll feed refusedOf
@@ -87,11 +87,11 @@ follows-published a s = record {
   event-fed = λ e. refl;
   none-fed = refl;
   first-fed = λ e es. refl;
-  day-short = day-short a s;
-  day-fed = day-fed a s;
+  run-short = run-short a s;
+  run-fed = run-fed a s;
   none-counted = refl;
   counted = counted a s;
   not-counted = not-counted a s;
   event-row = event-rows-as-worded (bySets a) a (positionAt a s);
-  day-row = day-row a s;
+  run-row = run-row a s;
 }

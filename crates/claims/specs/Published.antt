@@ -10,7 +10,7 @@ use Rattle.automaton.specs.declared.Automaton.{Automaton}
 use Rattle.automaton.specs.Automaton.{class, run}
 use Rattle.sets.specs.Claims.{Winning}
 use Rattle.releasing.specs.Claims.{Unknown, Full, Taken, RowsOfEvent, Longest}
-use Rattle.answers.specs.Claims.{RowOfDay}
+use Rattle.answers.specs.Claims.{RowOfRun}
 use Rattle.claims.specs.Store.{Store, store, storeAll, event, events, feed, refusedOf}
 use Rattle.claims.specs.Calls.{one, many, refusalIn, expected}
 
@@ -35,8 +35,8 @@ pub record AsPublished (a : Automaton) (s : Store) : Type 0 where
   pub none-fed : storeAll a s [] ≡ s
   pub first-fed : (e : ℕ) (es : List ℕ) → storeAll a s (e ∷ es) ≡ storeAll a (store a s e) es
   -- a day that row 16 refuses, by this buffer, brings no event; any other brings all, in order
-  pub day-short : (es : List ℕ) (size : ℕ) → size < length es + length (s .buffer) → feed a s (events es size) ≡ s
-  pub day-fed : (es : List ℕ) (size : ℕ) → length es + length (s .buffer) ≤ size → feed a s (events es size) ≡ storeAll a s es
+  pub run-short : (es : List ℕ) (size : ℕ) → size < length es + length (s .buffer) → feed a s (events es size) ≡ s
+  pub run-fed : (es : List ℕ) (size : ℕ) → length es + length (s .buffer) ≤ size → feed a s (events es size) ≡ storeAll a s es
   -- of a day's events those are counted that a row refuses
   pub none-counted : refusedOf a s [] ≡ 0
   pub counted : (e : ℕ) (es : List ℕ) → Unknown a e ⊎ Full a (length (s .buffer)) e
@@ -44,7 +44,7 @@ pub record AsPublished (a : Automaton) (s : Store) : Type 0 where
   pub not-counted : (e : ℕ) (es : List ℕ) → Taken a (length (s .buffer)) e → refusedOf a s (e ∷ es) ≡ refusedOf a (store a s e) es
   -- its replies give the number of the row that refuses, and else 0
   pub event-row : (e : ℕ) → RowsOfEvent a (length (s .buffer)) e (refusalIn (expected a s (one e)))
-  pub day-row : (es out : List ℕ) → RowOfDay (length out) es (length (s .buffer)) (refusalIn (expected a s (many es out)))
+  pub run-row : (es out : List ℕ) → RowOfRun (length out) es (length (s .buffer)) (refusalIn (expected a s (many es out)))
 
 -- so it is of every automaton and whatever was put out and is held
 abbrev pub FollowsPublished : Type 0

@@ -19,7 +19,7 @@ use Rattle.byte_calls.proofs.ByteCalls.{as-by-value, bytes-enforced}
 use Rattle.marked_cases.specs.Cases.{automatonW}
 use Rattle.instances.proofs.Statements.{filled, tableW, onePage}
 use Rattle.instances.proofs.Sheets.{valid-w, solved-w, computing}
-use Rattle.instances.proofs.LayoutStatements.{recordW, anyRecord, anyBytes, atZero, signed, longDay, later, guarded, Placed, Layouts}
+use Rattle.instances.proofs.LayoutStatements.{recordW, anyRecord, anyBytes, atZero, signed, longRun, later, saysYes, Placed, Layouts}
 
 shaped-w : shaped automatonW ≡ true
 unfolding shaped automatonW pad
@@ -38,7 +38,7 @@ placed =
     let c = offsets-hold .configuration onePage refl in
     let n = offsets-hold .number 60001 in
     let r = offsets-hold .received signed refl in
-    let d = offsets-hold .ran longDay [] in
+    let d = offsets-hold .ran longRun [] in
     let v = offsets-hold .verdict later in
     record {
       automaton-size = w .size;
@@ -58,8 +58,8 @@ placed =
       number-size = n .0;
       number-low-first = n .1 .low-first 1 (omega arith);
       number-value = n .1 .value (omega arith);
-      status-size = offsets-hold .status guarded .size;
-      status = offsets-hold .status guarded .winning .0 refl;
+      status-size = offsets-hold .status saysYes .size;
+      status = offsets-hold .status saysYes .winning .0 refl;
       received-size = r .size;
       emitted = r .emitted 2 (omega arith);
       count = r .count;
@@ -106,7 +106,7 @@ layouts =
       event-handed-on = event-handed-on recordW tableW atZero 0 refl;
       run-handed-on = run-handed-on recordW tableW atZero (0 ∷ 2 ∷ []) (filled 2 9) refl;
       left-as-answered =
-          (left-as-answered .event-refusal signed, left-as-answered .run-refusal longDay (7 ∷ []), left-as-answered .run-output longDay (7 ∷ []));
+          (left-as-answered .event-refusal signed, left-as-answered .run-refusal longRun (7 ∷ []), left-as-answered .run-output longRun (7 ∷ []));
       as-by-value = λ xs. as-by-value recordW tableW atZero refl xs;
       bytes-enforced = λ xs. bytes-enforced recordW tableW anyBytes (rw kept-w valid-w) (rw kept-w solved-w) xs;
     }

@@ -38,14 +38,14 @@ heldPage = configurationBytes (configuration (at 1 (2 ∷ [])))
 abbrev pub signed : Received
 signed = record { refusal = 0; configuration = configuration (at 1 []); emitted = pad emittedMost (0 ∷ 2 ∷ 3 ∷ []); count = 3; winning = true }
 
-abbrev pub longDay : Ran
-longDay = record { refusal = 0; configuration = configuration (at 1 []); length = 300; refused = 2 }
+abbrev pub longRun : Ran
+longRun = record { refusal = 0; configuration = configuration (at 1 []); length = 300; refused = 2 }
 
 abbrev pub later : Verdict
 later = record { refusal = 0; «may_rest» = false; «can_rest» = true }
 
-abbrev pub guarded : Status
-guarded = record { refusal = 0; winning = true }
+abbrev pub saysYes : Status
+saysYes = record { refusal = 0; winning = true }
 
 -- what stands at each offset of lent bytes
 pub record Placed : Type 0 where
@@ -68,16 +68,16 @@ pub record Placed : Type 0 where
   pub number-size : length (numberBytes numberSize 60001) ≡ numberSize
   pub number-low-first : byteAt (numberBytes numberSize 60001) (0 + 1) ≡ 234
   pub number-value : numberOf (part 0 numberSize (numberBytes numberSize 60001)) ≡ 60001
-  pub status-size : length (statusBytes guarded) ≡ statusSize
-  pub status : byteAt (statusBytes guarded) 0 ≡ 1
+  pub status-size : length (statusBytes saysYes) ≡ statusSize
+  pub status : byteAt (statusBytes saysYes) 0 ≡ 1
   pub received-size : length (receivedLeft signed .answer) ≡ receivedSize
   pub emitted : byteAt (receivedLeft signed .answer) (receivedEmitted + 2) ≡ 3
   pub count : byteAt (receivedLeft signed .answer) receivedCount ≡ 3
   pub winning : byteAt (receivedLeft signed .answer) receivedWinning ≡ 1
-  pub ran-size : length (ranLeft longDay [] .answer) ≡ ranSize
-  pub written-low-first : byteAt (ranLeft longDay [] .answer) (ranLength + 1) ≡ 1
-  pub written : numberOf (part ranLength numberSize (ranLeft longDay [] .answer)) ≡ 300
-  pub refused : numberOf (part ranRefused numberSize (ranLeft longDay [] .answer)) ≡ 2
+  pub ran-size : length (ranLeft longRun [] .answer) ≡ ranSize
+  pub written-low-first : byteAt (ranLeft longRun [] .answer) (ranLength + 1) ≡ 1
+  pub written : numberOf (part ranLength numberSize (ranLeft longRun [] .answer)) ≡ 300
+  pub refused : numberOf (part ranRefused numberSize (ranLeft longRun [] .answer)) ≡ 2
   pub verdict-size : length (verdictBytes later) ≡ verdictSize
   pub may-rest : byteAt (verdictBytes later) verdictMayRest ≡ 0
   pub can-rest : byteAt (verdictBytes later) verdictCanRest ≡ 1
@@ -116,7 +116,7 @@ pub record Layouts : Type 0 where
   pub run-handed-on : configurationOf (runLeaves recordW tableW atZero (0 ∷ 2 ∷ []) (filled 2 9) .configuration)
       ≡ ran (automatonOf recordW) tableW (configurationOf atZero) (0 ∷ 2 ∷ []) (filled 2 9) .configuration
   -- what a call leaves beside its answer
-  pub left-as-answered : (receivedLeft signed .refusal ≡ 0) × (ranLeft longDay (7 ∷ []) .refusal ≡ 0) × (ranLeft longDay (7 ∷ []) .output ≡ 7 ∷ [])
+  pub left-as-answered : (receivedLeft signed .refusal ≡ 0) × (ranLeft longRun (7 ∷ []) .refusal ≡ 0) × (ranLeft longRun (7 ∷ []) .output ≡ 7 ∷ [])
   -- calls through the interface over W's bytes
   pub as-by-value : (xs : List Call) → leavesAll recordW tableW atZero xs
       ≡ map laid (replies (automatonOf recordW) tableW (configurationOf atZero) xs)

@@ -176,17 +176,17 @@ releasing =
       holds = settles (0 ∷ []) (2 ∷ []) [] (2 ∷ []) _ (after-sign .holds 2 (omega arith) refl (omega arith)) (rw signed stay);
       full = full .refuses 2 (inr third);
       unknown = full .refuses 4 (inl (omega arith));
-      day-short = full .day-short (0 ∷ []) 2 (omega arith);
-      day-fed = full .day-fed (0 ∷ []) 3 (omega arith);
+      run-short = full .run-short (0 ∷ []) 2 (omega arith);
+      run-fed = full .run-fed (0 ∷ []) 3 (omega arith);
       event-fed = full .event-fed 0;
       one-by-one = full .first-fed 4 (0 ∷ []) ∙ follows-published automatonW _ .first-fed 0 [] ∙ follows-published automatonW _ .none-fed;
-      day-accepted = full .day-row (0 ∷ []) (9 ∷ 9 ∷ 9 ∷ []) .accepted .1 (omega arith);
+      run-accepted = full .run-row (0 ∷ []) (9 ∷ 9 ∷ 9 ∷ []) .accepted .1 (omega arith);
       counts =
           full .counted 2 (4 ∷ 1 ∷ []) (inr third) ∙
           ap suc (full .counted 4 (1 ∷ []) (inl (omega arith))) ∙
           ap (λ n. suc (suc n)) (full .not-counted 1 [] (omega arith, inl λ c. omega arith));
       event-row = full .event-row 2 .row-15 .1 third;
-      day-row = full .day-row (0 ∷ []) (9 ∷ 9 ∷ []) .row-16 .1 (omega arith);
+      run-row = full .run-row (0 ∷ []) (9 ∷ 9 ∷ []) .row-16 .1 (omega arith);
     }
 
 -- the accepted events of the calls, as they are met

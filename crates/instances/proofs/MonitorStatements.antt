@@ -92,15 +92,15 @@ pub record Releasing : Type 0 where
   pub full : store automatonW twoHeld 2 ≡ twoHeld
   pub unknown : store automatonW twoHeld 4 ≡ twoHeld
   -- a day of Sign, with two held, wants room for three
-  pub day-short : feed automatonW twoHeld (events (0 ∷ []) 2) ≡ twoHeld
-  pub day-fed : feed automatonW twoHeld (events (0 ∷ []) 3) ≡ store automatonW twoHeld 0
+  pub run-short : feed automatonW twoHeld (events (0 ∷ []) 2) ≡ twoHeld
+  pub run-fed : feed automatonW twoHeld (events (0 ∷ []) 3) ≡ store automatonW twoHeld 0
   pub event-fed : feed automatonW twoHeld (event 0) ≡ store automatonW twoHeld 0
   pub one-by-one : storeAll automatonW twoHeld (4 ∷ 0 ∷ []) ≡ store automatonW (store automatonW twoHeld 4) 0
-  pub day-accepted : refusalIn (expected automatonW twoHeld (many (0 ∷ []) (9 ∷ 9 ∷ 9 ∷ []))) ≡ 0
+  pub run-accepted : refusalIn (expected automatonW twoHeld (many (0 ∷ []) (9 ∷ 9 ∷ 9 ∷ []))) ≡ 0
   -- of a day of Page, a kind that there is not and Withdraw it then refuses two
   pub counts : refusedOf automatonW twoHeld (2 ∷ 4 ∷ 1 ∷ []) ≡ 2
   pub event-row : refusalIn (expected automatonW twoHeld (one 2)) ≡ 15
-  pub day-row : refusalIn (expected automatonW twoHeld (many (0 ∷ []) (9 ∷ 9 ∷ []))) ≡ 16
+  pub run-row : refusalIn (expected automatonW twoHeld (many (0 ∷ []) (9 ∷ 9 ∷ []))) ≡ 16
 
 -- what W's monitor answers to calls from its start, and the configuration after them
 abbrev pub repliesW : List Call → List Reply
@@ -110,8 +110,8 @@ abbrev pub afterW : List Call → Configuration
 afterW = configurationAfter automatonW tableW (initialOf automatonW)
 
 -- a day's reply: state and buffer, bytes written, events refused, and the lent output
-abbrev pub dayReply : ℕ → List ℕ → ℕ → ℕ → List ℕ → Reply
-dayReply q held written refused out =
+abbrev pub runReply : ℕ → List ℕ → ℕ → ℕ → List ℕ → Reply
+runReply q held written refused out =
     Rattle.claims.specs.Calls.run
     (record { refusal = 0; configuration = configuration (at q held); length = written; refused = refused })
     out
@@ -136,7 +136,7 @@ eager past output held = 6
 
 -- what they answer
 abbrev pub answers : List Reply
-answers = receive (answer 0 [] 0 (2 ∷ []) true) ∷ dayReply 0 (2 ∷ []) 2 1 (0 ∷ 1 ∷ 9 ∷ 9 ∷ 9 ∷ []) ∷ []
+answers = receive (answer 0 [] 0 (2 ∷ []) true) ∷ runReply 0 (2 ∷ []) 2 1 (0 ∷ 1 ∷ 9 ∷ 9 ∷ 9 ∷ []) ∷ []
 
 -- every field of demand 3, out of the one statement at W and these calls, with its values
 pub record Fields : Type 0 where
@@ -174,7 +174,7 @@ longCalls =
 abbrev pub longAnswers : List Reply
 longAnswers =
     receive (answer 0 [] 0 (2 ∷ []) true) ∷
-    dayReply 0 (2 ∷ 2 ∷ []) 5 2 (0 ∷ 2 ∷ 3 ∷ 1 ∷ 1 ∷ 9 ∷ 9 ∷ 9 ∷ 9 ∷ 9 ∷ []) ∷
+    runReply 0 (2 ∷ 2 ∷ []) 5 2 (0 ∷ 2 ∷ 3 ∷ 1 ∷ 1 ∷ 9 ∷ 9 ∷ 9 ∷ 9 ∷ 9 ∷ []) ∷
     Rattle.claims.specs.Calls.run (refusedRun 16 (configuration (at 0 (2 ∷ 2 ∷ [])))) (9 ∷ 9 ∷ []) ∷
     receive (answer 0 (0 ∷ []) 1 (2 ∷ 2 ∷ []) true) ∷ []
 
