@@ -3,7 +3,8 @@
  *
  *   day SHEET EVENT ..     SHEET is a file with a sheet's bytes, each EVENT a number
  *
- * Status 0: all was printed. 1: the sheet is refused, or the output could not be written. 2: a fault in what is given.
+ * Status 0: all was printed. 1: the sheet is refused, or the output could not be written. 2: a fault
+ * in what is given.
  */
 #include <errno.h>
 #include <stdio.h>

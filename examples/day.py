@@ -5,7 +5,8 @@
 LIBRARY is the shared object made from the archive, SHEET a file with a sheet's bytes, each EVENT a number. Offsets and sizes are
 those of include/jaxhophasi.h.
 
-Status 0: all was printed. 1: the sheet is refused, or the output could not be written. 2: a fault in what is given.
+Status 0: all was printed. 1: the sheet is refused, or the output could not be written. 2: a fault
+in what is given.
 """
 import ctypes
 import re
@@ -144,7 +145,7 @@ def run_sheet(library, path, events):
 
 
 def main(words):
-    signal.signal(signal.SIGPIPE, signal.SIG_DFL)  # a reader that goes away ends it, as it ends the C example
+    signal.signal(signal.SIGPIPE, signal.SIG_DFL)  # as in C: a reader that goes away ends it
     if len(words) < 3:
         stop(2, "usage", "day.py LIBRARY SHEET EVENT ..")
     events = [event_number(word) for word in words[3:]]

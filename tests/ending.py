@@ -33,7 +33,7 @@ def fail(name, text):
 
 
 def state(process):
-    """The letter that proc(5) has for a process: S it waits, T it is stopped; Z also where it is gone."""
+    """The letter of a process in proc(5): S it waits, T it is stopped; Z also where it is gone."""
     try:
         return pathlib.Path("/proc", str(process), "stat").read_text().rpartition(")")[2].split()[0]
     except (FileNotFoundError, ProcessLookupError):

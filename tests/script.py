@@ -1,6 +1,7 @@
-"""The script ./day, over the programs and over stand-ins for them and for rt, under each shell that is here.
+"""The script ./day, over the programs and over stand-ins for them and for rt, under each shell.
 
-A copy of it stands in a folder of its own, with crates to build and the programs; it is started in another one, with the files of the cases.
+A copy of it stands in a folder of its own, with crates to build and the programs; it is started in
+another one, which has the files of the cases.
 """
 import contextlib
 import os
@@ -44,7 +45,8 @@ exit 1
 """
 
 BUILDING = "day: proving and building {} (some minutes the first time)\n"
-TEXT = "{} is text, not bytes: give a sheet and its events, ./day SHEET EVENTS"
+TEXT = "day: {} is text, not bytes: give a sheet and its events, ./day SHEET EVENTS\n"
+UNREAD = "\nday: standard input could not be read\n"
 
 V = [3, 2, 1, 0, 0, 1, 1, 0, 1, 1, 0, 1, 2, 2, 2]
 
@@ -70,7 +72,16 @@ FILES = {
     "text": b"1 " * 131072 + b"1",
 }
 
-# What is given, the words behind ./day, the status, what is printed and what is said. PRINTED is V's day of Answer and Query.
+V_LINE = "sheet 3 2 1 start 0 guarded no\n"
+LONG_DAY = V_LINE + 59984 * "in 0 out 0 state 1 held 0 guarded no\n" + "end 59984 0\n"
+
+
+def long_line(sheet, events):
+    return "day: {} and {} are over 60000 bytes together, refused by row 18\n".format(sheet, events)
+
+
+# What is given, the words behind ./day, the status, what is printed and what is said. PRINTED is
+# what the sample prints: V with Answer, Query.
 CASES = [
     ("two texts", ["a sheet", "-events"], 0, "PRINTED", ""),
     ("a name that is an option", ["--", "--help", "-events"], 0, "PRINTED", ""),
@@ -78,30 +89,30 @@ CASES = [
     ("bytes, after --", ["--", "v.bytes"], 0, "PRINTED", ""),
     ("the sample", ["--sample"], 0, "PRINTED", ""),
     ("an empty file", ["none"], 0, "refused 1 at 0\n", ""),
-    ("no event", ["a sheet", "none"], 0, "sheet 3 2 1 start 0 guarded no\nend 0 0\n", ""),
+    ("no event", ["a sheet", "none"], 0, V_LINE + "end 0 0\n", ""),
     ("no file", ["neither"], 2, "", "day: neither: no such file\n"),
     ("no events' file", ["a sheet", "neither"], 2, "", "day: neither: no such file\n"),
     ("a directory", ["."], 2, "", "day: .: is a directory\n"),
     ("a directory of events", ["a sheet", ".."], 2, "", "day: ..: is a directory\n"),
-    ("three names", ["a sheet", "-events", "v.bytes"], 2, "", "day: too many arguments: a sheet -events v.bytes (./day --help)\n"),
-    ("the sample and a name", ["--sample", "v.bytes"], 2, "", "day: too many arguments: --sample v.bytes (./day --help)\n"),
-    ("a text for bytes", ["a sheet"], 2, "", "day: " + TEXT.format("a sheet") + "\n"),
-    ("a text with bytes over 127", ["high"], 2, "", "day: " + TEXT.format("high") + "\n"),
-    ("bytes for a text", ["v.bytes", "-events"], 1, "", "day: v.bytes: line 1: " + 18 * "?" + " is no number\n"),
+    ("three names", ["a", "b", "c"], 2, "", "day: too many arguments: a b c (./day --help)\n"),
+    ("the sample and a name", ["--sample", "a"], 2, "", "day: too many arguments: --sample a (./day --help)\n"),
+    ("a text for bytes", ["a sheet"], 2, "", TEXT.format("a sheet")),
+    ("a text with bytes over 127", ["high"], 2, "", TEXT.format("high")),
+    ("bytes for a text", ["v.bytes", "none"], 1, "", "day: v.bytes: line 1: " + 18 * "?" + " is no number\n"),
     ("no number in a sheet", ["word", "-events"], 1, "", "day: word: line 2: x7 is no number\n"),
     ("no number in the events", ["a sheet", "word"], 1, "", "day: word: line 2: x7 is no number\n"),
     ("too long a text", ["a sheet", "text"], 1, "", "day: text: more than 262144 bytes of text\n"),
-    ("row 3", ["states", "-events"], 0, "refused 3 at 1\n", "day: states: line 2: 00033 is refused by row 3\n"),
-    ("row 4", ["kinds", "-events"], 0, "refused 4 at 2\n", "day: kinds: line 2: 16384 is refused by row 4\n"),
-    ("row 7", ["class", "-events"], 0, "refused 7 at 6\n", "day: class: line 4: 200 is refused by row 7\n"),
+    ("row 3", ["states", "none"], 0, "refused 3 at 1\n", "day: states: line 2: 00033 is refused by row 3\n"),
+    ("row 4", ["kinds", "none"], 0, "refused 4 at 2\n", "day: kinds: line 2: 16384 is refused by row 4\n"),
+    ("row 7", ["class", "none"], 0, "refused 7 at 6\n", "day: class: line 4: 200 is refused by row 7\n"),
     ("row 9", ["next", "-events"], 0, "refused 9 at 15\n", "day: next: line 5: 3 is refused by row 9\n"),
     ("row 10", ["left", "-events"], 0, "refused 10 at 16\n", "day: left: line 3: 5 is refused by row 10\n"),
     ("row 1", ["early", "-events"], 0, "refused 1 at 6\n", "day: early: line 3: the numbers end early, refused by row 1\n"),
-    ("row 1, no number", ["comment", "-events"], 0, "refused 1 at 1\n", "day: comment: it has no number, refused by row 1\n"),
+    ("row 1, no number", ["comment", "none"], 0, "refused 1 at 1\n", "day: comment: it has no number, refused by row 1\n"),
     ("row 12", ["table", "-events"], 0, "refused 12\n", "day: table is refused by row 12\n"),
-    ("row 18", ["a sheet", "long"], 0, "refused 18\n", "day: a sheet and long are over 60000 bytes together, refused by row 18\n"),
-    ("row 18, by the sheet", ["longer", "none"], 0, "refused 18\n", "day: longer and none are over 60000 bytes together, refused by row 18\n"),
-    ("60000 bytes", ["a sheet", "longest"], 0, "sheet 3 2 1 start 0 guarded no\n" + 59984 * "in 0 out 0 state 1 held 0 guarded no\n" + "end 59984 0\n", ""),
+    ("row 18", ["a sheet", "long"], 0, "refused 18\n", long_line("a sheet", "long")),
+    ("row 18, by the sheet", ["longer", "none"], 0, "refused 18\n", long_line("longer", "none")),
+    ("60000 bytes", ["a sheet", "longest"], 0, LONG_DAY, ""),
 ]
 
 
@@ -206,7 +217,7 @@ def try_arguments_first(house):
     for what, words, status, stdout, stderr in CASES:
         if status == 2:
             house.check(what + ", not built", house.run(words), status, stdout, stderr)
-    house.check("a text on standard input, not built", house.run(given=b"1 2"), 2, "", "day: " + TEXT.format("standard input") + "\n")
+    house.check("a text on standard input, not built", house.run(given=b"1 2"), 2, "", TEXT.format("standard input"))
     house.run(["--help"])
     house.called("what is given is looked at first", [])
 
@@ -234,10 +245,10 @@ def try_inputs(house):
         ours.shutdown(socket.SHUT_WR)
         house.check("a socket", house.run(stdin=theirs), 0, "PRINTED")
     house.check("/dev/null", house.run(), 0, "refused 1 at 0\n")
-    house.check("a text", house.run(given=b"3 2 1\n"), 2, "", "day: " + TEXT.format("standard input") + "\n")
+    house.check("a text", house.run(given=b"3 2 1\n"), 2, "", TEXT.format("standard input"))
     house.check("60001 bytes and more", house.run(given=data + bytes(60000)), 0, "refused 18\n")
-    said = house.run(stdin=os.open(house.start, os.O_RDONLY))
-    house.check("a directory", said._replace(stderr=said.stderr[-39:]), 1, "", "\nday: standard input could not be read\n")
+    got = house.run(stdin=os.open(house.start, os.O_RDONLY))
+    house.check("a directory", got._replace(stderr=got.stderr[-len(UNREAD):]), 1, "", UNREAD)
     closed = ended(["sh", "-c", 'exec "$@" <&-', "sh", *house.command([])], **house.how())
     house.check("a closed descriptor", closed, 2, "", "day: standard input is closed\n")
     ours, theirs = socket.socketpair()
@@ -245,8 +256,8 @@ def try_inputs(house):
         ours.sendall(data)
         theirs.sendall(b"unread")
         ours.close()
-        said = house.run(stdin=theirs)
-        house.check("a socket that is reset", said._replace(stderr=said.stderr[-39:]), 1, "", "\nday: standard input could not be read\n")
+        got = house.run(stdin=theirs)
+        house.check("a socket that is reset", got._replace(stderr=got.stderr[-len(UNREAD):]), 1, "", UNREAD)
     ours, theirs = pty.openpty()
     house.check("a terminal", house.run(stdin=theirs), 0, "PRINTED")
     os.mkfifo(house.start / "fifo")
@@ -259,7 +270,8 @@ def try_texts(house):
     """Which bytes a text has: 49 is the digit 1, and as bytes it is a sheet's length."""
     house.put_programs()
     for byte in 9, 10, 13, 32, 126, 128, 255:
-        house.check("a text with byte {}".format(byte), house.run(given=bytes([49, byte])), 2, "", "day: " + TEXT.format("standard input") + "\n")
+        got = house.run(given=bytes([49, byte]))
+        house.check("a text with byte {}".format(byte), got, 2, "", TEXT.format("standard input"))
     for byte in 0, 8, 11, 12, 14, 31, 127:
         house.check("bytes with {}".format(byte), house.run(given=bytes([49, byte])), 0, "refused 1 at 1\n")
 
@@ -288,7 +300,8 @@ def try_outputs(house):
         out = "front\n" if name == "day" else ""
         got = house.run(words)
         line = got.stderr[got.stderr.rfind(b"day: "):]  # bash says it too
-        house.check(name + " is killed", got._replace(stderr=line), 128 + signal.SIGKILL, out, "day: {} was killed by signal 9\n".format(name))
+        said = "day: {} was killed by signal 9\n".format(name)
+        house.check(name + " is killed", got._replace(stderr=line), 128 + signal.SIGKILL, out, said)
         house.put_programs(**{name: "echo front; echo one >&2; printf two >&2"})
         front = "" if name == "day" else "day: a sheet: "
         house.check(name + " says something", house.run(words), 1, out, "{0}one\n{0}two\n".format(front))
@@ -297,7 +310,7 @@ def try_outputs(house):
 
 
 def try_places(house):
-    """Where the script stands and where it is started; CDPATH has folders that look like its own."""
+    """Where the script stands and is started; CDPATH leads to folders of the same names."""
     house.put_programs()
     links = house.start / "links"
     (links / "more").mkdir(parents=True)
@@ -321,10 +334,11 @@ def try_places(house):
             house.check(what, house.run(words, script=script, cwd=where, env=environment), 0, "PRINTED")
     house.called("programs that are built", [])
     house.remove_programs()
-    house.check("a build by a link", house.run(["--sample"], script=links / "first", env=paths), 0, "PRINTED", said(["day"], 3))
+    got = house.run(["--sample"], script=links / "first", env=paths)
+    house.check("a build by a link", got, 0, "PRINTED", built(["day"], 3))
 
 
-def said(names, count):
+def built(names, count):
     """What a build says."""
     lines = ["day: crate {} of {}: {} proved\n".format(i + 1, count, name) for i, name in enumerate(["base", "text", *names])]
     return BUILDING.format(" ".join(names)) + "".join(lines)
@@ -333,16 +347,16 @@ def said(names, count):
 def try_builds(house):
     house.remove_programs()
     two = ["a sheet", "-events"]
-    house.check("the first build", house.run(two), 0, "PRINTED", said(["day", "pack"], 4))
+    house.check("the first build", house.run(two), 0, "PRINTED", built(["day", "pack"], 4))
     house.check("built", house.run(two), 0, "PRINTED")
     house.called("the first build", ["check day pack"])
     for newer in house.script.parent / "crates.txt", house.script.parent / "crates" / "day" / "stdin":
         os.utime(newer)
-        house.check("a newer file", house.run(["v.bytes"]), 0, "PRINTED", said(["day"], 3))
+        house.check("a newer file", house.run(["v.bytes"]), 0, "PRINTED", built(["day"], 3))
         house.check("built again", house.run(["v.bytes"]), 0, "PRINTED")
     house.remove_programs()
-    house.check("the first build, bytes", house.run(["v.bytes"]), 0, "PRINTED", said(["day"], 3))
-    house.check("one program is missing", house.run(two), 0, "PRINTED", said(["day", "pack"], 4))
+    house.check("the first build, bytes", house.run(["v.bytes"]), 0, "PRINTED", built(["day"], 3))
+    house.check("one program is missing", house.run(two), 0, "PRINTED", built(["day", "pack"], 4))
     house.called("one program is missing", ["check day", "check day pack"])
     try_lines_as_they_come(house, two)
     try_build_on_terminal(house)
@@ -350,11 +364,12 @@ def try_builds(house):
 
 
 def try_lines_as_they_come(house, words):
-    """rt waits in the middle: what it has proved is said before it goes on. A file that is changed meanwhile is built once more."""
+    """rt waits in the middle: what it has proved is said before it goes on. A file that is changed
+    meanwhile is built once more."""
     house.remove_programs()
     os.mkfifo(house.held)
     process = house.begin(words, stdout=subprocess.PIPE, stderr=subprocess.PIPE)
-    line, expected = b"", said(["day", "pack"], 4)
+    line, expected = b"", built(["day", "pack"], 4)
     first = expected[:expected.index("day: crate 2")].encode()
     while len(line) < len(first) and select.select([process.stderr], [], [], PATIENCE)[0]:
         line += os.read(process.stderr.fileno(), 1)
@@ -385,9 +400,9 @@ def try_failed_builds(house):
     log = house.script.parent / "target" / "build.log"
     whole = ["error {}\n".format(i + 1) for i in range(30)] + [
         "rt: base NOT PROVED (exit 1, 2 s)\n", "rt: text NOT PROVED: its dependency base is not proved\n"]
-    expected = BUILDING.format("day") + "day: crate 1 of 3: base NOT PROVED\nday: crate 2 of 3: text NOT PROVED\n" + "".join(
-        whole[-20:]) + "day: day not built; {} has the whole\n".format(log)
-    house.check("a failed build", house.run(["v.bytes"]), 1, "", expected)
+    said = BUILDING.format("day") + "day: crate 1 of 3: base NOT PROVED\nday: crate 2 of 3: text NOT PROVED\n"
+    end = "".join(whole[-20:]) + "day: day not built; {} has the whole\n".format(log)
+    house.check("a failed build", house.run(["v.bytes"]), 1, "", said + end)
     if log.read_text() != "".join(whole):
         fail("a failed build", "its log is not whole")
     house.write(house.rt, "#!/bin/sh\n")
@@ -402,7 +417,7 @@ def try_failed_builds(house):
 
 
 def try_signals(house):
-    """A signal to the script alone ends it at once, with what it started, and leaves nothing behind."""
+    """A signal to the script alone ends it at once, with what it started, and leaves nothing."""
     for number in signal.SIGHUP, signal.SIGINT, signal.SIGQUIT, signal.SIGTERM:
         house.put_programs()
         process = house.begin(stdin=subprocess.PIPE, stdout=subprocess.PIPE, stderr=subprocess.PIPE)
