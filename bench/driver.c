@@ -531,13 +531,13 @@ static void measure(const char *name)
     }
     places = 2 * jaxhophasi_number_at(count);
     repeats = 1 + (unsigned)(10000 / places);
-    best_of(places > 100000 ? 15 : 60, 3, solving, s);
+    best_of(places > 100000 ? 15 : 200, 3, solving, s);
     equal("table", table, table_by_c, 4 * places);
     equal("rounds", rounds, rounds_by_c, 8);
     best_of(7, 3, one_by_one, e);
     equal("state", state, state_by_c, 8);
     equal("what the events put out", &emitted, &emitted_by_c, 8);
-    best_of(9, 2, runs, d);
+    best_of(30, 2, runs, d);
     equal("state", state, state_by_c, 8);
     equal("answer", answer, answer_by_c, 16);
     equal("output", output, output_by_c, EVENTS);

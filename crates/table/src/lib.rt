@@ -1,6 +1,7 @@
-// The table from one length of buffers to the next. The buffers of one length stand side by side, two places each, and a symbol put in
-// front of each of them gives a row of the next length. `next`, `free`, n and u are as in crate refinement, and `empty` is what the
-// empty buffer's rounds gave; 262,144 is 8 to the power of 6, the most buffers of one length.
+// The table from one length of buffers to the next. The buffers of one length stand side by side,
+// two places each, and a symbol put in front of each of them gives a row of the next length.
+// `next`, `free`, n and u are as in crate refinement; `empty` is what the rounds of the empty buffer
+// gave; 262,144 is 8 to the power of 6, the most buffers of one length.
 use refinement::settle;
 use sets::Sets;
 use sets::Settled;
@@ -33,9 +34,9 @@ fn sets_from<'a>(
     }
 }
 
-// Puts a symbol in front of the `count` buffers that stand from a place on, and writes their sets from another place on. Neighbours
-// often have the same goal, so the last one's sets are kept: at first those of goal 0, into which nothing leads, as with the empty
-// buffer.
+// Puts a symbol in front of the `count` buffers that stand from a place on, and writes their sets
+// from another place on. Neighbours often have the same goal, so the last one's sets are kept. At
+// first these are the sets of goal 0: nothing leads into it, so they are the empty buffer's.
 fn fill_row<'a>(
     next: &'a [u8; 512],
     free: &'a [u8; 16],

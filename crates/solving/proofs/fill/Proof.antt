@@ -1,6 +1,7 @@
 -- The whole table: the empty buffer's sets, then a level for each length.
 use Rattle.automaton.proofs.Facts.{valid-facts}
-use Rattle.solving.proofs.Lengths.{Lent, lent-of, lent-small, lent-settled, Lengthening, some-buffer, begun, length-none, begun-length, begun-rest, length-small, length-place, length-next, length-room, length-more, length-fits, length-all}
+use Rattle.solving.proofs.Lengths.{Lent, lent-of, lent-small, lent-settled, some-buffer, begun, begun-length, begun-rest}
+use Rattle.solving.proofs.Lengths.{Lengthening, length-none, length-small, length-place, length-next, length-room, length-more, length-fits, length-all}
 use Rattle.sets.specs.Table.{buffersCount, table as tableOf}
 use lib.ListN.{length as len, length-set}
 use Prim.Native.Nat.{ℕ, _+_, _*_, _≤_, _-_}
@@ -45,12 +46,14 @@ turn c = c .before .before .before .before .before .before .before
 lent : (c : tie.After-uncontrollable Inv-loop μ-loop) → let o = accepting c in
     let k = counted o in
     let s = sizes k in
-    Lent (start s .args .t1) (s .before .before .size .result) (s .before .size2 .result) (s .size3 .result) (k .controllable-in .result) (o .accepting-states .result) (c .uncontrollable .result)
+    Lent (start s .args .t1) (s .before .before .size .result) (s .before .size2 .result) (s .size3 .result)
+    (k .controllable-in .result) (o .accepting-states .result) (c .uncontrollable .result)
 lent c =
     let o = accepting c in
     let k = counted o in
     let s = sizes k in
-    lent-of _ _ _ _ _ _ _ (start s .pre .0) (s .before .before .size .ensures .0) (s .before .size2 .ensures .0) (s .size3 .ensures .0) (k .controllable-in .ensures) (o .accepting-states .ensures) (c .uncontrollable .ensures)
+    lent-of _ _ _ _ _ _ _ (start s .pre .0) (s .before .before .size .ensures .0) (s .before .size2 .ensures .0) (s .size3 .ensures .0)
+    (k .controllable-in .ensures) (o .accepting-states .ensures) (c .uncontrollable .ensures)
 
 -- the table where the loop begins
 abbrev begun-with : tie.After-settle Inv-loop μ-loop → List ℕ
@@ -126,7 +129,8 @@ written c = c .fill-level .last .1 .1 .1 .1 .1 .1 .1 .1 .0
 longer : (c : tie.After-fill-level Inv-loop μ-loop) → let l = turn c .before in
     let v = l .loop in
     let s = l .before in
-    Lengthening (first s .args .t1) (begun-with s) (v .length + 1) (written c) (v .from + 2 * v .count) (v .count * counted (accepting (listed s)) .controllable-in .result) (v .rounds + c .fill-level .result)
+    Lengthening (first s .args .t1) (begun-with s) (v .length + 1) (written c)
+    (v .from + 2 * v .count) (v .count * counted (accepting (listed s)) .controllable-in .result) (v .rounds + c .fill-level .result)
 longer c =
     let v = turn c .before .loop .inv in
     length-more _ _ _ _ _ _ _ (v .2) _ (v .1) _ _ _ _ _ (v .3) (turn c .loop-test .taken) _ _ (search needs) (c .fill-level .ensures .0) (c .fill-level .ensures .1)

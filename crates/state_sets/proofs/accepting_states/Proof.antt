@@ -36,7 +36,14 @@ loop-less : tie.Need-loop-less Inv-loop μ-loop
 loop-less c = search needs
 
 loop-again : tie.Need-loop-again Inv-loop μ-loop
-loop-again c = (omega arith, ⊎-elim (λ w. w .2 ∙ mask-adds _ _ _ (c .before .before .before .loop .inv .1) (w .1 .ensures) (eq-eqb _ _ (w .0 .taken))) (λ w. w .1 ∙ mask-passes _ _ _ (c .before .before .before .loop .inv .1) (ne-eqb _ _ (w .0 .left))) (c .if1 .came))
+loop-again c =
+    let v = c .before .before .before .loop .inv .1 in (
+      omega arith,
+      ⊎-elim
+          (λ w. w .2 ∙ mask-adds _ _ _ v (w .1 .ensures) (eq-eqb _ _ (w .0 .taken)))
+          (λ w. w .1 ∙ mask-passes _ _ _ v (ne-eqb _ _ (w .0 .left)))
+          (c .if1 .came),
+    )
 
 returns : tie.Need-returns Inv-loop μ-loop
 returns c = let e : c .before .loop .q ≡ c .before .before .args .n = omega arith in rw e at (c .before .loop .inv .1)

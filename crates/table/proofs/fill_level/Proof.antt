@@ -71,7 +71,8 @@ add-rounds c =
     let o = turn (row c .before .before) in
     let s = start o in
     let e = o .loop .e in
-    omega (arith, level-fits _ _ _ _ _ _ _ _ _ (o .loop .inv .1) (few s) (omega arith), row-few (f s e) (few s e) (o .loop .table) (s .args .from) (s .args .count), row c .fill-row .ensures .1)
+    let more = row-few (f s e) (few s e) (o .loop .table) (s .args .from) (s .args .count) in
+    omega (arith, level-fits _ _ _ _ _ _ _ _ _ (o .loop .inv .1) (few s) (omega arith), row c .fill-row .ensures .1)
 
 mul-at-2 : tie.Need-mul-at-2 Inv-loop μ-loop
 mul-at-2 c = search needs
