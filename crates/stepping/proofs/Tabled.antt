@@ -16,10 +16,11 @@ use Rattle.automaton.specs.Automaton.{controllable, step}
 use Rattle.automaton.proofs.Facts.{Valid, valid-of}
 use Rattle.sets.specs.Table.{short, Controllable}
 use Rattle.sets.proofs.Total.{total}
-use Rattle.releasing.specs.Step.{byTable, release, remaining, Effect, arrival, effect, eventRows, eventRefusal}
+use Rattle.configuration.specs.Configuration.{Position}
+use Rattle.releasing.specs.Step.{Rest, byTable, release, remaining, Effect, arrival, effect, eventRows, eventRefusal}
 use Rattle.releasing.specs.declared.Ranking.{Ranking}
 use Rattle.releasing.specs.Parts.{rankingOf, restIn, over}
-use Rattle.releasing.proofs.Effects.{Occurs, accepted-facts, arrival-occurs}
+use Rattle.releasing.proofs.Effects.{Occurs, Accepts, arrival-occurs}
 use Rattle.releasing.proofs.Tabled.{rank-controllable, rank-uncontrollable, release-tabled, run-over, lent}
 use Rattle.stepping.specs.Stepping.{eventRowBy, stepped, Ready}
 use Rattle.stepping.proofs.Steps.{class-rank}
@@ -52,23 +53,24 @@ module _ (a : Automaton) (v : Valid a) where
       (λ c. ap not (eq-eqb (getD (own .ranks) e 0) 0 (rank-uncontrollable a v e h c)) ∙ sym c)
 
   -- rows 14 and 15
-  pub row-same : (w : List ℕ) (held e : ℕ) → length w ≡ held → eventRowBy (own .ranks) (a .symbols) (a .capacity) held e ≡ eventRefusal a w e
+  pub row-same : (rest : Rest) (p : Position) (held e : ℕ) → length (p .buffer) ≡ held
+      → eventRowBy (own .ranks) (a .symbols) (a .capacity) held e ≡ eventRefusal rest a p e
   unfolding eventRowBy eventRefusal eventRows first
-  row-same w held e l =
+  row-same rest p held e l =
       by (ltb e (a .symbols))
       (λ s. rw (l, s, sym (class-rank (own .ranks) (a .next) e) ∙ class-same e (ltb-true e (a .symbols) s)))
       (λ s. rw s)
 
-  module _ (t : List ℕ) (q : ℕ) (w : List ℕ) (e : ℕ) (o : Occurs a q w) (row : eventRefusal a w e ≡ 0) where
+  module _ (t : List ℕ) (q : ℕ) (w : List ℕ) (e : ℕ) (o : Occurs a q w) (f : Accepts a w e) where
     abbrev x : Effect
     x = arrival a q w e
 
     arrival-same : arrival lentOnly q w e ≡ x
     unfolding arrival remaining step
-    arrival-same = rw (class-same e (accepted-facts a w e row .0))
+    arrival-same = rw (class-same e (f .symbol))
 
     arrived : Occurs a (x .state) (x .buffer)
-    arrived = arrival-occurs a q w e (total a (valid-of a v)) o row
+    arrived = arrival-occurs a q w e (total a (valid-of a v)) o f
 
     effect-tabled : effect (restIn t (own .ranks) (own .count)) lentOnly q w e ≡ effect (byTable a t) a q w e
     unfolding effect
@@ -90,23 +92,22 @@ module _ (a : Automaton) (v : Valid a) where
 
   -- an accepted event is ready for a step
   pub ready : (t : List ℕ) → short a t ≡ false → (q : ℕ) (buffer : List ℕ) (held e size at : ℕ) → Occurs a q (take held buffer)
-      → held ≤ 6 → buffer ≡ pad 6 (take held buffer) → length (take held buffer) ≡ held → eventRefusal a (take held buffer) e ≡ 0 → at + held < size
+      → held ≤ 6 → buffer ≡ pad 6 (take held buffer) → length (take held buffer) ≡ held → Accepts a (take held buffer) e → at + held < size
       → size < 18446744073709551616 → Ready (a .next) (own .ranks) (own .count) t q buffer held e size at
-  ready t long q buffer held e size at o few padded many row room indexed =
+  ready t long q buffer held e size at o few padded many f room indexed =
       let w = take held buffer in
-      let f = accepted-facts a w e row in
       let y = arrival a q w e in
-      let n = arrived t q w e o row in
+      let n = arrived t q w e o f in
       record {
-        symbol-low = omega (arith, f .0, v .symbols-high);
+        symbol-low = omega (arith, f .symbol, v .symbols-high);
         state-low = omega (arith, o .state-below, v .states-high);
         few = few;
         padded = padded;
-        space = λ c. omega (arith, f .1 (sym (class-same e (f .0)) ∙ c), many, v .capacity-high);
+        space = λ c. omega (arith, f .space (sym (class-same e (f .symbol)) ∙ c), many, v .capacity-high);
         room = room;
         indexed = indexed;
         lent = λ z ez.
-            rw (ez ∙ arrival-same t q w e o row)
+            rw (ez ∙ arrival-same t q w e o f)
             (lent a v t long (y .state) (pad 6 (y .buffer)) (length (y .buffer)) (n .state-below)
             (omega (arith, n .buffer .1, v .capacity-high))
             (rw (take-pad 6 (y .buffer)) (n .buffer))
