@@ -1,77 +1,64 @@
-use Rattle.processing.proofs.Running.{Running, running-starts, running-refuses, event-low, running-ready, running-accepts, running-answer}
-use Rattle.answers.proofs.Refusals.{clear}
-use Rattle.releasing.specs.Parts.{rankingOf}
-use Rattle.configuration.specs.Configuration.{heldEvents}
-use mathlib.Core.Path.{_≡_, _∙_, sym, ap}
-use lib.ListN.{length, take}
-use Prim.Native.Nat.{_<_, _-_}
-use native.Mathlib.Omega.{arith}
-use borrow.Author.Needs.{needs}
 use Rattle.processing.proofs.process.Statement.{statement}
 use Rattle.processing.proofs.process.Tie as tie
+use Rattle.processing.proofs.process.Reads as reads
+use Rattle.processing.proofs.process.Lts as lts
+use Rattle.processing.proofs.process_event.Reads as process-event-reads
 
 abbrev Inv-loop : tie.InvT-loop
-Inv-loop table events out₀ a ranking capacity q₀ buffer₀ held₀ written₀ refused₀ i₀ out q buffer held written refused i =
-    (capacity ≡ a .capacity) × (ranking ≡ rankingOf (a .classes) (a .symbols)) × Running a table events out₀ q₀ (take held₀ buffer₀) out q buffer held written refused i × (length out₀ < 18446744073709551616)
+Inv-loop limits next ranks table events out₀ own state₀ held₀ buffer₀ written₀ refused₀ i₀ out state held buffer written refused i =
+    ?
 
 abbrev μ-loop : tie.MeasureT-loop
-μ-loop table events out₀ a ranking capacity q₀ buffer₀ held₀ written₀ refused₀ i₀ out q buffer held written refused i =
-    length events - i
+μ-loop limits next ranks table events out₀ own state₀ held₀ buffer₀ written₀ refused₀ i₀ out state held buffer written refused i =
+    ?
 
-size-requires : tie.Need-size-requires Inv-loop μ-loop
-size-requires c κs = search needs
-
-size-requires-2 : tie.Need-size-requires-2 Inv-loop μ-loop
-size-requires-2 c κs = search needs
-
-size-requires-3 : tie.Need-size-requires-3 Inv-loop μ-loop
-size-requires-3 c κs = search needs
-
+-- src/lib.rt:93:5
 loop-holds : tie.Need-loop-holds Inv-loop μ-loop
-loop-holds c = let p = c .before .before .before .before .before .before .before .pre in (c .before .before .before .size .ensures .0, p .1, running-starts _ _ _ (clear _ _ _ (p .0)) _ _ _ _ (c .before .before .size2 .ensures .0) (c .size3 .ensures .0) (p .2), omega arith)
+loop-holds c = ?
 
+-- src/lib.rt:94:21
 mul-event : tie.Need-mul-event Inv-loop μ-loop
-mul-event c = search needs
+mul-event c = ?
 
+-- src/lib.rt:94:21
 shared-slice-read-event : tie.Need-shared-slice-read-event Inv-loop μ-loop
-shared-slice-read-event c = search needs
+shared-slice-read-event c = ?
 
+-- src/lib.rt:95:13
 add-i : tie.Need-add-i Inv-loop μ-loop
-add-i c = search needs
+add-i c = ?
 
-event-row-requires : tie.Need-event-row-requires Inv-loop μ-loop
-event-row-requires c κs = let g = c .before .before .before .before .loop .inv .2 in g .valid .symbols-high
+-- src/lib.rt:96:13
+process-event-requires : tie.Need-process-event-requires Inv-loop μ-loop
+process-event-requires c κs = ?
 
+-- src/lib.rt:111:23
 add-refused : tie.Need-add-refused Inv-loop μ-loop
-add-refused c = let g = c .before .before .before .before .before .before .loop .inv .2 in let own = c .before .before .before .before .before .before .loop .inv .1 in let cap = c .before .before .before .before .before .before .loop .inv .0 in let h = c .before .before .before .before .before .loop-test .taken in omega (arith, g .passed-over)
+add-refused c = ?
 
+-- src/lib.rt:93:5
 loop-less : tie.Need-loop-less Inv-loop μ-loop
-loop-less c = omega (arith, c .before .before .before .before .before .loop-test .taken)
+loop-less c = ?
 
+-- src/lib.rt:93:5
 loop-again : tie.Need-loop-again Inv-loop μ-loop
-loop-again c = let g = c .before .before .before .before .before .before .loop .inv .2 in let own = c .before .before .before .before .before .before .loop .inv .1 in let cap = c .before .before .before .before .before .before .loop .inv .0 in let h = c .before .before .before .before .before .loop-test .taken in (cap, own, running-refuses g h _ own _ _ cap (c .before .event-row .ensures) (c .if1 .taken), c .before .before .before .before .before .before .loop .inv .3)
+loop-again c = ?
 
-cast-step : tie.Need-cast-step Inv-loop μ-loop
-cast-step c = let g = c .before .before .before .before .before .before .before .before .before .before .loop .inv .2 in let own = c .before .before .before .before .before .before .before .before .before .before .loop .inv .1 in let cap = c .before .before .before .before .before .before .before .before .before .before .loop .inv .0 in let h = c .before .before .before .before .before .before .before .before .before .loop-test .taken in let l = event-low g h _ own _ _ cap (c .before .before .before .before .before .event-row .ensures) (c .before .before .before .before .if1 .left) in omega arith
-
-step-requires : tie.Need-step-requires Inv-loop μ-loop
-step-requires c κs = let g = c .before .before .before .before .before .before .before .before .before .before .before .loop .inv .2 in let own = c .before .before .before .before .before .before .before .before .before .before .before .loop .inv .1 in let cap = c .before .before .before .before .before .before .before .before .before .before .before .loop .inv .0 in let h = c .before .before .before .before .before .before .before .before .before .before .loop-test .taken in running-ready g h _ own _ _ cap (c .before .before .before .before .before .before .event-row .ensures) (c .before .before .before .before .before .if1 .left) (c .before .before .before .before .before .before .before .before .before .before .before .loop .inv .3)
-
+-- src/lib.rt:93:5
 loop-less-2 : tie.Need-loop-less-2 Inv-loop μ-loop
-loop-less-2 c = omega (arith, c .before .before .before .before .before .before .before .before .before .before .before .before .before .before .loop-test .taken)
+loop-less-2 c = ?
 
+-- src/lib.rt:93:5
 loop-again-2 : tie.Need-loop-again-2 Inv-loop μ-loop
-loop-again-2 c = let g = c .before .before .before .before .before .before .before .before .before .before .before .before .before .before .before .loop .inv .2 in let own = c .before .before .before .before .before .before .before .before .before .before .before .before .before .before .before .loop .inv .1 in let cap = c .before .before .before .before .before .before .before .before .before .before .before .before .before .before .before .loop .inv .0 in let h = c .before .before .before .before .before .before .before .before .before .before .before .before .before .before .loop-test .taken in (cap, own, running-accepts g h _ own _ _ cap (c .before .before .before .before .before .before .before .before .before .before .event-row .ensures) (c .before .before .before .before .before .before .before .before .before .if1 .left) _ (c .before .before .before .step .ensures .0) _ (c .before .before .before .step .ensures .1), c .before .before .before .before .before .before .before .before .before .before .before .before .before .before .before .loop .inv .3)
+loop-again-2 c = ?
 
-completed-requires : tie.Need-completed-requires Inv-loop μ-loop
-completed-requires c κs = let g = c .before .loop .inv .2 in (omega (arith, g .occurs .state-below, g .valid .states-high), omega (arith, g .few))
-
+-- src/lib.rt:73:1
 same-length : tie.Need-same-length Inv-loop μ-loop
-same-length c = let g = c .before .before .loop .inv .2 in let k = g .kept in search needs
+same-length c = ?
 
+-- src/lib.rt:73:1
 returns : tie.Need-returns Inv-loop μ-loop
-unfolding heldEvents
-returns c = let a = c .before .before .before .before .before .before .before .before .before .before .args in let r = running-answer (c .before .before .loop .inv .2) (c .before .loop-test .left) (a .c) (sym (c .before .before .before .before .before .size2 .ensures .0)) (ap (λ n. take n (a .c .buffer)) (sym (c .before .before .before .size3 .ensures .0))) in (c .completed .ensures ∙ r .0, r .1)
+returns c = ?
 
 pub process-spec : {M : Type 1} → statement M
 process-spec =
@@ -79,21 +66,15 @@ process-spec =
     (tie.spec
     Inv-loop
     μ-loop
-    size-requires
-    size-requires-2
-    size-requires-3
     loop-holds
     mul-event
     shared-slice-read-event
     add-i
-    event-row-requires
+    process-event-requires
     add-refused
     loop-less
     loop-again
-    cast-step
-    step-requires
     loop-less-2
     loop-again-2
-    completed-requires
     same-length
     returns)
