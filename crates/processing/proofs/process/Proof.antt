@@ -1,64 +1,80 @@
+use Prim.Native.Nat.{_-_, _<_}
+use lib.ListN.{length}
+use native.Mathlib.Omega.{arith}
+use borrow.Author.Needs.{needs}
+use Rattle.processing.proofs.Running.{Going, going-starts, going-enters, going-kept, going-room, going-refuses, going-accepts, going-ends}
 use Rattle.processing.proofs.process.Statement.{statement}
 use Rattle.processing.proofs.process.Tie as tie
-use Rattle.processing.proofs.process.Reads as reads
-use Rattle.processing.proofs.process.Lts as lts
-use Rattle.processing.proofs.process_event.Reads as process-event-reads
 
 abbrev Inv-loop : tie.InvT-loop
 Inv-loop limits next ranks table events out₀ own state₀ held₀ buffer₀ written₀ refused₀ i₀ out state held buffer written refused i =
-    ?
+    Going limits next ranks table events out₀ (record { state = state₀; held = held₀; buffer = buffer₀ }) out
+    (record { state = state; held = held; buffer = buffer }) written refused i
 
 abbrev μ-loop : tie.MeasureT-loop
 μ-loop limits next ranks table events out₀ own state₀ held₀ buffer₀ written₀ refused₀ i₀ out state held buffer written refused i =
-    ?
+    length events - i
 
--- src/lib.rt:93:5
+-- The places that later needs look back to.
+
+indexed : (c : tie.After-slice-known Inv-loop μ-loop) → length (c .before .before .before .args .out .now) < 18446744073709551616
+indexed c = search needs
+
+abbrev body : tie.After-process-event-arg Inv-loop μ-loop → tie.In-loop Inv-loop μ-loop
+body c = c .before .before .before
+
+abbrev taken : tie.After-struct-known Inv-loop μ-loop → tie.After-process-event Inv-loop μ-loop
+taken c = c .before .before .before
+
 loop-holds : tie.Need-loop-holds Inv-loop μ-loop
-loop-holds c = ?
+loop-holds c =
+    let s = c .before .before in
+    let p = s .before .before .before .pre in
+    going-starts _ _ (p .0) (p .1) (indexed s)
 
--- src/lib.rt:94:21
 mul-event : tie.Need-mul-event Inv-loop μ-loop
-mul-event c = ?
+mul-event c = search needs
 
--- src/lib.rt:94:21
 shared-slice-read-event : tie.Need-shared-slice-read-event Inv-loop μ-loop
-shared-slice-read-event c = ?
+shared-slice-read-event c = search needs
 
--- src/lib.rt:95:13
 add-i : tie.Need-add-i Inv-loop μ-loop
-add-i c = ?
+add-i c = search needs
 
--- src/lib.rt:96:13
 process-event-requires : tie.Need-process-event-requires Inv-loop μ-loop
-process-event-requires c κs = ?
+process-event-requires c κs =
+    let b = body c in
+    let g = b .before .loop .inv in
+    (going-enters g, going-room g (b .loop-test .taken))
 
--- src/lib.rt:111:23
 add-refused : tie.Need-add-refused Inv-loop μ-loop
-add-refused c = ?
+add-refused c =
+    let b = body (taken (c .before) .before) in
+    omega (arith, b .before .loop .inv .passed-over, b .before .loop .inv .indexed, b .before .loop .inv .enough, b .loop-test .taken)
 
--- src/lib.rt:93:5
 loop-less : tie.Need-loop-less Inv-loop μ-loop
-loop-less c = ?
+loop-less c = omega (arith, body (taken (c .before) .before) .loop-test .taken)
 
--- src/lib.rt:93:5
 loop-again : tie.Need-loop-again Inv-loop μ-loop
-loop-again c = ?
+loop-again c =
+    let t = taken (c .before) in
+    let b = body (t .before) in
+    going-refuses (b .before .loop .inv) (b .loop-test .taken) _ _ (t .process-event .ensures) (c .if1 .taken)
 
--- src/lib.rt:93:5
 loop-less-2 : tie.Need-loop-less-2 Inv-loop μ-loop
-loop-less-2 c = ?
+loop-less-2 c = omega (arith, body (taken (c .before .before .before) .before) .loop-test .taken)
 
--- src/lib.rt:93:5
 loop-again-2 : tie.Need-loop-again-2 Inv-loop μ-loop
-loop-again-2 c = ?
+loop-again-2 c =
+    let t = taken (c .before .before .before) in
+    let b = body (t .before) in
+    going-accepts (b .before .loop .inv) (b .loop-test .taken) _ _ (t .process-event .ensures) (c .before .before .if1 .left)
 
--- src/lib.rt:73:1
 same-length : tie.Need-same-length Inv-loop μ-loop
-same-length c = ?
+same-length c = going-kept (c .before .loop .inv)
 
--- src/lib.rt:73:1
 returns : tie.Need-returns Inv-loop μ-loop
-returns c = ?
+returns c = going-ends (c .before .loop .inv) (c .loop-test .left)
 
 pub process-spec : {M : Type 1} → statement M
 process-spec =
