@@ -1,68 +1,106 @@
+use Prim.Native.Nat.{_+_, _<_, _≤_}
+use mathlib.Core.Path.{_≡_, _∙_, sym}
+use mathlib.Core.Bool.{true}
+use lib.ListN.{length, length-drop}
+use lib.Seq.{length-take-le}
+use native.Mathlib.Omega.{arith}
+use borrow.Author.Tests.{not-true, not-false}
 use borrow.Author.Needs.{needs}
+use Rattle.configuration.specs.Configuration.{consistentIn}
+use Rattle.processing.proofs.Taking.{symbols-small}
+use Rattle.processing.proofs.Turning.{turns-inconsistent, part-room, turn-enters, turn-room, turns-refused, end-fits, turns-accepted}
 use Rattle.processing.proofs.turn.Statement.{statement}
 use Rattle.processing.proofs.turn.Tie as tie
-use Rattle.processing.proofs.turn.Reads as reads
-use Rattle.processing.proofs.turn.Lts as lts
-use Rattle.base.proofs.size.Reads as size-reads
-use Rattle.consistency.proofs.consistent.Reads as consistent-reads
-use Rattle.processing.proofs.process.Reads as process-reads
-use Rattle.stepping.proofs.event_row.Reads as event-row-reads
 
--- src/lib.rt:149:9
+-- The places that later needs look back to, and what stands there.
+
+indexed : (c : tie.After-slice-known) → length (c .before .before .args .out .now) < 18446744073709551616
+indexed c = search needs
+
+-- row 13 passed
+abbrev start : tie.Else1 → tie.Start
+start c = c .before .before .before .before
+
+stands : (c : tie.Else1) → let x = start c .args in
+    consistentIn (x .limits .states) (x .limits .symbols) (x .limits .capacity) (x .classes .now) (x .c) ≡ true
+stands c = sym (c .before .consistent .ensures) ∙ not-false _ (c .if1 .left)
+
+room : (c : tie.Else1) → start c .args .at + start c .args .c .held < length (start c .args .out .now)
+room c = turn-room _ _ _ _ _ _ _ (stands c) (start c .pre)
+
+-- rows 14 and 15 are asked
+abbrev passed : tie.After-event-row → tie.Else1
+passed c = c .before .before .before
+
+-- the event is handed to the loop
+abbrev asked : tie.After-process-arg → tie.After-event-row
+asked c = c .before .before
+
+ended : (c : tie.After-process) → start (passed (asked (c .before .before))) .args .at + c .process .result .length ≤ length (start (passed (asked (c .before .before))) .args .out .now)
+ended c =
+    let n = c .before .before in
+    let r = asked n in
+    let p = passed r in
+    end-fits _ _ _ _ _ _ _ (stands p) _ _ _ _ (r .before .before .size .ensures .0) (r .before .size2 .ensures .0) (r .event-row .ensures)
+    (n .before .if2 .left) (start p .args .out .now) _ _ (start p .pre) (c .process .ensures)
+
+abbrev done : tie.After-struct-known → tie.After-process
+done c = c .before .before .before .before .before
+
 consistent-requires : tie.Need-consistent-requires
 consistent-requires c κs = search needs
 
--- src/lib.rt:150:9
 returns : tie.Need-returns
-returns c = ?
+returns c = turns-inconsistent _ _ _ _ _ _ _ _ _ (sym (c .before .consistent .ensures) ∙ not-true _ (c .if1 .taken))
 
--- src/lib.rt:157:48
 size-requires : tie.Need-size-requires
 size-requires c κs = search needs
 
--- src/lib.rt:157:71
 size-requires-2 : tie.Need-size-requires-2
 size-requires-2 c κs = search needs
 
--- src/lib.rt:157:9
 event-row-requires : tie.Need-event-row-requires
-event-row-requires c κs = ?
+event-row-requires c κs = symbols-small (start (c .before .before) .pre .lends)
 
--- src/lib.rt:159:9
 returns-2 : tie.Need-returns-2
-returns-2 c = ?
+returns-2 c =
+    let r = c .before in
+    turns-refused _ _ _ _ _ _ _ (stands (passed r)) _ _ _ _ (r .before .before .size .ensures .0) (r .before .size2 .ensures .0) (r .event-row .ensures)
+    _ (c .if2 .taken)
 
--- src/lib.rt:165:54
 slice-aggregate-process : tie.Need-slice-aggregate-process
 slice-aggregate-process c = search needs
 
--- src/lib.rt:165:64
 sub-process : tie.Need-sub-process
-sub-process c = ?
+sub-process c = omega (arith, room (passed (asked c)))
 
--- src/lib.rt:165:64
 part-process-start : tie.Need-part-process-start
-part-process-start c = ?
+part-process-start c = omega (arith, room (passed (asked c)))
 
--- src/lib.rt:165:64
 part-process-end : tie.Need-part-process-end
 part-process-end c = search needs
 
--- src/lib.rt:165:9
 process-requires : tie.Need-process-requires
-process-requires c κs = ?
+process-requires c κs =
+    let p = passed (asked (c .before)) in
+    (turn-enters _ _ _ _ _ _ _ (stands p) (start p .pre), part-room (start p .args .out .now) (start p .args .at) _ (room p))
 
--- src/lib.rt:175:18
 add-t16 : tie.Need-add-t16
-add-t16 c = ?
+add-t16 c =
+    let d = done c in
+    omega (arith, ended d, indexed (passed (asked (d .before .before)) .before .before))
 
--- src/lib.rt:134:1
 same-length : tie.Need-same-length
 same-length c = search needs
 
--- src/lib.rt:134:1
 returns-3 : tie.Need-returns-3
-returns-3 c = ?
+returns-3 c =
+    let d = done c in
+    let n = d .before .before in
+    let r = asked n in
+    let p = passed r in
+    turns-accepted _ _ _ _ _ _ _ (stands p) _ _ _ _ (r .before .before .size .ensures .0) (r .before .size2 .ensures .0) (r .event-row .ensures)
+    (n .before .if2 .left) (start p .args .out .now) _ _ (start p .pre) (d .process .ensures)
 
 pub turn-spec : {M : Type 1} → statement M
 turn-spec =
