@@ -1,20 +1,25 @@
 -- Rows 11 and 12 alone, and one event for any configuration below them.
 use Prim.Native.Nat.{ℕ, _+_, _≤_}
-use mathlib.Core.Path.{_≡_, _∙_, sym}
+use mathlib.Core.Path.{_≡_, refl, _∙_, sym}
 use mathlib.Core.Bool.{Bool, true, false}
 use mathlib.Core.List.{List, [], _++_}
 use native.Mathlib.Nat.{add-zero}
 use native.Mathlib.Omega.{arith}
 use lib.ListN.{length}
-use borrow.Author.Tests.{ne-eqb}
+use lib.Dec.{eqb}
+use borrow.Author.Tests.{ne-eqb, eqb-true, eqb-false}
 use Rattle.base.specs.Rows.{first}
 use Rattle.base.proofs.Bools.{by}
 use Rattle.automaton.specs.declared.Automaton.{Automaton}
 use Rattle.automaton.specs.Automaton.{valid}
+use Rattle.automaton.proofs.Facts.{Valid, valid-facts}
 use Rattle.sets.specs.Table.{short}
+use Rattle.sets.proofs.Total.{total}
 use Rattle.configuration.specs.declared.Configuration.{Configuration}
-use Rattle.configuration.specs.Configuration.{Position, positionOf, configuration, consistent}
+use Rattle.configuration.specs.Configuration.{Position, heldEvents, positionOf, configuration, consistent}
+use Rattle.configuration.proofs.Facts.{Consistent, consistent-facts, consistent-of, configuration-consistent, held-buffer}
 use Rattle.releasing.specs.Step.{byTable, Effect, effectFrom, advance, eventRows, eventRefusal}
+use Rattle.releasing.proofs.Effects.{OccursAt, advance-occurs, effect-length}
 use Rattle.answers.specs.Answers.{tableRows, tableRefusal, configurationRows, callRows, callRefusal, receiveRefusal}
 use Rattle.answers.specs.Turns.{Turned, turnRows, turnRefusal, turnEmitted, turnNext, turned}
 
@@ -85,6 +90,10 @@ module _ (a : Automaton) (t : List ℕ) (c : Configuration) where
       unfolding turned turnNext turnEmitted
       turn-refused at = rw (h, ne-eqb n 0 z, add-zero at)
 
+      pub turn-unmoved : turnNext a t c e ≡ c
+      unfolding turnNext
+      turn-unmoved = rw (h, ne-eqb n 0 z)
+
       pub turn-silent : turnEmitted a t c e ≡ []
       unfolding turnEmitted
       turn-silent = rw (h, ne-eqb n 0 z)
@@ -106,3 +115,41 @@ module _ (a : Automaton) (t : List ℕ) (c : Configuration) where
           → turned a t c e at ≡ record { row = 0; configuration = configuration (advance (byTable a t) a (positionOf c) e); written = at + length (f .emitted) }
       unfolding turned turnNext turnEmitted
       turn-accepted at = rw z
+
+    -- a consistent configuration stays one, and what is emitted and then held is at most one event more than what was held
+    module _ (o : Opened a t) (k : consistent a c ≡ true) where
+      v : Valid a
+      v = valid-facts a (o .record-valid)
+
+      place : Consistent a c
+      place = consistent-facts a c v k
+
+      row : turnRefusal a t c e ≡ 0 → eventRefusal (byTable a t) a (positionOf c) e ≡ 0
+      row z = sym (turn-consistent k) ∙ z
+
+      next-occurs : turnRefusal a t c e ≡ 0 → OccursAt a (advance (byTable a t) a (positionOf c) e)
+      next-occurs z =
+          advance-occurs (byTable a t) a (positionOf c) e (total a (o .record-valid))
+          (record { state-below = place .state-below; buffer = held-buffer a c place }) (row z)
+
+      pub turn-keeps : consistent a (turnNext a t c e) ≡ true
+      turn-keeps =
+          let n = turnRefusal a t c e in
+          by (eqb n 0)
+          (λ z.
+          let h = eqb-true n 0 z in
+          let p = advance (byTable a t) a (positionOf c) e in
+          let b = next-occurs h in
+          rw (turn-moves h) (consistent-of a (configuration p) (configuration-consistent a v p (b .state-below) (b .buffer))))
+          (λ z. rw (turn-unmoved n refl (eqb-false n 0 z)) k)
+
+      pub turn-room : length (turnEmitted a t c e) + turnNext a t c e .held ≤ 1 + c .held
+      turn-room =
+          let n = turnRefusal a t c e in
+          by (eqb n 0)
+          (λ z.
+          let h = eqb-true n 0 z in
+          rw (turn-emits h, turn-moves h) (omega (arith, effect-length (byTable a t) a (c .state) (heldEvents c) e, place .held-length)))
+          (λ z.
+          let y = eqb-false n 0 z in
+          rw (turn-silent n refl y, turn-unmoved n refl y) (omega arith))

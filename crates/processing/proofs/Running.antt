@@ -10,20 +10,18 @@ use lib.ListN.{length, getD, drop, length-append}
 use lib.Seq.{sets, sets-eq, length-sets, drop-cons, drop-length}
 use Rattle.base.proofs.Stores.{sets-join}
 use Rattle.automaton.specs.declared.Automaton.{Automaton}
-use Rattle.sets.proofs.Total.{total}
 use Rattle.configuration.specs.declared.Configuration.{Configuration}
-use Rattle.configuration.specs.Configuration.{Position, heldEvents, positionOf, configuration, consistent}
-use Rattle.configuration.proofs.Facts.{consistent-of, configuration-consistent, position-made}
+use Rattle.configuration.specs.Configuration.{Position, positionOf, configuration, consistent}
+use Rattle.configuration.proofs.Facts.{position-made}
 use Rattle.releasing.specs.Step.{byTable, Effect, effectFrom, advance, eventRefusal, Run, runOf}
-use Rattle.releasing.proofs.Effects.{OccursAt, advance-occurs, effect-length}
 use Rattle.releasing.proofs.Runs.{run-accepts, run-refuses}
 use Rattle.answers.specs.declared.Turned.{Turned}
 use Rattle.answers.specs.declared.Ran.{Ran}
 use Rattle.answers.specs.Answers.{ranOf, ranBufferOf}
-use Rattle.answers.specs.Turns.{turnRefusal, turned, turnedBuffer}
-use Rattle.answers.proofs.Turns.{turn-consistent, turn-silent, turn-accepted, turn-emits}
+use Rattle.answers.specs.Turns.{turnRefusal, turnEmitted, turnNext, turned, turnedBuffer}
+use Rattle.answers.proofs.Turns.{turn-consistent, turn-silent, turn-emits, turn-moves, turn-keeps, turn-room}
 use Rattle.processing.specs.Lending.{Limits, Lends, Enters, Takes, Runs}
-use Rattle.processing.proofs.Taking.{facts, place, occurs}
+use Rattle.processing.proofs.Taking.{opens, place}
 
 -- a run after what was done before it
 abbrev pub joined : List ℕ → ℕ → Run → Run
@@ -83,25 +81,21 @@ module _ {a : Automaton} {l : Limits} {next ranks t events out₀ : List ℕ} {c
       row : eventRefusal (byTable a t) a p e ≡ 0
       row = sym (turn-consistent a t c e (g .stands)) ∙ z
 
-      after-occurs : OccursAt a after
-      after-occurs = advance-occurs (byTable a t) a p e (total a (o .record-valid)) (occurs o c (g .stands)) row
-
       running-accepted : (r : Turned) → r ≡ turned a t c e written → (out′ : List ℕ) → out′ ≡ turnedBuffer a t c e written out
           → Running a t events out₀ c₀ out′ (r .configuration) (r .written) refused (i + 1)
-      unfolding turnedBuffer
+      unfolding turned turnedBuffer
       running-accepted r er out′ eo =
-          let s = er ∙ turn-accepted a t c e z written in
-          let moved : r .configuration ≡ configuration after = ap (λ (y : Turned). y .configuration) s in
-          let grown : r .written ≡ written + length (f .emitted) = ap (λ (y : Turned). y .written) s in
-          let there : positionOf (r .configuration) ≡ after = ap positionOf moved ∙ position-made after in
+          let moved : r .configuration ≡ turnNext a t c e = ap (λ (y : Turned). y .configuration) er in
+          let grown : r .written ≡ written + length (turnEmitted a t c e) = ap (λ (y : Turned). y .written) er in
+          let there : positionOf (r .configuration) ≡ after = ap positionOf (moved ∙ turn-moves a t c e z) ∙ position-made after in
           let at : written ≡ 0 + length (g .done) = omega (arith, g .written-is) in
-          let held = place o c (g .stands) .held-length in
           record {
-            stands = rw moved (consistent-of a (configuration after) (configuration-consistent a (facts o) after (after-occurs .state-below) (after-occurs .buffer)));
+            stands = rw moved (turn-keeps a t c e (opens o) (g .stands));
             done = g .done ++ f .emitted;
-            written-is = length-append (g .done) (f .emitted) ∙ ap (λ n. n + length (f .emitted)) (g .written-is) ∙ sym grown;
-            fits =
-                omega (arith, g .fits, grown, ap (λ (y : Configuration). y .held) moved, held, effect-length (byTable a t) a (c .state) (heldEvents c) e);
+            written-is =
+                length-append (g .done) (f .emitted) ∙ ap (λ n. n + length (f .emitted)) (g .written-is) ∙
+                ap (λ x. written + length x) (sym (turn-emits a t c e z)) ∙ sym grown;
+            fits = omega (arith, g .fits, grown, ap (λ (y : Configuration). y .held) moved, turn-room a t c e (opens o) (g .stands));
             put =
                 eo ∙ ap (sets out written) (turn-emits a t c e z) ∙ ap₂ (λ y k. sets y k (f .emitted)) (g .put) at ∙
                 sets-join out₀ 0 (g .done) (f .emitted);

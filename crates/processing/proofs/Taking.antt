@@ -1,6 +1,6 @@
 -- One event for a consistent configuration, as the code finds it over the lent parts of an automaton.
 use Prim.Native.Nat.{ℕ, _+_, _<_, _≤_}
-use mathlib.Core.Path.{_≡_, sym, _∙_, ap}
+use mathlib.Core.Path.{_≡_, refl, sym, _∙_, ap}
 use mathlib.Core.Bool.{true}
 use mathlib.Core.List.{List}
 use native.Mathlib.Omega.{arith}
@@ -13,17 +13,33 @@ use Rattle.configuration.specs.declared.Configuration.{Configuration}
 use Rattle.configuration.specs.Configuration.{heldEvents, positionOf, consistent}
 use Rattle.configuration.proofs.Facts.{Consistent, consistent-facts, held-buffer}
 use Rattle.releasing.specs.Step.{byTable, effect, effectFrom, advance, eventRefusal}
-use Rattle.releasing.specs.Parts.{restIn, over}
+use Rattle.releasing.specs.declared.Ranking.{Ranking}
+use Rattle.releasing.specs.Parts.{rankingOf, restIn, over}
 use Rattle.releasing.proofs.Effects.{OccursAt, Accepts, accepted-facts, advance-occurs}
 use Rattle.stepping.specs.declared.Stepped.{Stepped}
 use Rattle.stepping.specs.Stepping.{eventRowBy, stepped, Ready}
 use Rattle.stepping.proofs.Tabled.{row-same, stepped-tabled, emitted-tabled, ready}
 use Rattle.answers.specs.Turns.{turnRefusal, turnedBuffer}
-use Rattle.answers.proofs.Turns.{turn-consistent, turn-refused, turn-silent, turn-accepted, turn-emits}
+use Rattle.answers.proofs.Turns.{Opened, turn-consistent, turn-refused, turn-silent, turn-accepted, turn-emits}
 use Rattle.processing.specs.Lending.{Limits, Lends, Enters, Takes}
+
+-- what the code lends is an automaton's own
+pub lends : (a : Automaton) (t : List ℕ) → Opened a t → (r : Ranking) → r ≡ rankingOf (a .classes) (a .symbols)
+    → Lends a (record { controllables = r .count; states = a .states; symbols = a .symbols; capacity = a .capacity }) (a .next) (r .ranks) t
+lends a t o r e =
+    record {
+      record-valid = o .record-valid;
+      table-long = o .table-long;
+      limits-are = ap (λ (y : Ranking). record { controllables = y .count; states = a .states; symbols = a .symbols; capacity = a .capacity }) e;
+      next-are = refl;
+      ranks-are = ap (λ (y : Ranking). y .ranks) e;
+    }
 
 -- what a consistent configuration of a valid automaton is
 module _ {a : Automaton} {l : Limits} {next ranks t : List ℕ} (o : Lends a l next ranks t) where
+  pub opens : Opened a t
+  opens = record { record-valid = o .record-valid; table-long = o .table-long }
+
   pub facts : Valid a
   facts = valid-facts a (o .record-valid)
 

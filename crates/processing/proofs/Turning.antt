@@ -8,17 +8,16 @@ use lib.ListN.{length, take, drop, length-drop, drop-of-length-le}
 use lib.Seq.{sets, sets-eq, drop-drop, take-all}
 use Rattle.automaton.specs.declared.Automaton.{Automaton}
 use Rattle.configuration.specs.declared.Configuration.{Configuration}
-use Rattle.configuration.specs.Configuration.{heldEvents, positionOf, configuration, consistentIn, consistent}
+use Rattle.configuration.specs.Configuration.{positionOf, configuration, consistentIn, consistent}
 use Rattle.releasing.specs.Step.{byTable, effectFrom, advance, eventRefusal, Run, runOf}
-use Rattle.releasing.proofs.Effects.{effect-length}
 use Rattle.releasing.proofs.Runs.{run-accepts}
 use Rattle.stepping.specs.Stepping.{eventRowBy}
 use Rattle.answers.specs.declared.Ran.{Ran}
 use Rattle.answers.specs.Answers.{ranOf, ranBufferOf}
 use Rattle.answers.specs.Turns.{turnRefusal, turnedBuffer}
-use Rattle.answers.proofs.Turns.{turn-inconsistent, turn-consistent, turn-refused, turn-silent, turn-accepted, turn-emits}
+use Rattle.answers.proofs.Turns.{turn-inconsistent, turn-consistent, turn-refused, turn-silent, turn-accepted, turn-emits, turn-room}
 use Rattle.processing.specs.Lending.{Limits, Lends, Opens, Enters, Turns, Runs}
-use Rattle.processing.proofs.Taking.{place, turn-row}
+use Rattle.processing.proofs.Taking.{opens, turn-row}
 
 -- what is written at the front of a list's end is written in the list at that place
 behind : (out : List ℕ) (at : ℕ) (vs : List ℕ) → at + length vs ≤ length out
@@ -51,12 +50,12 @@ module _ (l : Limits) (classes next ranks t : List ℕ) (c : Configuration) (at 
 
   -- row 13 passed
   module _ (k : stands ≡ true) where
-    pub turn-enters : {size : ℕ} → Opens l classes next ranks t c at size → Enters l next ranks t c
-    turn-enters g =
+    pub opens-enters : {size : ℕ} → Opens l classes next ranks t c at size → Enters l next ranks t c
+    opens-enters g =
         record { automaton = g .automaton; lends = g .lends; stands = sym (stands-is (g .automaton) (g .lends) (g .classes-are)) ∙ k }
 
-    pub turn-room : {size : ℕ} → Opens l classes next ranks t c at size → at + c .held < size
-    turn-room g = g .room (sym (stands-is (g .automaton) (g .lends) (g .classes-are)) ∙ k)
+    pub opens-room : {size : ℕ} → Opens l classes next ranks t c at size → at + c .held < size
+    opens-room g = g .room (sym (stands-is (g .automaton) (g .lends) (g .classes-are)) ∙ k)
 
     module _ (e capacity held n : ℕ) (ec : capacity ≡ l .capacity) (eh : held ≡ c .held) (en : n ≡ eventRowBy ranks (l .symbols) capacity held e) where
       row-is : (a : Automaton) → Lends a l next ranks t → classes ≡ a .classes → turnRefusal a t c e ≡ n
@@ -86,18 +85,18 @@ module _ (l : Limits) (classes next ranks t : List ℕ) (c : Configuration) (at 
               rw (append-nil (effectFrom (byTable a t) a (positionOf c) e .emitted))
 
           ran-is : r ≡ record {
-              refusal = 0;
-              configuration = configuration (advance (byTable a t) a (positionOf c) e);
-              length = length (effectFrom (byTable a t) a (positionOf c) e .emitted);
-              refused = 0;
-            }
+            refusal = 0;
+            configuration = configuration (advance (byTable a t) a (positionOf c) e);
+            length = length (effectFrom (byTable a t) a (positionOf c) e .emitted);
+            refused = 0;
+          }
           ran-is =
               f a o own .0 ∙
               ap (λ (y : Run). record { refusal = 0; configuration = configuration (y .last); length = length (y .emitted); refused = y .refused }) alone
 
           fits : at + length (effectFrom (byTable a t) a (positionOf c) e .emitted) ≤ length out
           fits =
-              omega (arith, effect-length (byTable a t) a (c .state) (heldEvents c) e, place o c own .held-length, turn-room g)
+              omega (arith, ap length (turn-emits a t c e passes), turn-room a t c e (opens o) own, opens-room g)
 
         pub end-fits : at + r .length ≤ length out
         end-fits =

@@ -19,10 +19,10 @@ pub use Rattle.processing.specs.declared.Limits.{Limits}
 abbrev pub limitsOf : Automaton → Limits
 limitsOf a =
     record {
+      controllables = rankingOf (a .classes) (a .symbols) .count;
       states = a .states;
       symbols = a .symbols;
       capacity = a .capacity;
-      controllables = rankingOf (a .classes) (a .symbols) .count;
     }
 
 -- the limits, the next states and the ranks of a valid automaton, whose table is long enough

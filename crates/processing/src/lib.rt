@@ -11,12 +11,12 @@ ghost use Prim.Native.Nat.{_+_, _≤_, _<_};
 ghost use lib.ListN.{length};
 ghost use Rattle.processing.specs.Lending.{Opens, Enters, Turns, Takes, Runs};
 
-// The numbers of an automaton that an event is held to, and how many of its symbols are controllable.
+// How many symbols of an automaton are controllable, and the numbers that an event is held to.
 pub struct Limits {
+    pub controllables: u32,
     pub states: u8,
     pub symbols: u8,
     pub capacity: u8,
-    pub controllables: u32,
 }
 
 // One event for a consistent configuration: rows 14 and 15, and the step of an accepted one, which writes from a place on. (The
@@ -154,7 +154,13 @@ pub fn turn<'a>(
         };
     }
     // `process` passes over a refused event without a word, so the row is asked here.
-    let row = event_row(ranks, limits.symbols, size(limits.capacity), size(c.held), event);
+    let row = event_row(
+        ranks,
+        limits.symbols,
+        size(limits.capacity),
+        size(c.held),
+        event,
+    );
     if row != 0 {
         return Turned {
             row,

@@ -8,7 +8,7 @@ use borrow.Author.Tests.{not-true, not-false}
 use borrow.Author.Needs.{needs}
 use Rattle.configuration.specs.Configuration.{consistentIn}
 use Rattle.processing.proofs.Taking.{symbols-small}
-use Rattle.processing.proofs.Turning.{turns-inconsistent, part-room, turn-enters, turn-room, turns-refused, end-fits, turns-accepted}
+use Rattle.processing.proofs.Turning.{turns-inconsistent, part-room, opens-enters, opens-room, turns-refused, end-fits, turns-accepted}
 use Rattle.processing.proofs.turn.Statement.{statement}
 use Rattle.processing.proofs.turn.Tie as tie
 
@@ -26,7 +26,7 @@ stands : (c : tie.Else1) → let x = start c .args in
 stands c = sym (c .before .consistent .ensures) ∙ not-false _ (c .if1 .left)
 
 room : (c : tie.Else1) → start c .args .at + start c .args .c .held < length (start c .args .out .now)
-room c = turn-room _ _ _ _ _ _ _ (stands c) (start c .pre)
+room c = opens-room _ _ _ _ _ _ _ (stands c) (start c .pre)
 
 -- rows 14 and 15 are asked
 abbrev passed : tie.After-event-row → tie.Else1
@@ -83,7 +83,7 @@ part-process-end c = search needs
 process-requires : tie.Need-process-requires
 process-requires c κs =
     let p = passed (asked (c .before)) in
-    (turn-enters _ _ _ _ _ _ _ (stands p) (start p .pre), part-room (start p .args .out .now) (start p .args .at) _ (room p))
+    (opens-enters _ _ _ _ _ _ _ (stands p) (start p .pre), part-room (start p .args .out .now) (start p .args .at) _ (room p))
 
 add-t16 : tie.Need-add-t16
 add-t16 c =
