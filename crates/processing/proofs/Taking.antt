@@ -35,6 +35,10 @@ lends a t o r e =
       ranks-are = ap (λ (y : Ranking). y .ranks) e;
     }
 
+pub enters : {a : Automaton} {l : Limits} {next ranks t : List ℕ} {c : Configuration} → Lends a l next ranks t → consistent a c ≡ true
+    → Enters l next ranks t c
+enters {a} o k = record { automaton = a; lends = o; stands = k }
+
 -- what a consistent configuration of a valid automaton is
 module _ {a : Automaton} {l : Limits} {next ranks t : List ℕ} (o : Lends a l next ranks t) where
   pub opens : Opened a t
