@@ -25,3 +25,11 @@ pub struct Ran {
     pub length: usize,
     pub refused: usize,
 }
+
+// What one event brings where what it emits is written at a place of a lent output: the refusing row (0: none), the next
+// configuration, and the place after what was written. Refused: the row, the configuration given and the place given.
+pub struct Turned {
+    pub row: u8,
+    pub configuration: Configuration,
+    pub written: usize,
+}

@@ -3,7 +3,9 @@ use answers::Ran;
 use automaton::Automaton;
 use base::size;
 use configuration::Configuration;
+use consistency::consistent;
 use entering::enter;
+use processing::Limits;
 use processing::process;
 ghost use mathlib.Core.Path.{_≡_};
 ghost use Rattle.answers.specs.Answers.{refusedRun, ran, ranBuffer};
@@ -31,10 +33,12 @@ pub fn run(a: Automaton, table: &[u32], c: Configuration, events: &[u32], out: &
         &a.accepting,
         &a.next,
         table,
-        c,
     );
     if entry.refusal != 0 {
         return refused_run(entry.refusal, c);
+    }
+    if !consistent(a.states, a.symbols, a.capacity, &a.classes, c) {
+        return refused_run(13, c);
     }
     let held = size(c.held);
     if out.len() < held {
@@ -44,5 +48,11 @@ pub fn run(a: Automaton, table: &[u32], c: Configuration, events: &[u32], out: &
         return refused_run(16, c);
     }
     let ranking = entry.ranking;
-    process(a, ranking, table, c, events, out)
+    let limits = Limits {
+        controllables: ranking.count,
+        states: a.states,
+        symbols: a.symbols,
+        capacity: a.capacity,
+    };
+    process(limits, &a.next, &ranking.ranks, table, c, events, out)
 }

@@ -1,6 +1,5 @@
-// Rows 11 to 13, which every call on a record, a table and a configuration checks first.
+// Rows 11 and 12, which every call on a record and a table checks first. (Row 13 is crate `consistency`.)
 use base::size;
-use configuration::Configuration;
 use releasing::Ranking;
 use searching::rank_symbols;
 use validity::valid_in;
@@ -9,7 +8,7 @@ ghost use mathlib.Core.Bool.{true};
 ghost use Rattle.automaton.specs.Automaton.{shaped, assembled};
 ghost use Rattle.entering.specs.Entries.{entryOf};
 
-// The refusing row of 11 to 13 (0: none), and the ranking of the symbols of a valid record.
+// The refusing row of 11 and 12 (0: none), and the ranking of the symbols of a valid record.
 pub struct Entry {
     pub refusal: u8,
     pub ranking: Ranking,
@@ -25,10 +24,10 @@ pub fn enter<'a>(
     accepting: &'a [u8; 32],
     next: &'a [u8; 512],
     table: &[u32],
-    c: Configuration,
 ) -> Entry
     requires { ⌜ shaped (assembled states symbols capacity initial (now classes) (now accepting) (now next)) ≡ true ⌝ }
-    ensures { λ r. ⌜ r ≡ entryOf (assembled states symbols capacity initial (now (classes .entry)) (now (accepting .entry)) (now (next .entry))) (now (table .entry)) c ⌝ }
+    ensures { λ r. let a = assembled states symbols capacity initial (now (classes .entry)) (now (accepting .entry)) (now (next .entry)) in
+        ⌜ r ≡ entryOf a (now (table .entry)) ⌝ }
 {
     if !valid_in(states, symbols, capacity, initial, classes, accepting, next) {
         return Entry {
@@ -44,12 +43,6 @@ pub fn enter<'a>(
     if table.len() < 2 * buffers {
         return Entry {
             refusal: 12,
-            ranking,
-        };
-    }
-    if !consistency::consistent(states, symbols, capacity, classes, c) {
-        return Entry {
-            refusal: 13,
             ranking,
         };
     }

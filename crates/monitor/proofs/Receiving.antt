@@ -1,137 +1,137 @@
--- The ways out of one event.
+-- The ways out of the two calls.
 use Prim.Native.Nat.{ℕ, _+_, _<_, _≤_}
-use mathlib.Core.Path.{_≡_, sym, _∙_, ap, subst}
-use mathlib.Core.Bool.{Bool, false}
-use mathlib.Core.List.{List, [], _∷_, _++_, append-nil}
+use mathlib.Core.Path.{_≡_, refl, sym, _∙_, ap, subst}
+use mathlib.Core.Bool.{Bool, true, false}
+use mathlib.Core.List.{List}
 use native.Mathlib.Nat.{zero-add}
 use native.Mathlib.Omega.{arith}
-use lib.ListN.{length, getD, take, drop, replicate}
-use lib.Seq.{sets-eq}
+use lib.ListN.{length, getD, take, replicate}
+use lib.Seq.{sets}
 use borrow.Author.Tests.{ne-eqb}
 use Rattle.base.specs.Pad.{pad}
-use Rattle.base.proofs.Padding.{pad-stored, take-pad}
+use Rattle.base.proofs.Padding.{pad-stored}
 use Rattle.automaton.specs.declared.Automaton.{Automaton}
-use Rattle.automaton.proofs.Facts.{valid-of}
-use Rattle.sets.proofs.Total.{total}
+use Rattle.automaton.proofs.Facts.{Valid, valid-facts}
 use Rattle.configuration.specs.declared.Configuration.{Configuration}
-use Rattle.configuration.specs.Configuration.{heldEvents, positionOf, configuration}
-use Rattle.configuration.proofs.Facts.{held-buffer}
-use Rattle.releasing.specs.Step.{byTable, Effect, effect, eventRows, eventRefusal, Run, runOf}
+use Rattle.configuration.specs.Configuration.{Position, heldEvents, positionOf, configuration, consistent}
+use Rattle.configuration.proofs.Facts.{Consistent, consistent-facts, held-buffer, position-made}
+use Rattle.releasing.specs.Step.{byTable, Effect, effectFrom, advance}
 use Rattle.releasing.specs.declared.Ranking.{Ranking}
 use Rattle.releasing.specs.Parts.{rankingOf, restIn, Lent}
-use Rattle.releasing.proofs.Effects.{Occurs, accepted-facts, effect-occurs, effect-length}
-use Rattle.releasing.proofs.Runs.{run-accepts}
 use Rattle.releasing.proofs.Tabled.{rest-tabled, lent}
-use Rattle.stepping.specs.Stepping.{eventRowBy}
-use Rattle.stepping.proofs.Tabled.{row-same, symbols-low}
-use Rattle.answers.specs.declared.Ran.{Ran}
-use Rattle.answers.specs.Answers.{callRefusal, receiveRefusal, refusedEvent, received, isWinning, status, ranOf, ranBufferOf}
-use Rattle.answers.proofs.Refusals.{Clear, status-clear, rows-stand, rows-pass, facts, place}
+use Rattle.stepping.proofs.Tabled.{symbols-low}
+use Rattle.answers.specs.declared.Turned.{Turned}
+use Rattle.answers.specs.Answers.{tableRefusal, callRefusal, isWinning, status, receiveRefusal, refusedEvent, received}
+use Rattle.answers.specs.Turns.{turnRefusal, turnNext, turned, turnedBuffer}
+use Rattle.answers.proofs.Refusals.{status-inconsistent, status-clear}
+use Rattle.answers.proofs.Turns.{Opened, call-stands, receive-unopened, receive-turns, turn-stands, turn-emits, turn-moves, turn-accepted, turn-keeps, turn-room}
+use Rattle.processing.specs.declared.Limits.{Limits}
+use Rattle.processing.specs.Lending.{Opens}
+use Rattle.processing.proofs.Taking.{lends}
 
-module _ (a : Automaton) (t : List ℕ) (c : Configuration) where
-  refused-is : (e n : ℕ) → receiveRefusal a t c e ≡ n → (n ≡ 0 → ⊥) → refusedEvent n c ≡ received a t c e
-  unfolding received
-  refused-is e n h z = rw (h, ne-eqb n 0 z)
+-- what the test of rest asks at a consistent configuration, and what it then answers
+module _ (a : Automaton) (t : List ℕ) (o : Opened a t) (r : Ranking) (own : r ≡ rankingOf (a .classes) (a .symbols)) (c : Configuration)
+    (k : consistent a c ≡ true) where
+  v : Valid a
+  v = valid-facts a (o .record-valid)
 
-  pub receive-stands : (e n : ℕ) → n ≡ callRefusal a t c → (n ≡ 0 → ⊥) → refusedEvent n c ≡ received a t c e
-  unfolding receiveRefusal
-  receive-stands e n g z = refused-is e n (rows-stand a t c (eventRows (byTable a t) a (positionOf c) e) (rw g at z) ∙ sym g) z
+  place : Consistent a c
+  place = consistent-facts a c v k
 
-  module _ (k : Clear a t c) where
-    occurs : Occurs a (c .state) (heldEvents c)
-    occurs = record { state-below = (place a t c k) .state-below; buffer = held-buffer a c (place a t c k) }
+  pub lent-at : Lent (a .next) (r .ranks) (r .count) t (c .state) (c .buffer) (c .held)
+  unfolding heldEvents
+  lent-at =
+      rw own
+      (lent a v t (o .table-long) (c .state) (c .buffer) (c .held) (place .state-below) (place .held-small) (held-buffer a c place)
+      (λ i. subst (λ b. getD b i 0 < 16) (sym (ap (λ (y : Configuration). y .buffer) (place .whole))) (symbols-low a v (heldEvents c) (place .events) i)))
 
-    -- what the release asks
-    pub lent-here : (r : Ranking) → r ≡ rankingOf (a .classes) (a .symbols) → Lent (a .next) (r .ranks) (r .count) t (c .state) (c .buffer) (c .held)
-    unfolding heldEvents
-    lent-here r own =
-        rw own
-        (lent a (facts a t c k) t (k .table-long) (c .state) (c .buffer) (c .held) ((place a t c k) .state-below) ((place a t c k) .held-small) (held-buffer a c (place a t c k))
-        (λ i. subst (λ b. getD b i 0 < 16) (sym (ap (λ (y : Configuration). y .buffer) ((place a t c k) .whole))) (symbols-low a (facts a t c k) (heldEvents c) ((place a t c k) .events) i)))
-
-    -- rows 14 and 15, as the code finds them
-    module _ (r : Ranking) (own : r ≡ rankingOf (a .classes) (a .symbols)) (capacity held e n : ℕ) (ec : capacity ≡ a .capacity) (eh : held ≡ c .held)
-        (en : n ≡ eventRowBy (r .ranks) (a .symbols) capacity held e) where
-      pub row-is : n ≡ eventRefusal (byTable a t) a (positionOf c) e
-      row-is = en ∙ rw (own, ec) (row-same a (facts a t c k) (byTable a t) (positionOf c) held e ((place a t c k) .held-length ∙ sym eh))
-
-      pub receive-refuses : (n ≡ 0 → ⊥) → refusedEvent n c ≡ received a t c e
-      unfolding receiveRefusal eventRefusal
-      receive-refuses z =
-          refused-is e n
-          (rows-pass a t c (k .record-valid) (k .table-long) (k .configuration-consistent) (eventRows (byTable a t) a (positionOf c) e) ∙ sym row-is) z
-
-      -- an accepted event
-      module _ (z : n ≡ 0) where
-        row : eventRefusal (byTable a t) a (positionOf c) e ≡ 0
-        row = sym row-is ∙ z
-
-        f : Effect
-        f = effect (byTable a t) a (c .state) (heldEvents c) e
-
-        seven : length (f .emitted) ≤ 7
-        unfolding f
-        seven = omega (arith, effect-length (byTable a t) a (c .state) (heldEvents c) e, (place a t c k) .held-length, (place a t c k) .held-small)
-
-        -- a list of this one event
-        alone : runOf (byTable a t) a (positionOf c) (e ∷ [])
-            ≡ record { emitted = f .emitted; refused = 0; last = record { state = f .state; buffer = f .buffer } }
-        unfolding runOf f
-        alone = run-accepts (byTable a t) a (positionOf c) e [] row ∙ rw (append-nil (effect (byTable a t) a (c .state) (heldEvents c) e .emitted))
-
-        -- its answer
-        module _ (s : Ran) (es : s ≡ ranOf a t c (e ∷ [])) (out : List ℕ) (eo : out ≡ ranBufferOf a t c (e ∷ []) (replicate 7 0)) where
-          ran-is : s ≡ record { refusal = 0; configuration = configuration (record { state = f .state; buffer = f .buffer }); length = length (f .emitted); refused = 0 }
-          ran-is =
-              es ∙ ap (λ (y : Run). record { refusal = 0; configuration = configuration (y .last); length = length (y .emitted); refused = y .refused }) alone
-
-          out-is : out ≡ pad 7 (f .emitted)
-          out-is =
-              let zeros : List ℕ = replicate 7 0 in
-              let m : 0 + length (f .emitted) ≤ length zeros = omega (arith, seven) in
-              eo ∙ ap (λ (y : Run). y .emitted ++ drop (length (y .emitted)) zeros) alone ∙
-              sym (sets-eq (f .emitted) zeros 0 m ∙ ap (λ i. f .emitted ++ drop i zeros) (zero-add (length (f .emitted)))) ∙
-              pad-stored 7 (f .emitted) seven
-
-          next-occurs : Occurs a (f .state) (f .buffer)
-          unfolding f
-          next-occurs = effect-occurs (byTable a t) a (c .state) (heldEvents c) e (total a (valid-of a (facts a t c k))) occurs (accepted-facts (byTable a t) a (positionOf c) e row)
-
-          pub count-small : s .length < 256
-          count-small = omega (arith, ap (λ (y : Ran). y .length) ran-is, seven)
-
-          -- what the test of rest asks
-          pub lent-after : Lent (a .next) (r .ranks) (r .count) t (s .configuration .state) (s .configuration .buffer) (s .configuration .held)
-          unfolding f
-          lent-after =
-              rw (ran-is, own)
-              (lent a (facts a t c k) t (k .table-long) (f .state) (pad 6 (f .buffer)) (length (f .buffer)) (next-occurs .state-below)
-              (omega (arith, next-occurs .buffer .1, (facts a t c k) .capacity-high))
-              (rw (take-pad 6 (f .buffer)) (next-occurs .buffer))
-              (symbols-low a (facts a t c k) (f .buffer) (next-occurs .buffer .0)))
-
-          pub receive-accepts : (b : Bool)
-              → b ≡ restIn t (r .ranks) (r .count) (take (s .configuration .held) (s .configuration .buffer)) (s .configuration .state)
-              → record { refusal = 0; configuration = s .configuration; emitted = out; count = s .length; winning = b } ≡ received a t c e
-          unfolding received receiveRefusal eventRefusal f
-          receive-accepts b eb =
-              let w : b ≡ byTable a t (f .buffer) (f .state) =
-              eb ∙ rw (ran-is, own, take-pad 6 (f .buffer)) (rest-tabled a (facts a t c k) t (f .buffer) (next-occurs .buffer) (f .state))
-              in
-              rw (w, out-is, ran-is)
-              (rw (rows-pass a t c (k .record-valid) (k .table-long) (k .configuration-consistent) (eventRows (byTable a t) a (positionOf c) e), row))
+  pub rest-is : (b : Bool) → b ≡ restIn t (r .ranks) (r .count) (take (c .held) (c .buffer)) (c .state) → b ≡ isWinning a t c
+  unfolding isWinning heldEvents
+  rest-is b e = e ∙ rw own (rest-tabled a v t (heldEvents c) (held-buffer a c place) (c .state))
 
 -- whether a configuration is winning
 module _ (a : Automaton) (t : List ℕ) (c : Configuration) where
-  pub status-stands : (n : ℕ) → n ≡ callRefusal a t c → (n ≡ 0 → ⊥) → record { refusal = n; winning = false } ≡ status a t c
+  stopped : (n : ℕ) → callRefusal a t c ≡ n → (n ≡ 0 → ⊥) → record { refusal = n; winning = false } ≡ status a t c
   unfolding status
-  status-stands n g z = rw (← g, ne-eqb n 0 z)
+  stopped n h z = rw (h, ne-eqb n 0 z)
 
-  pub status-answers : (k : Clear a t c) → (b : Bool)
-      → b ≡ restIn t (rankingOf (a .classes) (a .symbols) .ranks) (rankingOf (a .classes) (a .symbols) .count) (take (c .held) (c .buffer)) (c .state)
-      → record { refusal = 0; winning = b } ≡ status a t c
-  unfolding status isWinning heldEvents
-  status-answers k b e =
-      let z = status-clear a t c (k .record-valid) (k .table-long) (k .configuration-consistent) in
-      let s = rest-tabled a (facts a t c k) t (take (c .held) (c .buffer)) (held-buffer a c (place a t c k)) (c .state) in
-      rw (z, ← s, e)
+  pub status-stands : (n : ℕ) → n ≡ tableRefusal a t → (n ≡ 0 → ⊥) → record { refusal = n; winning = false } ≡ status a t c
+  status-stands n e z = stopped n (call-stands a t c (λ y. z (e ∙ y)) ∙ sym e) z
+
+  module _ (o : Opened a t) where
+    pub status-refuses : consistent a c ≡ false → record { refusal = 13; winning = false } ≡ status a t c
+    status-refuses k = stopped 13 (status-inconsistent a t c (o .record-valid) (o .table-long) k) (λ z. omega arith)
+
+    pub status-answers : consistent a c ≡ true → (b : Bool) → b ≡ isWinning a t c → record { refusal = 0; winning = b } ≡ status a t c
+    unfolding status
+    status-answers k b e = rw (status-clear a t c (o .record-valid) (o .table-long) k, e)
+
+-- one event
+module _ (a : Automaton) (t : List ℕ) (c : Configuration) (e : ℕ) where
+  refused-is : (n : ℕ) → receiveRefusal a t c e ≡ n → (n ≡ 0 → ⊥) → refusedEvent n c ≡ received a t c e
+  unfolding received
+  refused-is n h z = rw (h, ne-eqb n 0 z)
+
+  pub receive-stands : (n : ℕ) → n ≡ tableRefusal a t → (n ≡ 0 → ⊥) → refusedEvent n c ≡ received a t c e
+  receive-stands n i z = refused-is n (receive-unopened a t c e (λ y. z (i ∙ y)) ∙ sym i) z
+
+  module _ (o : Opened a t) (r : Ranking) (own : r ≡ rankingOf (a .classes) (a .symbols)) where
+    abbrev limits : Limits
+    limits = record { controllables = r .count; states = a .states; symbols = a .symbols; capacity = a .capacity }
+
+    -- a turn into seven bytes
+    pub turn-asks : (size : ℕ) → 7 ≤ size → Opens limits (a .classes) (a .next) (r .ranks) t c 0 size
+    turn-asks size h =
+        record {
+          automaton = a;
+          lends = lends a t o r own;
+          classes-are = refl;
+          room = λ k. omega (arith, place a t o r own c k .held-small);
+        }
+
+    module _ (s : Turned) (es : s ≡ turned a t c e 0) where
+      row-is : s .row ≡ turnRefusal a t c e
+      unfolding turned
+      row-is = ap (λ (y : Turned). y .row) es
+
+      pub receive-refuses : (s .row ≡ 0 → ⊥) → refusedEvent (s .row) c ≡ received a t c e
+      receive-refuses z = refused-is (s .row) (receive-turns a t c e o ∙ sym row-is) z
+
+      -- an accepted one
+      module _ (z : s .row ≡ 0) where
+        abbrev f : Effect
+        f = effectFrom (byTable a t) a (positionOf c) e
+
+        abbrev next : Position
+        next = advance (byTable a t) a (positionOf c) e
+
+        passes : turnRefusal a t c e ≡ 0
+        passes = sym row-is ∙ z
+
+        stands : consistent a c ≡ true
+        stands = turn-stands a t c e passes
+
+        turned-is : s ≡ record { row = 0; configuration = configuration next; written = 0 + length (f .emitted) }
+        turned-is = es ∙ turn-accepted a t c e passes 0
+
+        seven : length (f .emitted) ≤ 7
+        seven = omega (arith, ap length (turn-emits a t c e passes), turn-room a t c e o stands, place a t o r own c stands .held-small)
+
+        pub count-small : s .written < 256
+        count-small = omega (arith, ap (λ (y : Turned). y .written) turned-is, seven)
+
+        pub stands-after : consistent a (s .configuration) ≡ true
+        unfolding turned
+        stands-after = rw (ap (λ (y : Turned). y .configuration) es) (turn-keeps a t c e o stands)
+
+        pub receive-accepts : (out : List ℕ) → out ≡ turnedBuffer a t c e 0 (replicate 7 0) → (b : Bool) → b ≡ isWinning a t (s .configuration)
+            → record { refusal = 0; configuration = s .configuration; emitted = out; count = s .written; winning = b } ≡ received a t c e
+        unfolding received turnedBuffer isWinning
+        receive-accepts out eo b eb =
+            let w : b ≡ byTable a t (next .buffer) (next .state) =
+            eb ∙ rw turned-is (ap (λ (p : Position). byTable a t (p .buffer) (p .state)) (position-made next))
+            in
+            let put : out ≡ pad 7 (f .emitted) =
+            eo ∙ ap (sets (replicate 7 0) 0) (turn-emits a t c e passes) ∙ pad-stored 7 (f .emitted) seven
+            in
+            rw (w, put, turned-is) (rw (receive-turns a t c e o ∙ passes, zero-add (length (f .emitted))))

@@ -5,10 +5,11 @@ use answers::Status;
 use automaton::Automaton;
 use base::size;
 use configuration::Configuration;
+use consistency::consistent;
 use entering::enter;
-use processing::process;
+use processing::Limits;
+use processing::turn;
 use searching::rests;
-use stepping::event_row;
 ghost use mathlib.Core.Path.{_≡_};
 ghost use Rattle.answers.specs.Answers.{status, received, refusedEvent};
 
@@ -25,11 +26,16 @@ pub fn winning(a: Automaton, table: &[u32], c: Configuration) -> Status
         &a.accepting,
         &a.next,
         table,
-        c,
     );
     if entry.refusal != 0 {
         return Status {
             refusal: entry.refusal,
+            winning: false,
+        };
+    }
+    if !consistent(a.states, a.symbols, a.capacity, &a.classes, c) {
+        return Status {
+            refusal: 13,
             winning: false,
         };
     }
@@ -60,7 +66,7 @@ fn refused(row: u8, c: Configuration) -> Received
     }
 }
 
-// One event: a list of one, and whether the monitor may then rest.
+// One event: a turn into an array of its own, and whether the monitor may then rest.
 pub fn receive(a: Automaton, table: &[u32], c: Configuration, event: u32) -> Received
     ensures { λ r. ⌜ r ≡ received a (now (table .entry)) c event ⌝ }
 {
@@ -73,27 +79,39 @@ pub fn receive(a: Automaton, table: &[u32], c: Configuration, event: u32) -> Rec
         &a.accepting,
         &a.next,
         table,
-        c,
     );
     if entry.refusal != 0 {
         return refused(entry.refusal, c);
     }
     let ranking = entry.ranking;
-    let held = size(c.held);
-    // `process` passes over a refused event without a word, so the row is asked here.
-    let row = event_row(&ranking.ranks, a.symbols, size(a.capacity), held, event);
-    if row != 0 {
-        return refused(row, c);
-    }
+    let limits = Limits {
+        controllables: ranking.count,
+        states: a.states,
+        symbols: a.symbols,
+        capacity: a.capacity,
+    };
     let mut emitted = [0u8; 7];
-    let ran = process(a, ranking, table, c, &[event], &mut emitted);
-    let after = ran.configuration;
+    let turned = turn(
+        limits,
+        &a.classes,
+        &a.next,
+        &ranking.ranks,
+        table,
+        c,
+        event,
+        &mut emitted,
+        0,
+    );
+    if turned.row != 0 {
+        return refused(turned.row, c);
+    }
+    let after = turned.configuration;
     let buffer = after.buffer;
     Received {
         refusal: 0,
         configuration: after,
         emitted,
-        count: ran.length as u8,
+        count: turned.written as u8,
         winning: rests(
             &ranking.ranks,
             ranking.count,

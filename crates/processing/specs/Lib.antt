@@ -1,1 +1,1 @@
-pub mod Completed
+pub mod Lending

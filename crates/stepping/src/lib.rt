@@ -118,7 +118,10 @@ pub fn step<'a>(
     at: usize,
 ) -> Stepped
     requires { ⌜ Ready (now next) (now ranks) k (now table) q buffer held e (length (now out)) at ⌝ }
-    ensures { λ r. ⌜ (r ≡ stepped (restIn (now (table .entry)) (now (ranks .entry)) k) (over (now (ranks .entry)) (now (next .entry))) q (take held buffer) e at) × (now (out .exit) ≡ sets (now (out .entry)) at (effect (restIn (now (table .entry)) (now (ranks .entry)) k) (over (now (ranks .entry)) (now (next .entry))) q (take held buffer) e .emitted)) ⌝ }
+    ensures { λ r. let rest = restIn (now (table .entry)) (now (ranks .entry)) k in
+        let a = over (now (ranks .entry)) (now (next .entry)) in
+        ⌜ (r ≡ stepped rest a q (take held buffer) e at)
+        × (now (out .exit) ≡ sets (now (out .entry)) at (effect rest a q (take held buffer) e .emitted)) ⌝ }
 {
     let passes = ranks[size(e)] == 0;
     let p = moved(next, passes, q, size(e));

@@ -1,28 +1,68 @@
-use Prim.Native.Nat.{_+_}
-use mathlib.Core.Path.{_∙_, sym, ap}
+use Prim.Native.Nat.{ℕ, _+_, _*_, _<_, _≤_}
+use mathlib.Core.Path.{_≡_, _∙_, sym, ap}
+use mathlib.Core.Bool.{true}
+use native.Mathlib.Omega.{arith}
 use borrow.Author.Tests.{not-true, not-false}
+use borrow.Author.Needs.{needs}
+use Rattle.automaton.specs.declared.Automaton.{Automaton}
+use Rattle.automaton.specs.Automaton.{assembled, valid}
+use Rattle.automaton.proofs.Facts.{Valid, valid-facts}
 use Rattle.sets.specs.Table.{shorter}
 use Rattle.winning.proofs.Bounds.{shorter-small}
-use Rattle.automaton.specs.Automaton.{assembled}
-use Rattle.automaton.proofs.Facts.{valid-facts}
 use Rattle.releasing.specs.Parts.{rankingOf}
-use Rattle.entering.proofs.Entries.{entry-invalid, entry-short, entry-inconsistent, entry-clear, ranking-few}
-use native.Mathlib.Omega.{arith}
-use borrow.Author.Needs.{needs}
+use Rattle.entering.proofs.Entries.{entry-invalid, entry-short, entry-clear, ranking-few}
 use Rattle.entering.proofs.enter.Statement.{statement}
 use Rattle.entering.proofs.enter.Tie as tie
+
+-- The places that later needs look back to, and what stands there.
+
+-- row 11 passed
+abbrev automaton : tie.Else1 → Automaton
+automaton c =
+    let x = c .before .before .before .args in
+    assembled (x .states) (x .symbols) (x .capacity) (x .initial) (x .classes .now) (x .accepting .now) (x .next .now)
+
+passed : (c : tie.Else1) → valid (automaton c) ≡ true
+passed c = sym (c .before .valid-in .ensures) ∙ not-false _ (c .if1 .left)
+
+facts : (c : tie.Else1) → Valid (automaton c)
+facts c = valid-facts (automaton c) (passed c)
+
+-- the symbols are ranked
+abbrev checked : tie.After-rank-symbols → tie.Else1
+checked c = c .before .before
+
+ranked : (c : tie.After-rank-symbols)
+    → c .rank-symbols .result ≡ rankingOf (automaton (checked c) .classes) (automaton (checked c) .symbols)
+ranked c = c .rank-symbols .ensures ∙ ap (rankingOf (automaton (checked c) .classes)) (c .before .size .ensures .0)
+
+few : (c : tie.After-rank-symbols) → c .rank-symbols .result .count ≤ 8
+few c = ranking-few (automaton (checked c)) (facts (checked c)) _ (ranked c)
+
+-- the buffers are counted
+abbrev rank : tie.After-size2 → tie.After-rank-symbols
+rank c = c .before .before
+
+low : (c : tie.After-size2) → c .size2 .result ≤ 6
+low c = omega (arith, c .size2 .ensures .0, facts (checked (rank c)) .capacity-high)
+
+counted : (c : tie.After-buffers-to)
+    → c .buffers-to .result ≡ shorter (rank (c .before) .rank-symbols .result .count) (automaton (checked (rank (c .before))) .capacity + 1)
+counted c =
+    c .buffers-to .ensures ∙
+    ap (λ y. shorter (rank (c .before) .rank-symbols .result .count) (y + 1)) (c .before .size2 .ensures .0)
 
 valid-in-requires : tie.Need-valid-in-requires
 valid-in-requires c κs = search needs
 
 returns : tie.Need-returns
-returns c = entry-invalid _ _ _ (sym (c .before .valid-in .ensures) ∙ not-true _ (c .if1 .taken))
+returns c = entry-invalid _ _ (sym (c .before .valid-in .ensures) ∙ not-true _ (c .if1 .taken))
 
 size-requires : tie.Need-size-requires
 size-requires c κs = search needs
 
 rank-symbols-requires : tie.Need-rank-symbols-requires
-rank-symbols-requires c κs = let x = c .before .before .before .before .args in let a = assembled (x .states) (x .symbols) (x .capacity) (x .initial) (x .classes .now) (x .accepting .now) (x .next .now) in let h = sym (c .before .before .valid-in .ensures) ∙ not-false _ (c .before .if1 .left) in omega (arith, c .size .ensures .0, valid-facts a h .symbols-high)
+rank-symbols-requires c κs = omega (arith, c .size .ensures .0, facts (c .before) .symbols-high)
 
 cast-buffers-to : tie.Need-cast-buffers-to
 cast-buffers-to c = search needs
@@ -31,22 +71,23 @@ size-requires-2 : tie.Need-size-requires-2
 size-requires-2 c κs = search needs
 
 buffers-to-requires : tie.Need-buffers-to-requires
-buffers-to-requires c κs = let x = c .before .before .before .before .before .before .before .args in let a = assembled (x .states) (x .symbols) (x .capacity) (x .initial) (x .classes .now) (x .accepting .now) (x .next .now) in let h = sym (c .before .before .before .before .before .valid-in .ensures) ∙ not-false _ (c .before .before .before .before .if1 .left) in let v = valid-facts a h in (ranking-few a v _ (c .before .before .rank-symbols .ensures ∙ ap (rankingOf (a .classes)) (c .before .before .before .size .ensures .0)), omega (arith, c .size2 .ensures .0, v .capacity-high))
+buffers-to-requires c κs = (few (rank c), low c)
 
 mul-if2 : tie.Need-mul-if2
-mul-if2 c = let x = c .before .before .before .before .before .before .before .before .args in let a = assembled (x .states) (x .symbols) (x .capacity) (x .initial) (x .classes .now) (x .accepting .now) (x .next .now) in let h = sym (c .before .before .before .before .before .before .valid-in .ensures) ∙ not-false _ (c .before .before .before .before .before .if1 .left) in let v = valid-facts a h in let k = ranking-few a v _ (c .before .before .before .rank-symbols .ensures ∙ ap (rankingOf (a .classes)) (c .before .before .before .before .size .ensures .0)) in omega (arith, c .buffers-to .ensures, shorter-small (c .before .before .before .rank-symbols .result .count) (c .before .size2 .result + 1) k (omega (arith, c .before .size2 .ensures .0, v .capacity-high)), c .before .size2 .ensures .0, v .capacity-high)
+mul-if2 c =
+    let s = c .before in
+    let k = rank s .rank-symbols .result .count in
+    omega (arith, c .buffers-to .ensures, shorter-small k (s .size2 .result + 1) (few (rank s)) (omega (arith, low s)), low s)
 
 returns-2 : tie.Need-returns-2
-returns-2 c = let x = c .before .before .before .before .before .before .before .before .before .args in let a = assembled (x .states) (x .symbols) (x .capacity) (x .initial) (x .classes .now) (x .accepting .now) (x .next .now) in let h = sym (c .before .before .before .before .before .before .before .valid-in .ensures) ∙ not-false _ (c .before .before .before .before .before .before .if1 .left) in entry-short a _ _ h _ (c .before .before .before .before .rank-symbols .ensures ∙ ap (rankingOf (a .classes)) (c .before .before .before .before .before .size .ensures .0)) _ (c .before .buffers-to .ensures ∙ ap (λ y. shorter (c .before .before .before .before .rank-symbols .result .count) (y + 1)) (c .before .before .size2 .ensures .0)) (c .if2 .taken)
-
-consistent-requires : tie.Need-consistent-requires
-consistent-requires c κs = search needs
+returns-2 c =
+    let r = rank (c .before .before) in
+    entry-short _ _ (passed (checked r)) _ (ranked r) _ (counted (c .before)) (c .if2 .taken)
 
 returns-3 : tie.Need-returns-3
-returns-3 c = let x = c .before .before .before .before .before .before .before .before .before .before .before .args in let a = assembled (x .states) (x .symbols) (x .capacity) (x .initial) (x .classes .now) (x .accepting .now) (x .next .now) in let h = sym (c .before .before .before .before .before .before .before .before .before .valid-in .ensures) ∙ not-false _ (c .before .before .before .before .before .before .before .before .if1 .left) in entry-inconsistent a _ _ h _ (c .before .before .before .before .before .before .rank-symbols .ensures ∙ ap (rankingOf (a .classes)) (c .before .before .before .before .before .before .before .size .ensures .0)) _ (c .before .before .before .buffers-to .ensures ∙ ap (λ y. shorter (c .before .before .before .before .before .before .rank-symbols .result .count) (y + 1)) (c .before .before .before .before .size2 .ensures .0)) (c .before .before .if2 .left) (sym (c .before .consistent .ensures) ∙ not-true _ (c .if3 .taken))
-
-returns-4 : tie.Need-returns-4
-returns-4 c = let x = c .before .before .before .before .before .before .before .before .before .before .before .args in let a = assembled (x .states) (x .symbols) (x .capacity) (x .initial) (x .classes .now) (x .accepting .now) (x .next .now) in let h = sym (c .before .before .before .before .before .before .before .before .before .valid-in .ensures) ∙ not-false _ (c .before .before .before .before .before .before .before .before .if1 .left) in entry-clear a _ _ h _ (c .before .before .before .before .before .before .rank-symbols .ensures ∙ ap (rankingOf (a .classes)) (c .before .before .before .before .before .before .before .size .ensures .0)) _ (c .before .before .before .buffers-to .ensures ∙ ap (λ y. shorter (c .before .before .before .before .before .before .rank-symbols .result .count) (y + 1)) (c .before .before .before .before .size2 .ensures .0)) (c .before .before .if2 .left) (sym (c .before .consistent .ensures) ∙ not-false _ (c .if3 .left))
+returns-3 c =
+    let r = rank (c .before .before) in
+    entry-clear _ _ (passed (checked r)) _ (ranked r) _ (counted (c .before)) (c .if2 .left)
 
 pub enter-spec : {M : Type 1} → statement M
 enter-spec =
@@ -61,6 +102,4 @@ enter-spec =
     buffers-to-requires
     mul-if2
     returns-2
-    consistent-requires
-    returns-3
-    returns-4)
+    returns-3)

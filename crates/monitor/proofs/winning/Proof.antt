@@ -1,16 +1,53 @@
-use Rattle.automaton.proofs.Whole.{shapes}
-use Rattle.releasing.proofs.Searching.{rests-asks}
-use Rattle.entering.proofs.Entries.{entered, entered-clear}
-use Rattle.monitor.proofs.Receiving.{lent-here, status-stands, status-answers}
+use mathlib.Core.Path.{_≡_, _∙_, sym}
+use mathlib.Core.Bool.{true}
+use borrow.Author.Tests.{not-true, not-false}
 use borrow.Author.Needs.{needs}
+use Rattle.automaton.proofs.Whole.{shapes}
+use Rattle.configuration.specs.Configuration.{consistent}
+use Rattle.releasing.specs.Parts.{rankingOf}
+use Rattle.releasing.proofs.Searching.{rests-asks}
+use Rattle.answers.proofs.Turns.{Opened}
+use Rattle.entering.proofs.Entries.{entered, entered-opened}
+use Rattle.monitor.proofs.Receiving.{lent-at, rest-is, status-stands, status-refuses, status-answers}
 use Rattle.monitor.proofs.winning.Statement.{statement}
 use Rattle.monitor.proofs.winning.Tie as tie
+
+-- The places that later needs look back to, and what stands there.
+
+abbrev start : tie.After-enter → tie.Start
+start c = c .before .before .before .before .before .before
+
+-- rows 11 and 12 passed
+abbrev entry : tie.Else1 → tie.After-enter
+entry c = c .before .before
+
+opened : (c : tie.Else1) → let x = start (entry c) .args in
+    Opened (x .t1) (x .table .now) × (entry c .enter .result .ranking ≡ rankingOf (x .t1 .classes) (x .t1 .symbols))
+opened c = entered-opened _ _ _ (entry c .enter .ensures) (c .if1 .left)
+
+-- row 13 passed
+abbrev passed : tie.After-consistent → tie.Else1
+passed c = c .before .before .before
+
+stands : (c : tie.Else2) → consistent (start (entry (passed (c .before))) .args .t1) (start (entry (passed (c .before))) .args .c) ≡ true
+stands c = sym (c .before .consistent .ensures) ∙ not-false _ (c .if2 .left)
+
+-- the test of rest
+abbrev clear : tie.After-size → tie.Else2
+clear c = c .before .before .before .before .before
 
 enter-requires : tie.Need-enter-requires
 enter-requires c κs = shapes _ (search needs) (search needs) (search needs)
 
 returns : tie.Need-returns
-returns c = status-stands _ _ _ _ (entered _ _ _ _ (c .before .before .enter .ensures)) (c .if1 .taken)
+returns c = status-stands _ _ _ _ (entered _ _ _ (c .before .before .enter .ensures)) (c .if1 .taken)
+
+consistent-requires : tie.Need-consistent-requires
+consistent-requires c κs = search needs
+
+returns-2 : tie.Need-returns-2
+returns-2 c =
+    status-refuses _ _ _ (opened (passed (c .before)) .0) (sym (c .before .consistent .ensures) ∙ not-true _ (c .if2 .taken))
 
 size-requires : tie.Need-size-requires
 size-requires c κs = search needs
@@ -19,12 +56,28 @@ size-requires-2 : tie.Need-size-requires-2
 size-requires-2 c κs = search needs
 
 rests-requires : tie.Need-rests-requires
-rests-requires c κs = let k = entered-clear _ _ _ _ (c .before .before .before .before .before .before .before .before .enter .ensures) (c .before .before .before .before .before .before .if1 .left) in rests-asks (lent-here _ _ _ (k .0) _ (k .1)) _ _ (c .before .size .ensures .0) (c .size2 .ensures .0)
+rests-requires c κs =
+    let k = clear (c .before) in
+    let o = opened (passed (k .before)) in
+    rests-asks (lent-at _ _ (o .0) _ (o .1) _ (stands k)) _ _ (c .before .size .ensures .0) (c .size2 .ensures .0)
 
-returns-2 : tie.Need-returns-2
-returns-2 c = let k = entered-clear _ _ _ _ (c .before .before .before .before .before .before .before .before .before .enter .ensures) (c .before .before .before .before .before .before .before .if1 .left) in status-answers _ _ _ (k .0) _ (rw (c .before .size2 .ensures .0, c .before .before .size .ensures .0, k .1) at (c .rests .ensures))
+returns-3 : tie.Need-returns-3
+returns-3 c =
+    let s = c .before in
+    let k = clear (s .before) in
+    let o = opened (passed (k .before)) in
+    status-answers _ _ _ (o .0) (stands k) _
+    (rest-is _ _ (o .0) _ (o .1) _ (stands k) _ (rw (s .size2 .ensures .0, s .before .size .ensures .0) at (c .rests .ensures)))
 
 pub winning-spec : {M : Type 1} → statement M
 winning-spec =
     tie.close
-    (tie.spec enter-requires returns size-requires size-requires-2 rests-requires returns-2)
+    (tie.spec
+    enter-requires
+    returns
+    consistent-requires
+    returns-2
+    size-requires
+    size-requires-2
+    rests-requires
+    returns-3)
