@@ -2,7 +2,7 @@
 use Prim.Native.Nat.{ℕ, _+_, _-_, _≤_, _<_, _^_}
 use mathlib.Core.Path.{_≡_, refl, sym, _∙_, ap}
 use mathlib.Core.Bool.{Bool, true, false, cond, _&&_}
-use mathlib.Core.List.{List}
+use mathlib.Core.List.{List, [], _∷_, _++_}
 use native.Mathlib.Omega.{arith}
 use lib.ListN.{length, take, drop, length-drop}
 use lib.Seq.{length-take-le}
@@ -15,7 +15,7 @@ use mir.Val.{Fits, SFits, toZ, ofZ}
 use mir.ValLaws.{toZ-ofZ}
 use Rattle.base.proofs.Bools.{by, clash, and-right}
 use Rattle.libc.specs.Io.{Moved}
-use Rattle.streams.specs.Transfers.{Transfer, begun, ended, advanced, moved, again, interrupted, failed, after}
+use Rattle.streams.specs.Transfers.{Transfer, begun, ended, advanced, moved, again, interrupted, failed, after, transferred}
 
 module _ (t : Transfer) where
   -- a call that moved bytes
@@ -90,6 +90,27 @@ stands-begun n =
       room = λ h. ltb-true 0 n h;
       sound = λ h. refl;
       short = λ h. absurd (clash h refl);
+    }
+
+-- it is what some answers made of a transfer that had begun
+pub record Made (n : ℕ) (t : Transfer) : Type 0 where
+  pub answers : List (ℤ × ℤ)
+  pub so-far : t ≡ transferred (begun n) answers
+
+pub made-begun : (n : ℕ) → Made n (begun n)
+unfolding transferred
+made-begun n = record { answers = []; so-far = refl }
+
+one-more : (t : Transfer) (xs : List (ℤ × ℤ)) (x : ℤ × ℤ) → transferred t (xs ++ x ∷ []) ≡ after (transferred t xs) (x .0) (x .1)
+unfolding transferred
+one-more t [] x = refl
+one-more t (y ∷ ys) x = one-more (after t (y .0) (y .1)) ys x
+
+pub made-after : {n : ℕ} {t : Transfer} → Made n t → (answer error : ℤ) → Made n (after t answer error)
+made-after {n} {t} m answer error =
+    record {
+      answers = m .answers ++ (answer, error) ∷ [];
+      so-far = ap (λ u. after u answer error) (m .so-far) ∙ sym (one-more (begun n) (m .answers) (answer, error));
     }
 
 -- what is still to be moved, the interruptions that are left, and the last call

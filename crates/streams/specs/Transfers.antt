@@ -1,6 +1,7 @@
 -- A transfer of bytes by calls of C's `read` or `write`: what one call more makes of it.
 use Prim.Native.Nat.{ℕ, _+_, _-_}
 use mathlib.Core.Bool.{Bool, true, false, cond, _&&_}
+use mathlib.Core.List.{List, [], _∷_}
 use lib.IntN.{ℤ, pos, negsuc}
 use lib.Dec.{eqb, ltb}
 pub use Rattle.streams.specs.declared.transfer.Transfer.{Transfer}
@@ -45,3 +46,8 @@ failed t error = cond (interrupted error && ltb 0 (t .interruptions)) (again t) 
 unfoldable pub after : Transfer → ℤ → ℤ → Transfer
 after t (pos bytes) error = moved t bytes
 after t (negsuc _) error = failed t error
+
+-- .. and what the answers of several calls make of it, each with `errno` as it was right after
+unfoldable pub transferred : Transfer → List (ℤ × ℤ) → Transfer
+transferred t [] = t
+transferred t (x ∷ xs) = transferred (after t (x .0) (x .1)) xs

@@ -4,13 +4,15 @@
 mod transfer;
 
 use text::word;
+use transfer::Transfer;
 use transfer::after;
 use transfer::begun;
 ghost use Prim.Native.Nat.{_≤_, _+_};
+ghost use mathlib.Core.Path.{_≡_};
 ghost use mathlib.Core.List.{_++_};
 ghost use lib.ListN.{length};
 ghost use Rattle.text.specs.Decimal.{Appended};
-ghost use Rattle.streams.specs.Streams.{Filled, Handed, cannotRead, cannotWrite};
+ghost use Rattle.streams.specs.Streams.{inputOf, writtenOf, Filled, Handed, cannotRead, cannotWrite};
 
 pub const STANDARD_INPUT: i32 = libc::STDIN_FILENO;
 
@@ -30,6 +32,24 @@ pub struct Written {
     pub done: bool,
 }
 
+fn input_of(t: Transfer) -> Input
+    ensures { λ r. ⌜ r ≡ inputOf t ⌝ }
+{
+    Input {
+        length: t.count,
+        failed: t.failed,
+    }
+}
+
+fn written_of(t: Transfer) -> Written
+    ensures { λ r. ⌜ r ≡ writtenOf t ⌝ }
+{
+    Written {
+        count: t.count,
+        done: t.count == t.size,
+    }
+}
+
 // Reads to the end of the input, or until the buffer is full. Of the buffer's bytes nothing is promised.
 pub fn read_all(descriptor: i32, buf: &mut [u8]) -> Input
     ensures { λ r. ⌜ Filled (now (buf .exit)) r ⌝ }
@@ -41,10 +61,7 @@ pub fn read_all(descriptor: i32, buf: &mut [u8]) -> Input
         let next = after(t, answer, os::errno());
         t = next;
     }
-    Input {
-        length: t.count,
-        failed: t.failed,
-    }
+    input_of(t)
 }
 
 // Hands over all bytes, or those before the first call that fails or takes nothing.
@@ -58,10 +75,7 @@ pub fn write_all(descriptor: i32, bytes: &[u8]) -> Written
         let next = after(t, answer, os::errno());
         t = next;
     }
-    Written {
-        count: t.count,
-        done: t.count == t.size,
-    }
+    written_of(t)
 }
 
 // A program's name and what it says, in one line.

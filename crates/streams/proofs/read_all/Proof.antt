@@ -1,4 +1,4 @@
-use Rattle.streams.proofs.Transfers.{Standing, unspent, lent-answer, stands-begun, stands-after, less-after}
+use Rattle.streams.proofs.Transfers.{Standing, Made, made-begun, made-after, unspent, lent-answer, stands-begun, stands-after, less-after}
 use Rattle.libc.specs.Io.{Moved}
 use Prim.Native.Nat.{_-_}
 use mathlib.Core.Path.{_≡_, refl, sym}
@@ -12,7 +12,7 @@ use Rattle.streams.proofs.read_all.Statement.{statement}
 use Rattle.streams.proofs.read_all.Tie as tie
 
 abbrev Inv-loop : tie.InvT-loop
-Inv-loop descriptor buf₀ t₀ buf t = (length buf ≡ length buf₀) × Standing (length buf) t
+Inv-loop descriptor buf₀ t₀ buf t = (length buf ≡ length buf₀) × Standing (length buf) t × Made (length buf) t
 
 abbrev μ-loop : tie.MeasureT-loop
 μ-loop descriptor buf₀ t₀ buf t = unspent t
@@ -21,7 +21,7 @@ begun-requires : tie.Need-begun-requires Inv-loop μ-loop
 begun-requires c κs = search needs
 
 loop-holds : tie.Need-loop-holds Inv-loop μ-loop
-loop-holds c = (refl, rw (c .begun .ensures) (stands-begun _))
+loop-holds c = (refl, rw (c .begun .ensures) (stands-begun _), rw (c .begun .ensures) (made-begun _))
 
 sub-read : tie.Need-sub-read Inv-loop μ-loop
 sub-read c = omega (arith, c .before .loop .inv .1 .within)
@@ -56,15 +56,26 @@ loop-again : tie.Need-loop-again Inv-loop μ-loop
 loop-again c =
     let kept = c .before .before .before .buf .given .1 in
     let on = stands-after (turn (c .before) .loop .inv .1) (c .before .before .before .before .before .before .loop-test .taken) _ _ (answered (c .before)) in
-    (rw kept (turn (c .before) .loop .inv .0), rw (kept, c .after .ensures) on)
+    (rw kept (turn (c .before) .loop .inv .0), rw (kept, c .after .ensures) on, rw (kept, c .after .ensures) (made-after (turn (c .before) .loop .inv .2) _ _))
+
+input-of-requires : tie.Need-input-of-requires Inv-loop μ-loop
+input-of-requires c κs = search needs
 
 same-length : tie.Need-same-length Inv-loop μ-loop
-same-length c = c .before .loop .inv .0
+same-length c = c .before .before .loop .inv .0
 
 returns : tie.Need-returns Inv-loop μ-loop
 returns c =
-    let i = c .before .loop .inv .1 in
-    record { counts = (i .within, sym (length-take-le _ _ (i .within))); room = i .short }
+    let i = c .before .before .loop .inv .1 in
+    let m = c .before .before .loop .inv .2 in
+    rw (c .input-of .ensures)
+    (record {
+      transfer = c .before .before .loop .t;
+      over = record { answers = m .answers; made = m .so-far; over = c .before .loop-test .left };
+      said = refl;
+      counts = (i .within, sym (length-take-le _ _ (i .within)));
+      room = i .short;
+    })
 
 pub read-all-spec : {M : Type 1} → statement M
 read-all-spec =
@@ -82,5 +93,6 @@ read-all-spec =
     after-requires
     loop-less
     loop-again
+    input-of-requires
     same-length
     returns)
