@@ -14,8 +14,8 @@ use Rattle.automaton.proofs.Facts.{Valid}
 use Rattle.sets.specs.Table.{shorter, buffersCount, short}
 use Rattle.answers.specs.Answers.{tableRefusal}
 use Rattle.answers.proofs.Turns.{Opened, opened, table-invalid, table-short, table-clear}
-use Rattle.releasing.specs.declared.Ranking.{Ranking}
-use Rattle.releasing.specs.Parts.{rankingOf}
+use Rattle.symbols.specs.declared.Ranking.{Ranking}
+use Rattle.symbols.specs.Symbols.{rankingOf}
 use Rattle.entering.specs.declared.Entry.{Entry}
 use Rattle.entering.specs.Entries.{entryOf}
 

@@ -5,7 +5,7 @@ use Prim.Native.Nat.{ℕ}
 use lib.ListN.{replicate}
 use Rattle.automaton.specs.declared.Automaton.{Automaton}
 use Rattle.automaton.specs.Automaton.{valid}
-use Rattle.releasing.specs.Parts.{rankingOf}
+use Rattle.symbols.specs.Symbols.{rankingOf}
 use Rattle.answers.specs.Answers.{tableRefusal}
 pub use Rattle.entering.specs.declared.Entry.{Entry}
 

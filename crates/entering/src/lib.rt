@@ -1,7 +1,7 @@
 // Rows 11 and 12, which every call on a record and a table checks first. (Row 13 is crate `consistency`.)
 use base::size;
-use releasing::Ranking;
-use searching::rank_symbols;
+use symbols::Ranking;
+use symbols::rank_symbols;
 use validity::valid_in;
 ghost use mathlib.Core.Path.{_≡_};
 ghost use mathlib.Core.Bool.{true};

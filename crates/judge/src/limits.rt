@@ -1,5 +1,5 @@
 // Row 17: what is too large for the game.
-use validity::controllable_in;
+use symbols::controllable_in;
 ghost use mathlib.Core.Path.{_≡_};
 ghost use Prim.Native.Nat.{_≤_};
 ghost use Rattle.game.specs.Game.{tooLargeIn};

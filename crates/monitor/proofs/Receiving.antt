@@ -16,8 +16,9 @@ use Rattle.configuration.specs.declared.Configuration.{Configuration}
 use Rattle.configuration.specs.Configuration.{Position, heldEvents, positionOf, configuration, consistent}
 use Rattle.configuration.proofs.Facts.{Consistent, consistent-facts, held-buffer, position-made}
 use Rattle.releasing.specs.Step.{byTable, Effect, effectFrom, advance}
-use Rattle.releasing.specs.declared.Ranking.{Ranking}
-use Rattle.releasing.specs.Parts.{rankingOf, restIn, Lent}
+use Rattle.symbols.specs.declared.Ranking.{Ranking}
+use Rattle.releasing.specs.Parts.{restIn, Lent}
+use Rattle.symbols.specs.Symbols.{rankingOf}
 use Rattle.releasing.proofs.Tabled.{rest-tabled, lent}
 use Rattle.stepping.proofs.Tabled.{symbols-low}
 use Rattle.answers.specs.declared.Turned.{Turned}

@@ -13,8 +13,9 @@ use Rattle.configuration.specs.declared.Configuration.{Configuration}
 use Rattle.configuration.specs.Configuration.{heldEvents, positionOf, consistent}
 use Rattle.configuration.proofs.Facts.{Consistent, consistent-facts, held-buffer}
 use Rattle.releasing.specs.Step.{byTable, effect, effectFrom, advance, eventRefusal}
-use Rattle.releasing.specs.declared.Ranking.{Ranking}
-use Rattle.releasing.specs.Parts.{rankingOf, restIn, over}
+use Rattle.symbols.specs.declared.Ranking.{Ranking}
+use Rattle.releasing.specs.Parts.{restIn, over}
+use Rattle.symbols.specs.Symbols.{rankingOf}
 use Rattle.releasing.proofs.Effects.{OccursAt, Accepts, accepted-facts, advance-occurs}
 use Rattle.stepping.specs.declared.Stepped.{Stepped}
 use Rattle.stepping.specs.Stepping.{eventRowBy, stepped, Ready}

@@ -9,7 +9,7 @@ use Rattle.automaton.specs.Automaton.{valid}
 use Rattle.sets.specs.Table.{short}
 use Rattle.configuration.specs.declared.Configuration.{Configuration}
 use Rattle.configuration.specs.Configuration.{consistent}
-use Rattle.releasing.specs.Parts.{rankingOf}
+use Rattle.symbols.specs.Symbols.{rankingOf}
 use Rattle.answers.specs.declared.Ran.{Ran}
 use Rattle.answers.specs.Answers.{ranOf, ranBufferOf}
 use Rattle.answers.specs.declared.Turned.{Turned}

@@ -21,8 +21,9 @@ use Rattle.automaton.proofs.Facts.{valid-facts}
 use Rattle.sets.specs.declared.Sets.{Sets}
 use Rattle.sets.specs.Sets.{acceptingSet, admits, stays, refine, settle, settled, into}
 use Rattle.sets.proofs.Total.{total}
-use Rattle.refinement.specs.Parts.{Fits, freeTo, leads, leftOf, settledOn, predecessors}
-use Rattle.refinement.proofs.Free.{free-length, free-below}
+use Rattle.refinement.specs.Parts.{Fits, leads, leftOf, settledOn, predecessors}
+use Rattle.symbols.specs.Symbols.{freeTo}
+use Rattle.symbols.proofs.Free.{free-length, free-below}
 
 -- a test of each uncontrollable symbol
 free-each : (classes : List ℕ) (p : ℕ → Bool) (m : ℕ)

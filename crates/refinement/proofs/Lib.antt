@@ -1,3 +1,2 @@
-pub mod Free
 pub mod Scanning
 pub mod Agreeing

@@ -13,7 +13,6 @@ use Rattle.base.specs.Pad.{pad}
 use Rattle.automaton.specs.Parts.{controllableAt, goes}
 use Rattle.sets.specs.declared.Settled.{Settled}
 use Rattle.sets.specs.Sets.{settle}
-pub use Rattle.refinement.specs.declared.Symbols.{Symbols}
 
 -- every number of a list is below a limit
 abbrev pub Below : ℕ → List ℕ → Type 0
@@ -25,14 +24,6 @@ pub record Fits (next free : List ℕ) (n u : ℕ) : Type 0 where
   pub symbols : u ≤ 16
   pub next-below : Below 32 next
   pub free-below : Below 16 free
-
--- the symbols below m that are not controllable, rising
-abbrev pub freeTo : List ℕ → ℕ → List ℕ
-freeTo classes m = those m (λ e. not (controllableAt classes e))
-
--- .. as an array, with their number
-unfoldable pub freeOf : List ℕ → ℕ → Symbols
-freeOf classes m = record { count = length (freeTo classes m); list = pad 16 (freeTo classes m) }
 
 -- each of the first u symbols leads from q into the set x
 unfoldable pub leads : List ℕ → List ℕ → ℕ → ℕ → ℕ → Bool

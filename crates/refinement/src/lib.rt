@@ -8,12 +8,6 @@ ghost use mathlib.Core.Path.{_≡_};
 ghost use Prim.Native.Nat.{_^_, _<_};
 ghost use Rattle.refinement.specs.Parts.{Fits, leftOf, settledOn};
 
-// Some of the symbols, in rising order: the first `count` of the list.
-pub struct Symbols {
-    pub count: usize,
-    pub list: [u8; 16],
-}
-
 // One round (document 01's striking): what is left of `set` when each state is taken out of which a symbol leads neither into `set`,
 // as it stood when the round began, nor into `intermediate`.
 fn refine<'a>(

@@ -1,4 +1,4 @@
--- Laws of the ranks of symbols and of the numbers of buffers.
+-- Laws of the numbers of buffers.
 use Prim.Native.Nat.{ℕ, zero, suc, _+_, _-_, _*_, _^_, _<_, _≤_}
 use mathlib.Core.Path.{_≡_, refl, sym, _∙_, ap, ap₂}
 use mathlib.Core.Bool.{cond}
@@ -14,8 +14,7 @@ use Rattle.base.specs.Masks.{has}
 use Rattle.base.specs.Pad.{pad}
 use Rattle.base.proofs.Bools.{by}
 use Rattle.base.proofs.Padding.{pad-inside, pad-outside, pad-set, pad-zero}
-use Rattle.automaton.specs.Parts.{controllableIn}
-use Rattle.releasing.specs.Parts.{ranksTo, placeIn, placesOf, restIn}
+use Rattle.releasing.specs.Parts.{placeIn, placesOf, restIn}
 
 -- a run of equal elements, one longer
 repeat-end : (k : ℕ) (x : ℕ) (rest : List ℕ) → replicate k x ++ x ∷ rest ≡ replicate (suc k) x ++ rest
@@ -100,28 +99,6 @@ pub placing-done : {ranks : List ℕ} {k : ℕ} {w places : List ℕ} {place wei
     → places ≡ pad 8 (placesOf ranks k w)
 unfolding pad
 placing-done {ranks} {k} {w} g z = rw (z, sym (places-length ranks k w)) at (g .stored)
-
--- the ranks of the symbols
-pub ranks-length : (classes : List ℕ) (e : ℕ) → length (ranksTo classes e) ≡ e
-unfolding ranksTo
-ranks-length classes zero = refl
-ranks-length classes (suc e) =
-    length-append (ranksTo classes e) (cond (eqb (getD classes e 0) 1) (controllableIn classes (suc e)) 0 ∷ []) ∙ omega (arith, ranks-length classes e)
-
-module _ (classes ranks : List ℕ) (e : ℕ) (h : e < 16) (so-far : ranks ≡ pad 16 (ranksTo classes e)) where
-  pub rank-set : (n : ℕ) → getD classes e 0 ≡ 1 → n ≡ controllableIn classes (e + 1) → set ranks e n ≡ pad 16 (ranksTo classes (e + 1))
-  unfolding ranksTo
-  rank-set n c f =
-      let l = ranks-length classes e in
-      ap₂ (λ x i. set x i n) so-far (sym l) ∙
-      pad-set 16 (ranksTo classes e) n (omega arith) ∙
-      rw (add-one e, eq-eqb (getD classes e 0) 1 c) (ap (λ x. pad 16 (ranksTo classes e ++ x ∷ [])) (f ∙ ap (controllableIn classes) (add-one e)))
-
-  pub rank-none : (getD classes e 0 ≡ 1 → ⊥) → ranks ≡ pad 16 (ranksTo classes (e + 1))
-  unfolding ranksTo
-  rank-none c =
-      let l = ranks-length classes e in
-      so-far ∙ pad-zero 16 (ranksTo classes e) (omega arith) ∙ rw (add-one e, ne-eqb (getD classes e 0) 1 c)
 
 -- what stands at a place
 place-in : (ranks : List ℕ) (k : ℕ) (w : List ℕ) (i : ℕ) → i < length w → getD (placesOf ranks k w) i 0 ≡ placeIn ranks k (drop i w)

@@ -25,8 +25,9 @@ use Rattle.base.specs.Each.{lastOr}
 use Rattle.base.proofs.Picking.{those-same}
 use Rattle.releasing.specs.Step.{byTable, qualifies, qualifying, release}
 use Rattle.releasing.specs.declared.Ranking.{Ranking}
-use Rattle.releasing.specs.Parts.{ranksTo, rankingOf, placeIn, restIn, over, Lent}
-use Rattle.releasing.proofs.Numbers.{ranks-length}
+use Rattle.releasing.specs.Parts.{placeIn, restIn, over, Lent}
+use Rattle.symbols.specs.Symbols.{ranksTo, rankingOf}
+use Rattle.symbols.proofs.Ranks.{ranks-length}
 
 -- the rank of a symbol below m
 rank-in : (classes : List ℕ) (m e : ℕ) → e < m → getD (ranksTo classes m) e 0 ≡ cond (eqb (getD classes e 0) 1) (controllableIn classes (suc e)) 0

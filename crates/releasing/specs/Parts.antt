@@ -10,16 +10,7 @@ use Rattle.automaton.specs.declared.Automaton.{Automaton}
 use Rattle.automaton.specs.Automaton.{run}
 use Rattle.automaton.specs.Parts.{controllableAt, controllableIn}
 use Rattle.releasing.specs.Step.{Rest, release}
-pub use Rattle.releasing.specs.declared.Ranking.{Ranking}
 pub use Rattle.releasing.specs.declared.Front.{Front}
-
--- the rank of each symbol below m among the controllable ones, from 1; 0 for an uncontrollable one
-unfoldable pub ranksTo : List ℕ → ℕ → List ℕ
-ranksTo classes zero = []
-ranksTo classes (suc e) = ranksTo classes e ++ cond (controllableAt classes e) (controllableIn classes (suc e)) 0 ∷ []
-
-unfoldable pub rankingOf : List ℕ → ℕ → Ranking
-rankingOf classes m = record { count = controllableIn classes m; ranks = pad 16 (ranksTo classes m) }
 
 -- the number of a buffer, by ranks from 1: shorter buffers, then base k, in one sum
 unfoldable pub placeIn : List ℕ → ℕ → List ℕ → ℕ

@@ -3,34 +3,12 @@ use base::has;
 use base::size;
 use base::wide;
 use releasing::Front;
-use releasing::Ranking;
 ghost use mathlib.Core.Path.{_≡_};
 ghost use Prim.Native.Nat.{ℕ, _+_, _*_, _≤_, _<_};
 ghost use lib.ListN.{getD, length, take, replicate};
 ghost use Rattle.base.specs.Pad.{pad};
 ghost use Rattle.base.specs.Masks.{has};
-ghost use Rattle.releasing.specs.Parts.{rankingOf, placeIn, placesOf, restIn, over, front, Lent};
-
-// How many of the first m symbols are controllable, and the rank of each.
-pub fn rank_symbols(classes: &[u8; 16], m: usize) -> Ranking
-    requires { ⌜ m ≤ 16 ⌝ }
-    ensures { λ r. ⌜ r ≡ rankingOf (now (classes .entry)) m ⌝ }
-{
-    let mut ranks = [0u8; 16];
-    let mut count: u8 = 0;
-    let mut e: usize = 0;
-    while e < m {
-        if classes[e] == 1 {
-            count = count + 1;
-            ranks[e] = count;
-        }
-        e = e + 1;
-    }
-    Ranking {
-        count: wide(count),
-        ranks,
-    }
-}
+ghost use Rattle.releasing.specs.Parts.{placeIn, placesOf, restIn, over, front, Lent};
 
 // State q is in the set at a place of the table.
 fn in_set(table: &[u32], place: u32, q: usize) -> bool

@@ -17,7 +17,8 @@ use Rattle.sets.specs.Sets.{acceptingSet, setsOf, emptySets, into, sets}
 use Rattle.sets.specs.Table.{shorter, controllableTo, extended, buffersAt, buffersTo, pairs}
 use Rattle.sets.proofs.Numbering.{buffersAt-length, buffersTo-length, level-at}
 use Rattle.sets.proofs.Tables.{pairs-length, pairs-at}
-use Rattle.refinement.specs.Parts.{freeTo, settledOn}
+use Rattle.refinement.specs.Parts.{settledOn}
+use Rattle.symbols.specs.Symbols.{freeTo}
 use Rattle.refinement.proofs.Agreeing.{settled-is, predecessors-is}
 use Rattle.table.specs.Parts.{setsFrom, goalAt, rowOf, levelOf, stored}
 

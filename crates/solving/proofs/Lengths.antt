@@ -19,8 +19,9 @@ use Rattle.sets.specs.Sets.{acceptingSet, settled, setsOf, emptySets, sets}
 use Rattle.sets.specs.Table.{shorter, buffersCount, buffersAt, buffersTo, pairs, roundsSum, table, rounds}
 use Rattle.sets.proofs.Numbering.{buffersAt-length, buffersTo-length}
 use Rattle.sets.proofs.Tables.{table-length}
-use Rattle.refinement.specs.declared.Symbols.{Symbols}
-use Rattle.refinement.specs.Parts.{Fits, freeOf, settledOn}
+use Rattle.symbols.specs.declared.Symbols.{Symbols}
+use Rattle.refinement.specs.Parts.{Fits, settledOn}
+use Rattle.symbols.specs.Symbols.{freeOf}
 use Rattle.table.specs.Parts.{setsFrom, levelOf, stored}
 use Rattle.table.proofs.Filling.{sum-append, stored-append}
 use Rattle.refinement.proofs.Agreeing.{accepting-is, lent-fits, accepting-below, settled-is}

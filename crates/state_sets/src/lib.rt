@@ -1,14 +1,13 @@
-// What the solver takes out of the automaton: the accepting states and the states that a symbol takes into a set, as sets, and the
-// uncontrollable symbols as a list. The arrays are lent.
+// What the solver takes out of the automaton, as sets: the accepting states and the states that a symbol takes into a set. The
+// arrays are lent.
 use base::bit;
 use base::has;
 use base::size;
-use refinement::Symbols;
 ghost use mathlib.Core.Path.{_≡_};
 ghost use Prim.Native.Nat.{_<_, _≤_};
 ghost use Rattle.base.specs.Masks.{mask};
 ghost use Rattle.automaton.specs.Parts.{acceptingAt};
-ghost use Rattle.refinement.specs.Parts.{Below, freeOf, predecessors};
+ghost use Rattle.refinement.specs.Parts.{Below, predecessors};
 
 // The accepting states as a set.
 pub fn accepting_states(flags: &[u8; 32], n: usize) -> u32
@@ -24,24 +23,6 @@ pub fn accepting_states(flags: &[u8; 32], n: usize) -> u32
         q = q + 1;
     }
     set
-}
-
-// The uncontrollable ones of m symbols.
-pub fn uncontrollable(classes: &[u8; 16], m: usize) -> Symbols
-    requires { ⌜ m ≤ 16 ⌝ }
-    ensures { λ r. ⌜ r ≡ freeOf (now (classes .entry)) m ⌝ }
-{
-    let mut list = [0u8; 16];
-    let mut count: usize = 0;
-    let mut e: u8 = 0;
-    while size(e) < m {
-        if classes[size(e)] != 1 {
-            list[count] = e;
-            count = count + 1;
-        }
-        e = e + 1;
-    }
-    Symbols { count, list }
 }
 
 // The states that a symbol takes into a set.

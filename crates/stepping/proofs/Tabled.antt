@@ -18,8 +18,9 @@ use Rattle.sets.specs.Table.{short, Controllable}
 use Rattle.sets.proofs.Total.{total}
 use Rattle.configuration.specs.Configuration.{Position}
 use Rattle.releasing.specs.Step.{Rest, byTable, release, remaining, Effect, arrival, effect, eventRows, eventRefusal}
-use Rattle.releasing.specs.declared.Ranking.{Ranking}
-use Rattle.releasing.specs.Parts.{rankingOf, restIn, over}
+use Rattle.symbols.specs.declared.Ranking.{Ranking}
+use Rattle.releasing.specs.Parts.{restIn, over}
+use Rattle.symbols.specs.Symbols.{rankingOf}
 use Rattle.releasing.proofs.Effects.{Occurs, Accepts, arrival-occurs}
 use Rattle.releasing.proofs.Tabled.{rank-controllable, rank-uncontrollable, release-tabled, run-over, lent}
 use Rattle.stepping.specs.Stepping.{eventRowBy, stepped, Ready}

@@ -5,7 +5,7 @@ ghost use mathlib.Core.Bool.{true};
 ghost use Prim.Native.Nat.{_+_, _≤_};
 ghost use lib.ListN.{length};
 ghost use Rattle.automaton.specs.Automaton.{shaped, ranged, nextStand, tablesStand, valid, assembled};
-ghost use Rattle.automaton.specs.Parts.{controllableIn, placesStand, belowFrom, limitsOf, rowBelow, rowsBelow};
+ghost use Rattle.automaton.specs.Parts.{placesStand, belowFrom, limitsOf, rowBelow, rowsBelow};
 
 // Rows 3 to 6.
 fn ranged(states: u8, symbols: u8, capacity: u8, initial: u8) -> bool
@@ -90,22 +90,6 @@ fn rows_below<'a>(next: &'a [u8; 512], count: usize, limits: &'a [u8; 16]) -> bo
     fine
 }
 
-// How many of the first m symbols are controllable.
-pub fn controllable_in(classes: &[u8; 16], m: usize) -> usize
-    requires { ⌜ m ≤ 16 ⌝ }
-    ensures { λ r. ⌜ r ≡ controllableIn (now (classes .entry)) m ⌝ }
-{
-    let mut count: usize = 0;
-    let mut e: usize = 0;
-    while e < m {
-        if classes[e] == 1 {
-            count = count + 1;
-        }
-        e = e + 1;
-    }
-    count
-}
-
 // The first `used` places are below the limit, and the others are 0.
 fn places_stand(list: &[u8], used: usize, limit: u8) -> bool
     requires { ⌜ used ≤ length (now list) ⌝ }
@@ -145,7 +129,7 @@ fn tables_stand<'a>(
     if !places_stand(classes, m, automaton::CLASSES) {
         return false;
     }
-    if 8 < controllable_in(classes, m) {
+    if 8 < symbols::controllable_in(classes, m) {
         return false;
     }
     if !places_stand(accepting, base::size(n), 2) {

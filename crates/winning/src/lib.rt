@@ -2,7 +2,7 @@
 // counted here; the crate `solving` writes the sets into a lent table.
 use automaton::Automaton;
 use base::size;
-use validity::controllable_in;
+use symbols::controllable_in;
 use validity::valid;
 ghost use mathlib.Core.Path.{_≡_};
 ghost use Prim.Native.Nat.{_+_, _≤_};

@@ -7,7 +7,7 @@ use borrow.Author.Tests.{not-true, not-false}
 use borrow.Author.Needs.{needs}
 use Rattle.automaton.proofs.Whole.{shapes}
 use Rattle.configuration.specs.Configuration.{consistent}
-use Rattle.releasing.specs.Parts.{rankingOf}
+use Rattle.symbols.specs.Symbols.{rankingOf}
 use Rattle.answers.proofs.Turns.{Opened}
 use Rattle.entering.proofs.Entries.{entered, entered-opened}
 use Rattle.processing.proofs.Taking.{lends, enters}

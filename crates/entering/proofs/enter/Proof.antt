@@ -9,7 +9,7 @@ use Rattle.automaton.specs.Automaton.{assembled, valid}
 use Rattle.automaton.proofs.Facts.{Valid, valid-facts}
 use Rattle.sets.specs.Table.{shorter}
 use Rattle.winning.proofs.Bounds.{shorter-small}
-use Rattle.releasing.specs.Parts.{rankingOf}
+use Rattle.symbols.specs.Symbols.{rankingOf}
 use Rattle.entering.proofs.Entries.{entry-invalid, entry-short, entry-clear, ranking-few}
 use Rattle.entering.proofs.enter.Statement.{statement}
 use Rattle.entering.proofs.enter.Tie as tie

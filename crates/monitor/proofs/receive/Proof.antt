@@ -5,7 +5,7 @@ use native.Mathlib.Omega.{arith}
 use borrow.Author.Needs.{needs}
 use Rattle.automaton.proofs.Whole.{shapes}
 use Rattle.configuration.specs.Configuration.{consistent}
-use Rattle.releasing.specs.Parts.{rankingOf}
+use Rattle.symbols.specs.Symbols.{rankingOf}
 use Rattle.releasing.proofs.Searching.{rests-asks}
 use Rattle.answers.specs.Turns.{turned, turnedBuffer}
 use Rattle.answers.proofs.Turns.{Opened}

@@ -4,7 +4,7 @@ use borrow.Author.Tests.{not-true, not-false}
 use borrow.Author.Needs.{needs}
 use Rattle.automaton.proofs.Whole.{shapes}
 use Rattle.configuration.specs.Configuration.{consistent}
-use Rattle.releasing.specs.Parts.{rankingOf}
+use Rattle.symbols.specs.Symbols.{rankingOf}
 use Rattle.releasing.proofs.Searching.{rests-asks}
 use Rattle.answers.proofs.Turns.{Opened}
 use Rattle.entering.proofs.Entries.{entered, entered-opened}

@@ -6,8 +6,8 @@ use Rattle.automaton.proofs.Checks.{counted, passed}
 use Rattle.automaton.specs.Parts.{controllableIn}
 use native.Mathlib.Omega.{arith}
 use borrow.Author.Needs.{needs}
-use Rattle.validity.proofs.controllable_in.Statement.{statement}
-use Rattle.validity.proofs.controllable_in.Tie as tie
+use Rattle.symbols.proofs.controllable_in.Statement.{statement}
+use Rattle.symbols.proofs.controllable_in.Tie as tie
 
 abbrev Inv-loop : tie.InvT-loop
 Inv-loop classes m count₀ e₀ count e = (e ≤ m) × (count ≤ e) × (count ≡ controllableIn classes e)

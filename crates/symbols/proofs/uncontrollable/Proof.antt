@@ -1,5 +1,5 @@
 use lib.ListN.{getD}
-use Rattle.refinement.proofs.Free.{Listed, listed-room, listed-more, listed-same, listed-all}
+use Rattle.symbols.proofs.Free.{Listed, listed-room, listed-more, listed-same, listed-all}
 use Rattle.base.specs.Each.{those}
 use Rattle.base.specs.Pad.{pad}
 use Prim.Native.Nat.{_≤_, _-_}
@@ -7,8 +7,8 @@ use mathlib.Core.Path.{refl, sym, _∙_, ap}
 use mathlib.Core.Logic.{⊎-elim}
 use native.Mathlib.Omega.{arith}
 use borrow.Author.Needs.{needs}
-use Rattle.state_sets.proofs.uncontrollable.Statement.{statement}
-use Rattle.state_sets.proofs.uncontrollable.Tie as tie
+use Rattle.symbols.proofs.uncontrollable.Statement.{statement}
+use Rattle.symbols.proofs.uncontrollable.Tie as tie
 
 abbrev Inv-loop : tie.InvT-loop
 Inv-loop classes m list₀ count₀ e₀ list count e = (e ≤ m) × Listed classes e list count

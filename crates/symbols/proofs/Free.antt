@@ -12,7 +12,7 @@ use Rattle.base.proofs.Bools.{by}
 use Rattle.base.proofs.Every.{Every, every-cons, every-append}
 use Rattle.base.proofs.Padding.{pad-set, pad-every}
 use Rattle.automaton.specs.Parts.{controllableAt}
-use Rattle.refinement.specs.Parts.{Below, freeTo, freeOf}
+use Rattle.symbols.specs.Symbols.{freeTo, freeOf}
 
 module _ (classes : List ℕ) where
   -- a symbol more, which is controllable or not
@@ -41,7 +41,7 @@ module _ (classes : List ℕ) where
       (λ f. rw f (every-append (λ x. x < m) (freeTo classes e) (e ∷ []) (free-small m e (omega arith))
       (every-cons (λ x. x < m) e [] (omega arith) (λ i l. absurd (omega arith)))))
 
-  pub free-below : (e : ℕ) → e ≤ 16 → Below 16 (pad 16 (freeTo classes e))
+  pub free-below : (e : ℕ) → e ≤ 16 → (i : ℕ) → getD (pad 16 (freeTo classes e)) i 0 < 16
   free-below e h = pad-every (λ x. x < 16) 16 (freeTo classes e) (omega arith) (free-small 16 e h)
 
 -- a loop that makes the list

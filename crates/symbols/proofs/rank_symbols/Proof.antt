@@ -5,12 +5,12 @@ use Rattle.base.specs.Each as each
 use Rattle.base.specs.Pad.{pad}
 use Rattle.automaton.proofs.Checks.{counted, passed}
 use Rattle.automaton.specs.Parts.{controllableIn}
-use Rattle.releasing.specs.Parts.{ranksTo, rankingOf}
-use Rattle.releasing.proofs.Numbers.{rank-set, rank-none}
+use Rattle.symbols.specs.Symbols.{ranksTo, rankingOf}
+use Rattle.symbols.proofs.Ranks.{rank-set, rank-none}
 use native.Mathlib.Omega.{arith}
 use borrow.Author.Needs.{needs}
-use Rattle.searching.proofs.rank_symbols.Statement.{statement}
-use Rattle.searching.proofs.rank_symbols.Tie as tie
+use Rattle.symbols.proofs.rank_symbols.Statement.{statement}
+use Rattle.symbols.proofs.rank_symbols.Tie as tie
 
 abbrev Inv-loop : tie.InvT-loop
 Inv-loop classes m ranks₀ count₀ e₀ ranks count e = (e ≤ m) × (count ≤ e) × (count ≡ controllableIn classes e) × (ranks ≡ pad 16 (ranksTo classes e))
