@@ -24,7 +24,7 @@ use Rattle.sets.proofs.Numbering.{numbered}
 use Rattle.base.specs.Each.{lastOr}
 use Rattle.base.proofs.Picking.{those-same}
 use Rattle.releasing.specs.Step.{byTable, qualifies, qualifying, release}
-use Rattle.releasing.specs.declared.Ranking.{Ranking}
+use Rattle.symbols.specs.declared.Ranking.{Ranking}
 use Rattle.releasing.specs.Parts.{placeIn, restIn, over, Lent}
 use Rattle.symbols.specs.Symbols.{ranksTo, rankingOf}
 use Rattle.symbols.proofs.Ranks.{ranks-length}
