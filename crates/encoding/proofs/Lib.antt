@@ -11,3 +11,4 @@ pub mod Encoded
 pub mod Parsing
 pub mod Trips
 pub mod Outcomes
+pub mod Faults

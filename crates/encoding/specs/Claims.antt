@@ -21,3 +21,7 @@ ReadIsValid = (s : List ℕ) (a : Automaton) → parse s ≡ parsed a → valid 
 abbrev pub ReadAgain : Type 0
 ReadAgain =
     (s : List ℕ) (a : Automaton) → parse s ≡ parsed a → (parse (recordBytes a) ≡ parsed a) × (length (recordBytes a) ≤ length s)
+
+-- a fault's row is one of the first ten, and its place is within the bytes or at their end
+abbrev pub RefusedInside : Type 0
+RefusedInside = (s : List ℕ) → (parse s .refusal ≤ 10) × (parse s .place ≤ length s)

@@ -15,7 +15,7 @@ use mir.Val.{Fits, SFits, toZ, ofZ}
 use mir.ValLaws.{toZ-ofZ}
 use Rattle.base.proofs.Bools.{by, clash, and-right}
 use Rattle.libc.specs.Io.{Moved}
-use Rattle.streams.specs.Streams.{Transfer, begun, ended, advanced, moved, again, interrupted, failed, after}
+use Rattle.streams.specs.Transfers.{Transfer, begun, ended, advanced, moved, again, interrupted, failed, after}
 
 module _ (t : Transfer) where
   -- a call that moved bytes

@@ -1,13 +1,16 @@
 // Standard input and output, for every program: all of an input into a lent buffer, and all of a slice to a descriptor. A read
 // that fails is told from the end of the input, and a call that a signal interrupted is made again. (The library under it
 // promises nothing of the bytes that are read or written.)
-ghost use Prim.Native.Nat.{_≤_, _+_, _-_};
-ghost use mathlib.Core.Path.{_≡_};
+mod transfer;
+
+use text::word;
+use transfer::after;
+use transfer::begun;
+ghost use Prim.Native.Nat.{_≤_, _+_};
 ghost use mathlib.Core.List.{_++_};
 ghost use lib.ListN.{length};
-ghost use Rattle.libc.specs.Io.{Moved};
 ghost use Rattle.text.specs.Decimal.{Appended};
-ghost use Rattle.streams.specs.Streams.{begun, ended, moved, failed, after, Filled, Handed, cannotRead, cannotWrite};
+ghost use Rattle.streams.specs.Streams.{Filled, Handed, cannotRead, cannotWrite};
 
 pub const STANDARD_INPUT: i32 = libc::STDIN_FILENO;
 
@@ -15,21 +18,7 @@ pub const STANDARD_OUTPUT: i32 = libc::STDOUT_FILENO;
 
 pub const STANDARD_ERROR: i32 = libc::STDERR_FILENO;
 
-// How often signals may interrupt one transfer: one more counts as a failure. A proved loop must end, and nothing else says that
-// the signals do.
-const INTERRUPTIONS: usize = 65536;
-
-// Where a transfer of `size` bytes stands: how many were moved, how many interruptions are left, whether another call is to be
-// made, and whether one failed.
-pub struct Transfer {
-    pub size: usize,
-    pub count: usize,
-    pub interruptions: usize,
-    pub going: bool,
-    pub failed: bool,
-}
-
-// How many bytes were read, up to the end of the input or until the buffer was full, and whether a read failed before.
+// How many bytes were read, to the end of the input or until the buffer was full, and whether a read failed before that.
 pub struct Input {
     pub length: usize,
     pub failed: bool,
@@ -39,65 +28,6 @@ pub struct Input {
 pub struct Written {
     pub count: usize,
     pub done: bool,
-}
-
-fn begun(size: usize) -> Transfer
-    ensures { λ r. ⌜ r ≡ begun size ⌝ }
-{
-    Transfer {
-        size,
-        count: 0,
-        interruptions: INTERRUPTIONS,
-        going: 0 < size,
-        failed: false,
-    }
-}
-
-// No further call is made.
-fn ended(mut t: Transfer, failed: bool) -> Transfer
-    ensures { λ r. ⌜ r ≡ ended t failed ⌝ }
-{
-    t.going = false;
-    t.failed = failed;
-    t
-}
-
-// The call moved so many bytes. None is the end of the input, or nothing taken.
-fn moved(mut t: Transfer, bytes: usize) -> Transfer
-    requires { ⌜ (t .count ≤ t .size) × (bytes ≤ t .size - t .count) ⌝ }
-    ensures { λ r. ⌜ r ≡ moved t bytes ⌝ }
-{
-    if bytes == 0 {
-        return ended(t, false);
-    }
-    t.count = t.count + bytes;
-    t.going = t.count < t.size;
-    t
-}
-
-// The call failed, with C's `errno`. It is made again where a signal interrupted it.
-fn failed(mut t: Transfer, error: i32) -> Transfer
-    ensures { λ r. ⌜ r ≡ failed t error ⌝ }
-{
-    if error != libc::EINTR {
-        return ended(t, true);
-    }
-    if t.interruptions == 0 {
-        return ended(t, true);
-    }
-    t.interruptions = t.interruptions - 1;
-    t
-}
-
-// After one more call, which answered a number, with C's `errno` as it was right after.
-fn after(t: Transfer, answer: isize, error: i32) -> Transfer
-    requires { ⌜ (t .count ≤ t .size) × Moved (t .size - t .count) answer ⌝ }
-    ensures { λ r. ⌜ r ≡ after t answer error ⌝ }
-{
-    if answer < 0 {
-        return failed(t, error);
-    }
-    moved(t, answer as usize)
 }
 
 // Reads to the end of the input, or until the buffer is full. Of the buffer's bytes nothing is promised.
@@ -139,8 +69,8 @@ fn note(out: &mut [u8], name: &[u8], what: &[u8]) -> usize
     requires { ⌜ length (now name) + length (now what) ≤ length (now out) ⌝ }
     ensures { λ r. ⌜ Appended (now (out .entry)) 0 (now (name .entry) ++ now (what .entry)) (now (out .exit)) r ⌝ }
 {
-    let next = text::word(out, 0, name);
-    text::word(out, next, what)
+    let next = word(out, 0, name);
+    word(out, next, what)
 }
 
 // The line `NAME: cannot read` on standard error.

@@ -4,8 +4,8 @@ use mathlib.Core.Path.{_≡_, refl, sym, _∙_, ap}
 use mathlib.Core.List.{List, [], _∷_, _++_}
 use native.Mathlib.Numerals.{add-one}
 use native.Mathlib.Omega.{arith}
-use lib.ListN.{length, set, take, length-append}
-use lib.Seq.{sets, length-sets}
+use lib.ListN.{length, set, take, drop, length-append}
+use lib.Seq.{sets, length-sets, sets-eq, take-at, length-take-le}
 use Rattle.base.proofs.Stores.{sets-join}
 use Rattle.text.specs.Decimal.{Appended}
 
@@ -39,3 +39,16 @@ one-byte out at b h = record { content = refl; place = refl; inside = omega arit
 pub room-left : {out₀ : List ℕ} {at : ℕ} {p out₁ : List ℕ} {n : ℕ} (q : List ℕ) → Appended out₀ at p out₁ n
     → at + length (p ++ q) ≤ length out₀ → n + length q ≤ length out₁
 room-left {out₀} {at} {p} {out₁} {n} q x h = omega (arith, length-append p q, kept x, x .place)
+
+-- a text at the front
+module _ {out₀ p out₁ : List ℕ} {n : ℕ} (x : Appended out₀ 0 p out₁ n) where
+  pub front-within : n ≤ length out₁
+  front-within = omega (arith, x .inside, kept x)
+
+  pub front-length : length (take n out₁) ≡ n
+  front-length = length-take-le n out₁ front-within
+
+  pub front-is : take n out₁ ≡ p
+  front-is =
+      rw (x .content, sets-eq p out₀ 0 (omega (arith, x .place, x .inside)))
+      (take-at p (drop (0 + length p) out₀) n (omega (arith, x .place)))

@@ -27,13 +27,13 @@ use Rattle.releasing.proofs.Solved.{solved-agree}
 
 -- an event that is accepted comes to a clear configuration
 module _ (a : Automaton) (t : List ℕ) (c : Configuration) where
-  facts : Clear a t c → Consistent a c
+  pub facts : Clear a t c → Consistent a c
   facts k = consistent-facts a c (valid-facts a (k .record-valid)) (k .configuration-consistent)
 
-  occurs : Clear a t c → Occurs a (c .state) (heldEvents c)
+  pub occurs : Clear a t c → Occurs a (c .state) (heldEvents c)
   occurs k = record { state-below = facts k .state-below; buffer = held-buffer a c (facts k) }
 
-  accepted : (e : ℕ) → receiveRefusal a t c e ≡ 0 → Clear a t c × (eventRefusal a (heldEvents c) e ≡ 0)
+  pub accepted : (e : ℕ) → receiveRefusal a t c e ≡ 0 → Clear a t c × (eventRefusal a (heldEvents c) e ≡ 0)
   unfolding receiveRefusal eventRefusal
   accepted e z =
       let rows = eventRows a (heldEvents c) e in

@@ -14,6 +14,7 @@ use Rattle.automaton.specs.declared.Automaton.{Automaton}
 use Rattle.automaton.specs.Automaton.{valid}
 use Rattle.encoding.specs.declared.Parsed.{Parsed}
 use Rattle.encoding.specs.Reading.{refused, parse}
+use Rattle.encoding.proofs.Faults.{parse-sound}
 use Rattle.encoding.proofs.Trips.{read-is-valid}
 use Rattle.sets.specs.Table.{buffersCount, short, table, Solved}
 use Rattle.sets.proofs.Tables.{table-is-solved}
@@ -27,7 +28,6 @@ use Rattle.transcript.specs.Pieces.{Progress, belongs, at, inPhase, toCo
 use Rattle.transcript.specs.declared.Phase.the-variants.{Refused, Faulted, Opening}
 use Rattle.transcript.proofs.Runs.{belongs-of}
 use Rattle.transcript.proofs.Events.{next-inside, run-same}
-use Rattle.transcript.proofs.Parsing.{parse-sound}
 
 -- solving into a table of 16,384 places
 module _ (a : Automaton) (v : valid a ≡ true) (t : List ℕ) (long : length t ≡ 16384) where

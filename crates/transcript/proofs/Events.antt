@@ -10,7 +10,8 @@ use borrow.Author.Tests.{lt-ltb, le-ltb, ltb-true, ltb-false, eq-eqb, ne-eqb, eq
 use Rattle.base.proofs.Bools.{by}
 use Rattle.varint.specs.declared.Number.{Number}
 use Rattle.varint.specs.Varint.{value, read}
-use Rattle.varint.proofs.Trips.{read-after, read-inside}
+use Rattle.varint.specs.Claims.{AreBytes}
+use Rattle.varint.proofs.Trips.{read-after, read-inside, read-small}
 use Rattle.automaton.specs.Automaton.{valid}
 use Rattle.sets.specs.Table.{Solved}
 use Rattle.answers.specs.declared.Received.{Received}
@@ -29,6 +30,9 @@ module _ (s : List ℕ) (at : ℕ) (z : read s at .refusal ≡ 0) where
 
   pub next-inside : read s at .place ≤ length s
   next-inside = read-inside s at (read s at .value) (read s at .place) (number-whole (read s at) z)
+
+  pub next-small : AreBytes s → read s at .value < 2097152
+  next-small = read-small s at (read s at .value) (read s at .place) (number-whole (read s at) z)
 
 module _ (t s : List ℕ) where
   abbrev answer : Run → Received

@@ -3,6 +3,6 @@ pub mod Answers
 pub mod Events
 pub mod Continuing
 pub mod Phases
-pub mod Parsing
 pub mod Beginning
 pub mod Cases
+pub mod Bounds

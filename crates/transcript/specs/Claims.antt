@@ -1,10 +1,12 @@
 -- What is printed on some inputs: document 01's sample, and ways in which an input can begin and end.
-use Prim.Native.Nat.{ℕ, _<_}
+use Prim.Native.Nat.{ℕ, _+_, _*_, _<_, _≤_}
 use Prim.Native.String.{String}
 use mathlib.Core.Path.{_≡_}
 use mathlib.Core.List.{List, [], _∷_, _++_}
 use lib.ListN.{length}
+use Rattle.varint.specs.Claims.{AreBytes}
 use Rattle.text.specs.Decimal.{ascii}
+use Rattle.lines.specs.Lines.{lineRoom, inputMost}
 use Rattle.transcript.specs.Transcript.{transcript}
 
 -- the sheet V, with its length before it
@@ -41,3 +43,7 @@ pub record CasesPrinted : Type 0 where
 -- an input of more than 60,000 bytes
 abbrev pub LongRefused : Type 0
 LongRefused = (s : List ℕ) → 60000 < length s → Prints s ("refused 18" ∷ [])
+
+-- no transcript of bytes is longer than a line for each byte that is taken, and two
+abbrev pub TranscriptBounded : Type 0
+TranscriptBounded = (s : List ℕ) → AreBytes s → length (transcript s) ≤ lineRoom * (inputMost + 2)

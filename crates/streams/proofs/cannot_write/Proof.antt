@@ -1,4 +1,4 @@
-use Rattle.streams.proofs.Handing.{front-length, front-is}
+use Rattle.text.proofs.Appending.{front-length, front-is}
 use Rattle.streams.specs.Streams.{cannotWrite}
 use Rattle.text.specs.Decimal.{ascii}
 use mathlib.Core.Path.{sym}

@@ -1,8 +1,8 @@
 use Rattle.streams.proofs.Transfers.{failed-otherwise, failed-often, failed-again}
 use mathlib.Core.Path.{_∙_}
 use borrow.Author.Needs.{needs}
-use Rattle.streams.proofs.failed.Statement.{statement}
-use Rattle.streams.proofs.failed.Tie as tie
+use Rattle.streams.proofs.transfer.failed.Statement.{statement}
+use Rattle.streams.proofs.transfer.failed.Tie as tie
 
 ended-requires : tie.Need-ended-requires
 ended-requires c κs = search needs

@@ -1,8 +1,8 @@
 use Rattle.streams.proofs.Transfers.{after-negative, after-bytes, bytes-fit, bytes-within}
 use mathlib.Core.Path.{_∙_}
 use borrow.Author.Needs.{needs}
-use Rattle.streams.proofs.after.Statement.{statement}
-use Rattle.streams.proofs.after.Tie as tie
+use Rattle.streams.proofs.transfer.after.Statement.{statement}
+use Rattle.streams.proofs.transfer.after.Tie as tie
 
 failed-requires : tie.Need-failed-requires
 failed-requires c κs = search needs

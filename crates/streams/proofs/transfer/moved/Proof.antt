@@ -1,8 +1,8 @@
 use Rattle.streams.proofs.Transfers.{moved-none, moved-some}
 use mathlib.Core.Path.{_∙_}
 use borrow.Author.Needs.{needs}
-use Rattle.streams.proofs.moved.Statement.{statement}
-use Rattle.streams.proofs.moved.Tie as tie
+use Rattle.streams.proofs.transfer.moved.Statement.{statement}
+use Rattle.streams.proofs.transfer.moved.Tie as tie
 
 ended-requires : tie.Need-ended-requires
 ended-requires c κs = search needs

@@ -1,0 +1,47 @@
+-- A transfer of bytes by calls of C's `read` or `write`: what one call more makes of it.
+use Prim.Native.Nat.{ℕ, _+_, _-_}
+use mathlib.Core.Bool.{Bool, true, false, cond, _&&_}
+use lib.IntN.{ℤ, pos, negsuc}
+use lib.Dec.{eqb, ltb}
+pub use Rattle.streams.specs.declared.transfer.Transfer.{Transfer}
+
+-- how often signals may interrupt one transfer
+abbrev pub interruptionsMost : ℕ
+interruptionsMost = 65536
+
+abbrev pub begun : ℕ → Transfer
+begun size = record { size = size; count = 0; interruptions = interruptionsMost; going = ltb 0 size; failed = false }
+
+abbrev pub ended : Transfer → Bool → Transfer
+ended t failed = record { size = t .size; count = t .count; interruptions = t .interruptions; going = false; failed = failed }
+
+abbrev pub advanced : Transfer → ℕ → Transfer
+advanced t bytes =
+    record {
+      size = t .size;
+      count = t .count + bytes;
+      interruptions = t .interruptions;
+      going = ltb (t .count + bytes) (t .size);
+      failed = t .failed;
+    }
+
+-- a call moved so many bytes: none ends the transfer (of a read: the input), and so do all that were left
+unfoldable pub moved : Transfer → ℕ → Transfer
+moved t bytes = cond (eqb bytes 0) (ended t false) (advanced t bytes)
+
+abbrev pub again : Transfer → Transfer
+again t = record { size = t .size; count = t .count; interruptions = t .interruptions - 1; going = t .going; failed = t .failed }
+
+-- C's EINTR: a signal interrupted the call before it moved a byte
+unfoldable pub interrupted : ℤ → Bool
+interrupted (pos error) = eqb error 4
+interrupted (negsuc error) = false
+
+-- a call failed: it is made again where a signal interrupted it and an interruption is left
+unfoldable pub failed : Transfer → ℤ → Transfer
+failed t error = cond (interrupted error && ltb 0 (t .interruptions)) (again t) (ended t true)
+
+-- a call answered how many bytes it moved, or a negative number
+unfoldable pub after : Transfer → ℤ → ℤ → Transfer
+after t (pos bytes) error = moved t bytes
+after t (negsuc _) error = failed t error
