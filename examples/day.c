@@ -23,6 +23,7 @@ static void stop(int status, const char *name, const char *fault)
     exit(status);
 }
 
+/* Room to lend, all zero; one place more, so that it is nowhere empty. */
 static void *room(size_t count, size_t size)
 {
     void *place = calloc(count + 1, size);
