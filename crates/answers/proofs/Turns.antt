@@ -16,12 +16,12 @@ use Rattle.automaton.proofs.Facts.{Valid, valid-facts}
 use Rattle.sets.specs.Table.{short}
 use Rattle.sets.proofs.Total.{total}
 use Rattle.configuration.specs.declared.Configuration.{Configuration}
-use Rattle.configuration.specs.Configuration.{Position, heldEvents, positionOf, configuration, consistent}
+use Rattle.configuration.specs.Configuration.{heldEvents, positionOf, configuration, consistent}
 use Rattle.configuration.proofs.Facts.{Consistent, consistent-facts, consistent-of, configuration-consistent, held-buffer}
 use Rattle.releasing.specs.Step.{byTable, Effect, effectFrom, advance, eventRows, eventRefusal}
 use Rattle.releasing.proofs.Effects.{OccursAt, advance-occurs, effect-length}
 use Rattle.answers.specs.Answers.{tableRows, tableRefusal, configurationRows, callRows, callRefusal, receiveRefusal}
-use Rattle.answers.specs.Turns.{Turned, turnRows, turnRefusal, turnEmitted, turnNext, turned}
+use Rattle.answers.specs.Turns.{turnRows, turnRefusal, turnEmitted, turnNext, turned}
 
 module _ (a : Automaton) (t : List ℕ) where
   -- the two rows, one after the other

@@ -23,9 +23,9 @@ use Rattle.releasing.proofs.Tabled.{rest-tabled, lent}
 use Rattle.stepping.proofs.Tabled.{symbols-low}
 use Rattle.answers.specs.declared.Turned.{Turned}
 use Rattle.answers.specs.Answers.{tableRefusal, callRefusal, isWinning, status, receiveRefusal, refusedEvent, received}
-use Rattle.answers.specs.Turns.{turnRefusal, turnNext, turned, turnedBuffer}
+use Rattle.answers.specs.Turns.{turnRefusal, turned, turnedBuffer}
 use Rattle.answers.proofs.Refusals.{status-inconsistent, status-clear}
-use Rattle.answers.proofs.Turns.{Opened, call-stands, receive-unopened, receive-turns, turn-stands, turn-emits, turn-moves, turn-accepted, turn-keeps, turn-room}
+use Rattle.answers.proofs.Turns.{Opened, call-stands, receive-unopened, receive-turns, turn-stands, turn-emits, turn-accepted, turn-keeps, turn-room}
 use Rattle.processing.specs.declared.Limits.{Limits}
 use Rattle.processing.specs.Lending.{Opens}
 use Rattle.processing.proofs.Taking.{lends}

@@ -11,7 +11,15 @@ use processing::Limits;
 use processing::turn;
 use searching::rests;
 ghost use mathlib.Core.Path.{_≡_};
+ghost use mathlib.Core.Bool.{false};
 ghost use Rattle.answers.specs.Answers.{status, received, refusedEvent};
+
+fn refused_status(refusal: u8) -> Status
+    ensures { λ r. ⌜ r ≡ record { refusal = refusal; winning = false } ⌝ }
+{
+    let winning = false;
+    Status { refusal, winning }
+}
 
 // Whether a configuration is winning (document 01's guarded): the monitor may rest where it is.
 pub fn winning(a: Automaton, table: &[u32], c: Configuration) -> Status
@@ -28,16 +36,10 @@ pub fn winning(a: Automaton, table: &[u32], c: Configuration) -> Status
         table,
     );
     if entry.refusal != 0 {
-        return Status {
-            refusal: entry.refusal,
-            winning: false,
-        };
+        return refused_status(entry.refusal);
     }
     if !consistent(a.states, a.symbols, a.capacity, &a.classes, c) {
-        return Status {
-            refusal: 13,
-            winning: false,
-        };
+        return refused_status(13);
     }
     let ranking = entry.ranking;
     let buffer = c.buffer;

@@ -16,7 +16,6 @@ use Rattle.configuration.proofs.Facts.{position-made}
 use Rattle.releasing.specs.Step.{byTable, Effect, effectFrom, advance, eventRefusal, Run, runOf}
 use Rattle.releasing.proofs.Runs.{run-accepts, run-refuses}
 use Rattle.answers.specs.declared.Turned.{Turned}
-use Rattle.answers.specs.declared.Ran.{Ran}
 use Rattle.answers.specs.Answers.{ranOf, ranBufferOf}
 use Rattle.answers.specs.Turns.{turnRefusal, turnEmitted, turnNext, turned, turnedBuffer}
 use Rattle.answers.proofs.Turns.{turn-consistent, turn-silent, turn-emits, turn-moves, turn-keeps, turn-room}

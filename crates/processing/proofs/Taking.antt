@@ -4,7 +4,7 @@ use mathlib.Core.Path.{_≡_, refl, sym, _∙_, ap}
 use mathlib.Core.Bool.{true}
 use mathlib.Core.List.{List}
 use native.Mathlib.Omega.{arith}
-use lib.ListN.{length, take}
+use lib.ListN.{take}
 use lib.Seq.{sets}
 use Rattle.automaton.specs.declared.Automaton.{Automaton}
 use Rattle.automaton.proofs.Facts.{Valid, valid-facts}

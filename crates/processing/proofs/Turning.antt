@@ -1,6 +1,6 @@
 -- One event for any configuration, as the code finds it: row 13, rows 14 and 15, and a list of this one event.
 use Prim.Native.Nat.{ℕ, _+_, _-_, _<_, _≤_}
-use mathlib.Core.Path.{_≡_, sym, _∙_, ap, ap₂}
+use mathlib.Core.Path.{_≡_, sym, _∙_, ap}
 use mathlib.Core.Bool.{Bool, true, false}
 use mathlib.Core.List.{List, [], _∷_, _++_, append-assoc, append-nil}
 use native.Mathlib.Omega.{arith}
@@ -9,11 +9,10 @@ use lib.Seq.{sets, sets-eq, drop-drop, take-all}
 use Rattle.automaton.specs.declared.Automaton.{Automaton}
 use Rattle.configuration.specs.declared.Configuration.{Configuration}
 use Rattle.configuration.specs.Configuration.{positionOf, configuration, consistentIn, consistent}
-use Rattle.releasing.specs.Step.{byTable, effectFrom, advance, eventRefusal, Run, runOf}
+use Rattle.releasing.specs.Step.{byTable, effectFrom, advance, Run, runOf}
 use Rattle.releasing.proofs.Runs.{run-accepts}
 use Rattle.stepping.specs.Stepping.{eventRowBy}
 use Rattle.answers.specs.declared.Ran.{Ran}
-use Rattle.answers.specs.Answers.{ranOf, ranBufferOf}
 use Rattle.answers.specs.Turns.{turnRefusal, turnedBuffer}
 use Rattle.answers.proofs.Turns.{turn-inconsistent, turn-consistent, turn-refused, turn-silent, turn-accepted, turn-emits, turn-room}
 use Rattle.processing.specs.Lending.{Limits, Lends, Opens, Enters, Turns, Runs}

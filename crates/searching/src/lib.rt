@@ -22,7 +22,8 @@ fn in_set(table: &[u32], place: u32, q: usize) -> bool
 // The numbers of what is left of the buffer after each front part, into places that are 0; they stay so for the empty buffer and
 // where they are not used.
 fn places<'a>(ranks: &'a [u8; 16], k: u32, buffer: [u8; 6], held: usize, out: &mut [u32; 8])
-    requires { ⌜ (held ≤ 6) × (k ≤ 8) × ((e : ℕ) → getD (now ranks) e 0 ≤ 8) × ((i : ℕ) → getD buffer i 0 < 16) × (now out ≡ replicate 8 0) ⌝ }
+    requires { ⌜ (held ≤ 6) × (k ≤ 8) × ((e : ℕ) → getD (now ranks) e 0 ≤ 8) × ((i : ℕ) → getD buffer i 0 < 16)
+        × (now out ≡ replicate 8 0) ⌝ }
     ensures { λ _. ⌜ now (out .exit) ≡ pad 8 (placesOf (now (ranks .entry)) k (take held buffer)) ⌝ }
 {
     let mut place: u32 = 0;
@@ -45,7 +46,8 @@ pub fn rests<'a>(
     buffer: [u8; 6],
     held: usize,
 ) -> bool
-    requires { ⌜ (held ≤ 6) × (k ≤ 8) × ((e : ℕ) → getD (now ranks) e 0 ≤ 8) × ((i : ℕ) → getD buffer i 0 < 16) × (q < 32) × (2 * placeIn (now ranks) k (take held buffer) < length (now table)) ⌝ }
+    requires { ⌜ (held ≤ 6) × (k ≤ 8) × ((e : ℕ) → getD (now ranks) e 0 ≤ 8) × ((i : ℕ) → getD buffer i 0 < 16)
+        × (q < 32) × (2 * placeIn (now ranks) k (take held buffer) < length (now table)) ⌝ }
     ensures { λ r. ⌜ r ≡ restIn (now (table .entry)) (now (ranks .entry)) k (take held buffer) q ⌝ }
 {
     let mut left = [0u32; 8];
@@ -65,7 +67,9 @@ pub fn release<'a>(
     held: usize,
 ) -> Front
     requires { ⌜ Lent (now next) (now ranks) k (now table) q buffer held ⌝ }
-    ensures { λ r. ⌜ r ≡ front (restIn (now (table .entry)) (now (ranks .entry)) k) (over (now (ranks .entry)) (now (next .entry))) q (take held buffer) ⌝ }
+    ensures { λ r. let rest = restIn (now (table .entry)) (now (ranks .entry)) k in
+        let a = over (now (ranks .entry)) (now (next .entry)) in
+        ⌜ r ≡ front rest a q (take held buffer) ⌝ }
 {
     let mut left = [0u32; 8];
     places(ranks, k, buffer, held, &mut left);

@@ -1,24 +1,37 @@
+use Prim.Native.Nat.{_-_, _*_, _≤_}
+use mathlib.Core.Path.{_≡_, _∙_, sym}
 use native.Mathlib.Nat.{mul-le-mul}
-use mathlib.Core.Path.{_∙_, sym}
-use lib.Seq.{length-take-le, getD-take}
-use lib.ListN.{length}
-use mathlib.Core.Path.{_≡_}
-use Prim.Native.Nat.{_≤_, _-_, _*_}
-use lib.ListN.{take}
-use Rattle.releasing.proofs.Numbers.{Placing, placing-begins, placing-goes-on, placing-done, weight-bound, place-bound, grown-bound}
 use native.Mathlib.Omega.{arith}
+use lib.ListN.{length, take}
+use lib.Seq.{length-take-le, getD-take}
 use borrow.Author.Needs.{needs}
+use Rattle.releasing.proofs.Numbers.{Placing, placing-begins, placing-goes-on, placing-done, weight-bound, place-bound, grown-bound}
 use Rattle.searching.proofs.places.Statement.{statement}
 use Rattle.searching.proofs.places.Tie as tie
 
 abbrev Inv-loop : tie.InvT-loop
-Inv-loop ranks k held out₀ buffer place₀ weight₀ i₀ out place weight i = (i ≤ held) × (length (take held buffer) ≡ held) × Placing ranks k (take held buffer) out place weight i
+Inv-loop ranks k held out₀ buffer place₀ weight₀ i₀ out place weight i =
+    (i ≤ held) × (length (take held buffer) ≡ held) × Placing ranks k (take held buffer) out place weight i
 
 abbrev μ-loop : tie.MeasureT-loop
 μ-loop ranks k held out₀ buffer place₀ weight₀ i₀ out place weight i = i
 
+-- The places that later needs look back to, and what stands there.
+
+abbrev round : tie.After-wide Inv-loop μ-loop → tie.At-loop Inv-loop μ-loop
+round c = c .before .before .before .before
+
+few : (c : tie.At-loop Inv-loop μ-loop) → length (take (c .before .args .held) (c .before .args .t3)) ≤ 6
+few c = omega (arith, c .loop .inv .1, c .before .pre .0)
+
+rank-low : (c : tie.After-wide Inv-loop μ-loop) → c .wide .result ≤ 8
+rank-low c = omega (arith, c .wide .ensures .0, round c .before .pre .2 (c .before .before .size .result))
+
 loop-holds : tie.Need-loop-holds Inv-loop μ-loop
-loop-holds c = let long : length (c .args .t3) ≡ 6 = search needs in let e = length-take-le (c .args .held) (c .args .t3) (omega (arith, c .pre .0)) in (omega arith, e, rw (c .pre .4) (placing-begins _ _ _ _ e (omega (arith, c .pre .0))))
+loop-holds c =
+    let long : length (c .args .t3) ≡ 6 = search needs in
+    let e = length-take-le (c .args .held) (c .args .t3) (omega (arith, c .pre .0)) in
+    (omega arith, e, rw (c .pre .4) (placing-begins _ _ _ _ e (omega (arith, c .pre .0))))
 
 sub-i : tie.Need-sub-i Inv-loop μ-loop
 sub-i c = omega arith
@@ -30,31 +43,50 @@ size-requires : tie.Need-size-requires Inv-loop μ-loop
 size-requires c κs = search needs
 
 element-copy-out-wide : tie.Need-element-copy-out-wide Inv-loop μ-loop
-element-copy-out-wide c = omega (arith, c .size .ensures .0, c .before .before .before .pre .3 (c .before .before .loop .i - 1))
+element-copy-out-wide c =
+    let r = c .before .before in
+    omega (arith, c .size .ensures .0, r .before .pre .3 (r .loop .i - 1))
 
 wide-requires : tie.Need-wide-requires Inv-loop μ-loop
 wide-requires c κs = search needs
 
 mul-place : tie.Need-mul-place Inv-loop μ-loop
-mul-place c = let g = c .before .before .before .before .loop .inv .2 in let p = c .before .before .before .before .before .pre in let r : c .wide .result ≤ 8 = omega (arith, c .wide .ensures .0, p .2 (c .before .before .size .result)) in omega (arith, grown-bound g (p .2) (p .1) (omega (arith, c .before .before .before .before .loop .inv .1, p .0)) _ r)
+mul-place c =
+    let r = round c in
+    let p = r .before .pre in
+    omega (arith, grown-bound (r .loop .inv .2) (p .2) (p .1) (few r) _ (rank-low c))
 
 add-place : tie.Need-add-place Inv-loop μ-loop
-add-place c = let g = c .before .before .before .before .loop .inv .2 in let p = c .before .before .before .before .before .pre in let r : c .wide .result ≤ 8 = omega (arith, c .wide .ensures .0, p .2 (c .before .before .size .result)) in omega (arith, grown-bound g (p .2) (p .1) (omega (arith, c .before .before .before .before .loop .inv .1, p .0)) _ r, place-bound g (p .2) (p .1) (omega (arith, c .before .before .before .before .loop .inv .1, p .0)))
+add-place c =
+    let r = round c in
+    let p = r .before .pre in
+    let g = r .loop .inv .2 in
+    omega (arith, grown-bound g (p .2) (p .1) (few r) _ (rank-low c), place-bound g (p .2) (p .1) (few r))
 
 mul-weight : tie.Need-mul-weight Inv-loop μ-loop
-mul-weight c = let g = c .before .before .before .before .loop .inv .2 in let p = c .before .before .before .before .before .pre in let m : c .before .before .before .before .loop .weight * c .before .before .before .before .before .args .k ≤ 262144 * 8 = mul-le-mul (weight-bound g (p .2) (p .1) (omega (arith, c .before .before .before .before .loop .inv .1, p .0))) (p .1) in omega (arith, m)
+mul-weight c =
+    let r = round c in
+    let p = r .before .pre in
+    let m : r .loop .weight * r .before .args .k ≤ 262144 * 8 = mul-le-mul (weight-bound (r .loop .inv .2) (p .2) (p .1) (few r)) (p .1) in
+    omega (arith, m)
 
 mul-out : tie.Need-mul-out Inv-loop μ-loop
-mul-out c = omega (arith, c .before .before .before .before .before .pre .0)
+mul-out c = omega (arith, round c .before .pre .0)
 
 element-write-out : tie.Need-element-write-out Inv-loop μ-loop
-element-write-out c = omega (arith, c .before .before .before .before .before .pre .0)
+element-write-out c = omega (arith, round c .before .pre .0)
 
 loop-less : tie.Need-loop-less Inv-loop μ-loop
 loop-less c = omega arith
 
 loop-again : tie.Need-loop-again Inv-loop μ-loop
-loop-again c = let v = c .before .before .before .before .loop .inv in let a = c .before .before .before .before .before .args in (omega arith, v .1, rw (c .wide .ensures .0) (placing-goes-on (v .2) (c .before .before .size .result) (omega arith) (c .before .before .size .ensures .0 ∙ sym (getD-take (a .held) (a .t3) (c .before .before .before .before .loop .i - 1) 0 (omega arith)))))
+loop-again c =
+    let r = round c in
+    let v = r .loop .inv in
+    let a = r .before .args in
+    let s = c .before .before in
+    let e = s .size .ensures .0 ∙ sym (getD-take (a .held) (a .t3) (r .loop .i - 1) 0 (omega arith)) in
+    (omega arith, v .1, rw (c .wide .ensures .0) (placing-goes-on (v .2) (s .size .result) (omega arith) e))
 
 returns : tie.Need-returns Inv-loop μ-loop
 returns c = placing-done (c .before .loop .inv .2) (omega arith)

@@ -22,7 +22,10 @@ copy-requires : tie.Need-copy-requires
 copy-requires c κs = search needs
 
 returns-2 : tie.Need-returns-2
-returns-2 c = let a = c .before .before .before .before .before .args in let n : length (a .t1) ≡ 6 = search needs in c .before .copy .ensures ∙ kept (a .t1) (a .held) (a .count) n (omega arith) (omega arith)
+returns-2 c =
+    let a = c .before .before .before .before .before .args in
+    let n : length (a .t1) ≡ 6 = search needs in
+    c .before .copy .ensures ∙ kept (a .t1) (a .held) (a .count) n (omega arith) (omega arith)
 
 pub left-spec : {M : Type 1} → statement M
 left-spec =

@@ -13,7 +13,8 @@ use Rattle.symbols.proofs.rank_symbols.Statement.{statement}
 use Rattle.symbols.proofs.rank_symbols.Tie as tie
 
 abbrev Inv-loop : tie.InvT-loop
-Inv-loop classes m ranks₀ count₀ e₀ ranks count e = (e ≤ m) × (count ≤ e) × (count ≡ controllableIn classes e) × (ranks ≡ pad 16 (ranksTo classes e))
+Inv-loop classes m ranks₀ count₀ e₀ ranks count e =
+    (e ≤ m) × (count ≤ e) × (count ≡ controllableIn classes e) × (ranks ≡ pad 16 (ranksTo classes e))
 
 abbrev μ-loop : tie.MeasureT-loop
 μ-loop classes m ranks₀ count₀ e₀ ranks count e = m - e
@@ -38,14 +39,26 @@ loop-less : tie.Need-loop-less Inv-loop μ-loop
 loop-less c = search needs
 
 loop-again : tie.Need-loop-again Inv-loop μ-loop
-loop-again c = let v = c .before .before .before .loop .inv in (omega arith, ⊎-elim (λ w. omega arith) (λ w. omega arith) (c .if1 .came), ⊎-elim (λ w. w .2 ∙ counted _ _ _ (v .2) (w .0 .taken)) (λ w. w .2 ∙ passed _ _ _ (v .2) (w .0 .left)) (c .if1 .came), ⊎-elim (λ w. w .1 ∙ rank-set _ _ _ (omega arith) (v .3) _ (w .0 .taken) (counted _ _ _ (v .2) (w .0 .taken))) (λ w. w .1 ∙ rank-none _ _ _ (omega arith) (v .3) (w .0 .left)) (c .if1 .came))
+loop-again c =
+    let v = c .before .before .before .loop .inv in (
+      omega arith,
+      ⊎-elim (λ w. omega arith) (λ w. omega arith) (c .if1 .came),
+      ⊎-elim (λ w. w .2 ∙ counted _ _ _ (v .2) (w .0 .taken)) (λ w. w .2 ∙ passed _ _ _ (v .2) (w .0 .left)) (c .if1 .came),
+      ⊎-elim
+          (λ w. w .1 ∙ rank-set _ _ _ (omega arith) (v .3) _ (w .0 .taken) (counted _ _ _ (v .2) (w .0 .taken)))
+          (λ w. w .1 ∙ rank-none _ _ _ (omega arith) (v .3) (w .0 .left))
+          (c .if1 .came),
+    )
 
 wide-requires : tie.Need-wide-requires Inv-loop μ-loop
 wide-requires c κs = search needs
 
 returns : tie.Need-returns Inv-loop μ-loop
 unfolding rankingOf
-returns c = let e : c .before .before .loop .e ≡ c .before .before .before .args .m = omega arith in let v = c .before .before .loop .inv in rw (c .wide .ensures .0, v .2, v .3, e)
+returns c =
+    let l = c .before .before in
+    let e : l .loop .e ≡ l .before .args .m = omega arith in
+    rw (c .wide .ensures .0, l .loop .inv .2, l .loop .inv .3, e)
 
 pub rank-symbols-spec : {M : Type 1} → statement M
 rank-symbols-spec =
