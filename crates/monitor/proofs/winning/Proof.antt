@@ -39,15 +39,25 @@ clear c = c .before .before .before .before .before
 enter-requires : tie.Need-enter-requires
 enter-requires c κs = shapes _ (search needs) (search needs) (search needs)
 
+refused-status-requires : tie.Need-refused-status-requires
+refused-status-requires c κs = search needs
+
 returns : tie.Need-returns
-returns c = status-stands _ _ _ _ (entered _ _ _ (c .before .before .enter .ensures)) (c .if1 .taken)
+returns c =
+    let b = c .before in
+    c .refused-status .ensures ∙ status-stands _ _ _ _ (entered _ _ _ (b .before .before .enter .ensures)) (b .if1 .taken)
 
 consistent-requires : tie.Need-consistent-requires
 consistent-requires c κs = search needs
 
+refused-status-requires-2 : tie.Need-refused-status-requires-2
+refused-status-requires-2 c κs = search needs
+
 returns-2 : tie.Need-returns-2
 returns-2 c =
-    status-refuses _ _ _ (opened (passed (c .before)) .0) (sym (c .before .consistent .ensures) ∙ not-true _ (c .if2 .taken))
+    let b = c .before in
+    c .refused-status2 .ensures ∙
+    status-refuses _ _ _ (opened (passed (b .before)) .0) (sym (b .before .consistent .ensures) ∙ not-true _ (b .if2 .taken))
 
 size-requires : tie.Need-size-requires
 size-requires c κs = search needs
@@ -74,8 +84,10 @@ winning-spec =
     tie.close
     (tie.spec
     enter-requires
+    refused-status-requires
     returns
     consistent-requires
+    refused-status-requires-2
     returns-2
     size-requires
     size-requires-2
