@@ -2,7 +2,7 @@
 use streams::Written;
 ghost use mathlib.Core.Path.{_≡_};
 ghost use Prim.Native.Nat.{_≤_};
-ghost use lib.ListN.{length, replicate};
+ghost use lib.ListN.{length};
 ghost use Rattle.lines.specs.Lines.{lineRoom};
 ghost use Rattle.transcript.specs.Transcript.{transcript};
 ghost use Rattle.transcript.specs.Pieces.{tableAfter};
@@ -32,39 +32,18 @@ fn write(input: &[u8], table: &mut [u32; 16384], out: &mut [u8]) -> Written
     }
 }
 
-// Zeros, behind a name of their own: the prover writes out a long array where it stands.
-
-// Room for one byte more than an input may have.
-fn input_room() -> [u8; 60001]
-    ensures { λ r. ⌜ r ≡ replicate 60001 0 ⌝ }
-{
-    [0; 60001]
-}
-
-fn table_room() -> [u32; 16384]
-    ensures { λ r. ⌜ r ≡ replicate 16384 0 ⌝ }
-{
-    [0; 16384]
-}
-
-fn piece_room() -> [u8; 4096]
-    ensures { λ r. ⌜ r ≡ replicate 4096 0 ⌝ }
-{
-    [0; 4096]
-}
-
 fn main() {
-    let mut input = input_room();
+    let mut input = [0u8; 60001];
     let read = streams::read_all(streams::STANDARD_INPUT, &mut input);
     if read.failed {
         streams::cannot_read(b"day");
         return;
     }
     let count = read.length;
-    let mut table = table_room();
-    let mut out = piece_room();
-    let written = write(&input[..count], &mut table, &mut out);
-    if !written.done {
+    let mut table = [0u32; 16384];
+    let mut out = [0u8; 4096];
+    let delivered = write(&input[..count], &mut table, &mut out);
+    if !delivered.done {
         streams::cannot_write(b"day");
     }
 }

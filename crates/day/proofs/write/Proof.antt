@@ -60,7 +60,7 @@ add-count c =
 loop-less : tie.Need-loop-less Inv-loop μ-loop
 loop-less c =
     let d = c .before .before .before .before in
-    less-left (asked d .next-piece .ensures .0) (d .before .before .if1 .left)
+    less-left (asked d .next-piece .ensures .0) (λ z. omega (arith, d .before .before .if1 .left, z))
 
 loop-again : tie.Need-loop-again Inv-loop μ-loop
 loop-again c =
