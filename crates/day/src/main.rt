@@ -23,8 +23,10 @@ fn write(input: &[u8], table: &mut [u32; 16384], out: &mut [u8]) -> Written
             break Written { count, done: true };
         }
         let written = streams::write_all(streams::STANDARD_OUTPUT, &out[..length]);
-        count = count + written.count;
-        if !written.done {
+        let taken = written.count;
+        let whole = written.done;
+        count = count + taken;
+        if !whole {
             break Written { count, done: false };
         }
         let rest = piece.progress;
@@ -42,8 +44,8 @@ fn main() {
     let count = read.length;
     let mut table = [0u32; 16384];
     let mut out = [0u8; 4096];
-    let written = write(&input[..count], &mut table, &mut out);
-    if !written.done {
+    let delivered = write(&input[..count], &mut table, &mut out);
+    if !delivered.done {
         streams::cannot_write(b"day");
     }
 }

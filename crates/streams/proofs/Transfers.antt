@@ -1,7 +1,7 @@
 -- Laws of a transfer, call by call.
 use Prim.Native.Nat.{ℕ, _+_, _-_, _≤_, _<_, _^_}
 use mathlib.Core.Path.{_≡_, refl, sym, _∙_, ap}
-use mathlib.Core.Bool.{Bool, true, false, cond, _&&_}
+use mathlib.Core.Bool.{Bool, true, false, cond}
 use mathlib.Core.List.{List, [], _∷_, _++_}
 use native.Mathlib.Omega.{arith}
 use lib.ListN.{length, take, drop, length-drop}
@@ -13,9 +13,9 @@ use borrow.Author.Tests.{lt-ltb, le-ltb, ltb-true, ltb-false, eq-eqb, ne-eqb, eq
 use mir.Syntax.{w32, w64}
 use mir.Val.{Fits, SFits, toZ, ofZ}
 use mir.ValLaws.{toZ-ofZ}
-use Rattle.base.proofs.Bools.{by, clash, and-right}
+use Rattle.base.proofs.Bools.{by, clash}
 use Rattle.libc.specs.Io.{Moved}
-use Rattle.streams.specs.Transfers.{Transfer, begun, ended, advanced, moved, again, interrupted, failed, after, transferred}
+use Rattle.streams.specs.Transfers.{Transfer, begun, ended, advanced, moved, again, interrupted, bySignal, failed, after, transferred}
 
 module _ (t : Transfer) where
   -- a call that moved bytes
@@ -27,28 +27,25 @@ module _ (t : Transfer) where
   unfolding moved
   moved-some bytes h = rw (ne-eqb bytes 0 h)
 
-  -- a call that failed; C's `errno` comes as its bits
-  other : (error : ℤ) → (ofZ w32 error ≡ 4 → ⊥) → interrupted error ≡ false
+  -- a call that a signal interrupted
+  pub interrupted-often : t .interruptions ≡ 0 → ended t true ≡ interrupted t
   unfolding interrupted
-  other (pos error) h = ne-eqb error 4 h
-  other (negsuc error) h = refl
+  interrupted-often z = rw (eq-eqb (t .interruptions) 0 z)
 
-  signal : (error : ℤ) → SFits w32 error → ofZ w32 error ≡ 4 → interrupted error ≡ true
+  pub interrupted-again : (t .interruptions ≡ 0 → ⊥) → again t ≡ interrupted t
   unfolding interrupted
-  signal (pos error) f h = eq-eqb error 4 h
-  signal (negsuc error) f h = absurd (omega (arith, f .sfits))
+  interrupted-again h = rw (ne-eqb (t .interruptions) 0 h)
+
+  -- a call that failed; C's `errno` comes as its bits
+  pub failed-by-signal : (error : ℤ) → SFits w32 error → ofZ w32 error ≡ 4 → interrupted t ≡ failed t error
+  unfolding failed bySignal
+  failed-by-signal (pos error) f h = rw (eq-eqb error 4 h)
+  failed-by-signal (negsuc error) f h = absurd (omega (arith, f .sfits))
 
   pub failed-otherwise : (error : ℤ) → (ofZ w32 error ≡ 4 → ⊥) → ended t true ≡ failed t error
-  unfolding failed
-  failed-otherwise error h = rw (other error h)
-
-  pub failed-often : (error : ℤ) → SFits w32 error → ofZ w32 error ≡ 4 → t .interruptions ≡ 0 → ended t true ≡ failed t error
-  unfolding failed
-  failed-often error f h z = rw (signal error f h, z)
-
-  pub failed-again : (error : ℤ) → SFits w32 error → ofZ w32 error ≡ 4 → (t .interruptions ≡ 0 → ⊥) → again t ≡ failed t error
-  unfolding failed
-  failed-again error f h z = rw (signal error f h, lt-ltb 0 (t .interruptions) (omega arith))
+  unfolding failed bySignal
+  failed-otherwise (pos error) h = rw (ne-eqb error 4 h)
+  failed-otherwise (negsuc error) h = refl
 
 -- what a call answered, which comes as its bits too
 module _ (t : Transfer) (error : ℤ) where
@@ -165,19 +162,27 @@ module _ {n : ℕ} {t : Transfer} (g : Standing n t) (goes : t .going ≡ true) 
       (let z = eqb-false bytes 0 e in
       rw goes (omega (arith, g .room goes, g .whole, bit-small (ltb (t .count + bytes) (t .size))))))
 
+  stands-interrupted : Standing n (interrupted t)
+  unfolding interrupted
+  stands-interrupted =
+      by (eqb (t .interruptions) 0)
+      (λ e. rw e (stands-ended true))
+      (λ e. rw e (record { whole = g .whole; within = g .within; room = g .room; sound = g .sound; short = g .short }))
+
+  less-interrupted : unspent (interrupted t) < unspent t
+  unfolding interrupted
+  less-interrupted =
+      by (eqb (t .interruptions) 0)
+      (λ e. rw e (less-ended true))
+      (λ e. let i = eqb-false (t .interruptions) 0 e in rw e (omega arith))
+
   stands-failed : (error : ℤ) → Standing n (failed t error)
   unfolding failed
-  stands-failed error =
-      by (interrupted error && ltb 0 (t .interruptions))
-      (λ e. rw e (record { whole = g .whole; within = g .within; room = g .room; sound = g .sound; short = g .short }))
-      (λ e. rw e (stands-ended true))
+  stands-failed error = by (bySignal error) (λ e. rw e stands-interrupted) (λ e. rw e (stands-ended true))
 
   less-failed : (error : ℤ) → unspent (failed t error) < unspent t
   unfolding failed
-  less-failed error =
-      by (interrupted error && ltb 0 (t .interruptions))
-      (λ e. let i = ltb-true 0 (t .interruptions) (and-right (interrupted error) _ e) in rw e (omega arith))
-      (λ e. rw e (less-ended true))
+  less-failed error = by (bySignal error) (λ e. rw e less-interrupted) (λ e. rw e (less-ended true))
 
   pub stands-after : (answer error : ℤ) → Moved (t .size - t .count) answer → Standing n (after t answer error)
   unfolding after

@@ -1,6 +1,6 @@
 -- A transfer of bytes by calls of C's `read` or `write`: what one call more makes of it.
 use Prim.Native.Nat.{ℕ, _+_, _-_}
-use mathlib.Core.Bool.{Bool, true, false, cond, _&&_}
+use mathlib.Core.Bool.{Bool, true, false, cond}
 use mathlib.Core.List.{List, [], _∷_}
 use lib.IntN.{ℤ, pos, negsuc}
 use lib.Dec.{eqb, ltb}
@@ -33,14 +33,17 @@ moved t bytes = cond (eqb bytes 0) (ended t false) (advanced t bytes)
 abbrev pub again : Transfer → Transfer
 again t = record { size = t .size; count = t .count; interruptions = t .interruptions - 1; going = t .going; failed = t .failed }
 
--- C's EINTR: a signal interrupted the call before it moved a byte
-unfoldable pub interrupted : ℤ → Bool
-interrupted (pos error) = eqb error 4
-interrupted (negsuc error) = false
+-- a signal interrupted a call before it moved a byte: it is made again, unless no interruption is left
+unfoldable pub interrupted : Transfer → Transfer
+interrupted t = cond (eqb (t .interruptions) 0) (ended t true) (again t)
 
--- a call failed: it is made again where a signal interrupted it and an interruption is left
+-- C's EINTR
+unfoldable pub bySignal : ℤ → Bool
+bySignal (pos error) = eqb error 4
+bySignal (negsuc error) = false
+
 unfoldable pub failed : Transfer → ℤ → Transfer
-failed t error = cond (interrupted error && ltb 0 (t .interruptions)) (again t) (ended t true)
+failed t error = cond (bySignal error) (interrupted t) (ended t true)
 
 -- a call answered how many bytes it moved, or a negative number
 unfoldable pub after : Transfer → ℤ → ℤ → Transfer

@@ -2,7 +2,7 @@
 ghost use mathlib.Core.Path.{_≡_};
 ghost use Prim.Native.Nat.{_≤_, _-_};
 ghost use Rattle.libc.specs.Io.{Moved};
-ghost use Rattle.streams.specs.Transfers.{begun, ended, moved, failed, after};
+ghost use Rattle.streams.specs.Transfers.{begun, ended, moved, interrupted, failed, after};
 
 // How often signals may interrupt one transfer: one more counts as a failure. A proved loop must end, and nothing else says that
 // the signals do.
@@ -52,18 +52,25 @@ fn moved(mut t: Transfer, bytes: usize) -> Transfer
     t
 }
 
-// A call failed, with C's `errno`. It is made again where a signal interrupted it.
-fn failed(mut t: Transfer, error: i32) -> Transfer
-    ensures { λ r. ⌜ r ≡ failed t error ⌝ }
+// A signal interrupted a call before it moved a byte. It is made again.
+fn interrupted(mut t: Transfer) -> Transfer
+    ensures { λ r. ⌜ r ≡ interrupted t ⌝ }
 {
-    if error != libc::EINTR {
-        return ended(t, true);
-    }
     if t.interruptions == 0 {
         return ended(t, true);
     }
     t.interruptions = t.interruptions - 1;
     t
+}
+
+// A call failed, with C's `errno`.
+fn failed(t: Transfer, error: i32) -> Transfer
+    ensures { λ r. ⌜ r ≡ failed t error ⌝ }
+{
+    if error == libc::EINTR {
+        return interrupted(t);
+    }
+    ended(t, true)
 }
 
 // After one call more, which answered a number, with C's `errno` as it was right after.

@@ -53,18 +53,16 @@ write-all-requires : tie.Need-write-all-requires Inv-loop μ-loop
 write-all-requires c κs = search needs
 
 add-count : tie.Need-add-count Inv-loop μ-loop
-add-count c =
-    let d = c .before in
-    record { fits = count-fits (turn (asked d) .loop .inv .2) (asked d .next-piece .ensures .0) (d .write-all .ensures) }
+add-count c = record { fits = count-fits (turn (asked c) .loop .inv .2) (asked c .next-piece .ensures .0) (c .write-all .ensures) }
 
 loop-less : tie.Need-loop-less Inv-loop μ-loop
 loop-less c =
-    let d = c .before .before .before .before in
-    less-left (asked d .next-piece .ensures .0) (d .before .before .if1 .left)
+    let d = c .before .before in
+    less-left (asked d .next-piece .ensures .0) (λ z. omega (arith, d .before .before .if1 .left, z))
 
 loop-again : tie.Need-loop-again Inv-loop μ-loop
 loop-again c =
-    let d = c .before .before .before .before in
+    let d = c .before .before in
     let i = turn (asked d) .loop .inv in
     let kept = kept-length (asked d .next-piece .ensures .0) in
     (kept ∙ i .0, rw kept (i .1), goes-on (i .2) (asked d .next-piece .ensures .0) (d .write-all .ensures) (not-false _ (c .before .if2 .left)))
@@ -82,12 +80,12 @@ returns c =
 
 same-length-2 : tie.Need-same-length-2 Inv-loop μ-loop
 same-length-2 c =
-    let d = asked (c .before .before .before) in
+    let d = asked (c .before) in
     kept-length (d .next-piece .ensures .0) ∙ turn d .loop .inv .0
 
 returns-2 : tie.Need-returns-2 Inv-loop μ-loop
 returns-2 c =
-    let d = c .before .before .before in
+    let d = c .before in
     let i = turn (asked d) .loop .inv in (
       stops (i .2) (asked d .next-piece .ensures .0) (d .write-all .ensures) (not-true _ (c .if2 .taken)),
       turn (asked d) .before .begin .ensures .1,
