@@ -30,7 +30,7 @@ ghost use Rattle.layout.specs.Layout.{automatonOf, automatonBytes, configuratio
 ghost use Rattle.layout.specs.Answers.{statusBytes, verdictBytes};
 ghost use Rattle.layout.specs.Calls.{initialBytes, receiveLeaves, runLeaves};
 
-// Reads and checks a sheet: the record, and the place of a fault.
+// Reads an automaton and checks it. Answered are its record and the place of a fault.
 #[no_mangle]
 pub extern "C" fn jaxhophasi_read(
     bytes: &[u8],

@@ -24,15 +24,15 @@ pub fn controllable_in(classes: &[u8; 16], m: usize) -> usize
     requires { ⌜ m ≤ 16 ⌝ }
     ensures { λ r. ⌜ r ≡ controllableIn (now (classes .entry)) m ⌝ }
 {
-    let mut count: usize = 0;
+    let mut found: usize = 0;
     let mut e: usize = 0;
     while e < m {
         if classes[e] == 1 {
-            count = count + 1;
+            found = found + 1;
         }
         e = e + 1;
     }
-    count
+    found
 }
 
 // How many of the first m symbols are controllable, and the rank of each.

@@ -10,10 +10,10 @@ use Rattle.symbols.proofs.controllable_in.Statement.{statement}
 use Rattle.symbols.proofs.controllable_in.Tie as tie
 
 abbrev Inv-loop : tie.InvT-loop
-Inv-loop classes m count₀ e₀ count e = (e ≤ m) × (count ≤ e) × (count ≡ controllableIn classes e)
+Inv-loop classes m found₀ e₀ found e = (e ≤ m) × (found ≤ e) × (found ≡ controllableIn classes e)
 
 abbrev μ-loop : tie.MeasureT-loop
-μ-loop classes m count₀ e₀ count e = m - e
+μ-loop classes m found₀ e₀ found e = m - e
 
 loop-holds : tie.Need-loop-holds Inv-loop μ-loop
 unfolding controllableIn count
@@ -22,8 +22,8 @@ loop-holds c = (omega arith, omega arith, refl)
 element-copy-out-if1 : tie.Need-element-copy-out-if1 Inv-loop μ-loop
 element-copy-out-if1 c = search needs
 
-add-count : tie.Need-add-count Inv-loop μ-loop
-add-count c = search needs
+add-found : tie.Need-add-found Inv-loop μ-loop
+add-found c = search needs
 
 add-e : tie.Need-add-e Inv-loop μ-loop
 add-e c = search needs
@@ -45,7 +45,7 @@ controllable-in-spec =
     μ-loop
     loop-holds
     element-copy-out-if1
-    add-count
+    add-found
     add-e
     loop-less
     loop-again
