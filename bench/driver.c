@@ -1,8 +1,8 @@
 /*
  * Compares the archive with the C version of the same rules, and measures both.
  *
- *   driver compare COUNT   COUNT rounds of every call on sheets, records, tables, states and days, valid and damaged; stops at the
- *                          first difference
+ *   driver compare COUNT   COUNT rounds of every call on sheets, records, tables, states and days,
+ *                          valid and damaged; stops at the first difference
  *   driver time            the solver, one event and a day, both in turn, best of several
  */
 #include <stdio.h>
@@ -42,7 +42,8 @@ static void *room(size_t size)
 
 /* ---- making inputs ---- */
 
-/* A valid record. With a core, the first states are acceptable and the uncontrollable kinds stay among them, so that S is not empty. */
+/* A valid record. With a core, the first states are acceptable and the uncontrollable kinds stay
+ * among them, so that S is not empty. */
 static void make_record(uint8_t *r, unsigned n, unsigned m, unsigned b, unsigned k, int core)
 {
     unsigned inside = core ? 1 + below(n) : 0;
@@ -80,7 +81,8 @@ static void make_any_record(uint8_t *r, uint32_t most)
     }
 }
 
-/* One place of a record is changed: any byte, sometimes to a value that still stands, or one that lies just past what may stand. */
+/* One place of a record is changed: any byte, sometimes to a value that still stands, or one that
+ * lies just past what may stand. */
 static void damage_record(uint8_t *r)
 {
     static const uint16_t start[] = { 0, 1, 2, 3, 4, 20, 52 }, size[] = { 1, 1, 1, 1, 16, 32, 512 };
@@ -192,7 +194,8 @@ static void same(const char *what, const void *ours, const void *theirs, size_t 
     exit(1);
 }
 
-/* Two copies of lent memory with the same contents, longer than what is lent, so that a byte written past it shows. */
+/* Two copies of lent memory with the same contents, longer than what is lent, so that a byte
+ * written past it shows. */
 typedef struct {
     uint8_t *ours, *theirs;
     size_t size;
@@ -234,7 +237,8 @@ static void compare_read(const uint8_t *bytes, size_t length)
     twin source = twins(length, 0), record = twins(JAXHOPHASI_AUTOMATON_SIZE, 0), place = twins(JAXHOPHASI_NUMBER_SIZE, 0);
     call_now = "read";
     set_twins(source, bytes, length);
-    same_row(jaxhophasi_read(source.ours, length, record.ours, place.ours), ref_read(source.theirs, length, record.theirs, place.theirs));
+    same_row(jaxhophasi_read(source.ours, length, record.ours, place.ours),
+        ref_read(source.theirs, length, record.theirs, place.theirs));
     same_twins("the sheet", source);
     same_twins("the record", record);
     same_twins("the place", place);
@@ -247,7 +251,8 @@ static void compare_write(twin record, size_t lent)
 {
     twin out = twins(lent, 0), length = twins(JAXHOPHASI_NUMBER_SIZE, 0);
     call_now = "write";
-    same_row(jaxhophasi_write(record.ours, out.ours, lent, length.ours), ref_write(record.theirs, out.theirs, lent, length.theirs));
+    same_row(jaxhophasi_write(record.ours, out.ours, lent, length.ours),
+        ref_write(record.theirs, out.theirs, lent, length.theirs));
     same_twins("the record", record);
     same_twins("the output", out);
     same_twins("the length", length);
@@ -358,7 +363,7 @@ static void compare_calls(twin record, twin table, size_t places, twin state)
 
 static void compare_round(uint32_t most)
 {
-    uint8_t r[JAXHOPHASI_AUTOMATON_SIZE], bytes[3 * JAXHOPHASI_SHEET_MOST + 8] = { 0 }, count[8];
+    uint8_t r[JAXHOPHASI_AUTOMATON_SIZE], bytes[3 * JAXHOPHASI_MAX_SHEET + 8] = { 0 }, count[8];
     make_any_record(r, most);
     size_t used = make_bytes(r, bytes, (int)below(2));
     compare_read(bytes, used);
@@ -434,7 +439,8 @@ static void best_of(int times, int many, const work *pieces, double *best)
 
 static uint8_t rounds[8], rounds_by_c[8];
 
-/* A small table is solved many times in a row, so that one measurement is long beside the clock's own time. */
+/* A small table is solved many times in a row, so that one measurement is long beside the clock's
+ * own time. */
 static unsigned repeats;
 
 static void solve_ours(void)
@@ -465,7 +471,7 @@ typedef uint8_t (*receive_call)(const uint8_t *, const uint32_t *, size_t, uint8
 /* So many of the events are also received one by one. */
 enum { SINGLE = 200000 };
 
-/* Events one by one from a state on: the refusals, and how many symbols were put out, in one sum. */
+/* Events one by one from a state on: the refusals, and how many symbols were put out, summed. */
 static uint64_t one_after_another(receive_call receive, uint8_t *from, uint8_t *to)
 {
     uint64_t sum = 0;
@@ -557,7 +563,8 @@ static void any_events(void)
         events[i] = below(record[1] + 1u);
 }
 
-/* W's events with a Receipt behind each Page, so that requests flow: Sign, Withdraw, or Page and Receipt. */
+/* W's events with a Receipt behind each Page, so that requests flow: Sign, Withdraw, or Page and
+ * Receipt. */
 static void paired_events(void)
 {
     for (size_t i = 0; i < EVENTS; i++) {
@@ -585,8 +592,8 @@ static int time_all(void)
     static const uint8_t w[] = { 4, 4, 2, 0, 0, 0, 1, 1, 1, 1, 0, 0, 1, 0, 3, 0, 1, 0, 2, 1, 2, 3, 3, 1, 3, 3, 3, 3 };
     static const unsigned seeds[] = { 4, 18, 54, 8, 39 };
     uint8_t place[8];
-    table = room(4 * JAXHOPHASI_TABLE_MOST);
-    table_by_c = room(4 * JAXHOPHASI_TABLE_MOST);
+    table = room(4 * JAXHOPHASI_MAX_TABLE);
+    table_by_c = room(4 * JAXHOPHASI_MAX_TABLE);
     events = room(4 * EVENTS);
     output = room(EVENTS);
     output_by_c = room(EVENTS);

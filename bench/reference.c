@@ -104,7 +104,8 @@ static int automaton_of(const uint8_t *record, struct automaton *s)
     return 1;
 }
 
-/* A number of one to three bytes of seven bits, low group first: row 1 or 2, or 0 with the place after it. */
+/* A number of one to three bytes of seven bits, low group first: row 1 or 2, or 0 with the place
+ * after it. */
 static uint8_t number(const uint8_t *bytes, size_t length, size_t *at, uint32_t *value)
 {
     *value = 0;
@@ -344,7 +345,8 @@ static uint32_t buffer_number(const struct automaton *s, const struct configurat
     return s->first[c->held - from] + value;
 }
 
-uint8_t ref_winning(const uint8_t *automaton, const uint32_t *table, size_t table_length, const uint8_t *configuration, uint8_t *answer)
+uint8_t ref_winning(const uint8_t *automaton, const uint32_t *table, size_t table_length, const uint8_t *configuration,
+    uint8_t *answer)
 {
     struct automaton s;
     struct configuration c = { 0 };
@@ -355,7 +357,8 @@ uint8_t ref_winning(const uint8_t *automaton, const uint32_t *table, size_t tabl
     return row;
 }
 
-/* Puts out the longest front part of the hold that brings the state into S of the rest: its length, or -1 where there is none. */
+/* Puts out the longest front part of the hold that brings the state into S of the rest: its
+ * length, or -1 where there is none. */
 static int release(const struct automaton *s, const uint32_t *table, struct configuration *c, uint8_t *out)
 {
     uint32_t rest[CAPACITY + 1], value = 0, weight = 1;
@@ -390,8 +393,9 @@ static uint8_t event_row(const struct automaton *s, const struct configuration *
     return s->classes[event] && c->held == s->b ? 15 : 0;
 }
 
-/* An event that no row refuses: how many kinds are put out, and whether the state is then guarded. */
-static unsigned step(const struct automaton *s, const uint32_t *table, struct configuration *c, uint8_t event, uint8_t *out, int *winning)
+/* An event that no row refuses: how many kinds are put out, and whether it is then guarded. */
+static unsigned step(const struct automaton *s, const uint32_t *table, struct configuration *c, uint8_t event, uint8_t *out,
+    int *winning)
 {
     unsigned count = 0;
     if (s->classes[event])
@@ -429,8 +433,8 @@ uint8_t ref_receive(const uint8_t *automaton, const uint32_t *table, size_t tabl
     return 0;
 }
 
-uint8_t ref_run(const uint8_t *automaton, const uint32_t *table, size_t table_length, uint8_t *configuration, const uint32_t *events,
-    size_t events_length, uint8_t *out, size_t out_length, uint8_t *answer)
+uint8_t ref_run(const uint8_t *automaton, const uint32_t *table, size_t table_length, uint8_t *configuration,
+    const uint32_t *events, size_t events_length, uint8_t *out, size_t out_length, uint8_t *answer)
 {
     struct automaton s;
     struct configuration c;
@@ -470,7 +474,8 @@ static int may_rest(const struct automaton *s, const uint8_t *held, unsigned cou
 
 static int can_rest(const struct automaton *s, const uint8_t *held, unsigned count, unsigned rounds, unsigned q)
 {
-    return may_rest(s, held, count, rounds, q) || (count && can_rest(s, held + 1, count - 1, s->n, s->next[q * SYMBOLS + held[0]]));
+    return may_rest(s, held, count, rounds, q) ||
+        (count && can_rest(s, held + 1, count - 1, s->n, s->next[q * SYMBOLS + held[0]]));
 }
 
 uint8_t ref_judge(const uint8_t *automaton, const uint8_t *configuration, uint8_t *answer)

@@ -3,8 +3,8 @@
  *
  *   day SHEET EVENT ..     SHEET is a file with a sheet's bytes, each EVENT a number
  *
- * Status 0: all was printed. 1: the sheet is refused, or the output could not be written. 2: a fault
- * in what is given.
+ * Status 0: all was printed. 1: the sheet is refused, or the output could not be written. 2: a
+ * fault in what is given.
  */
 #include <errno.h>
 #include <stdio.h>
@@ -14,7 +14,7 @@
 #include "jaxhophasi.h"
 
 /* One byte more than a sheet can have. */
-#define BYTES_READ (3 * JAXHOPHASI_SHEET_MOST + 1)
+#define BYTES_READ (3 * JAXHOPHASI_MAX_SHEET + 1)
 
 /* Says what is wrong, of a name where there is one, and ends. */
 static void stop(int status, const char *name, const char *fault)
@@ -78,7 +78,7 @@ static void print_day(const uint8_t *automaton, const uint32_t *table, size_t pl
     free(out);
 }
 
-/* Solves the sheet and runs the events. A record that was read is refused by none of these calls. */
+/* Solves the sheet and runs the events. A record that was read is refused by none of the calls. */
 static void run(const uint8_t *automaton, const uint32_t *events, size_t count)
 {
     uint8_t number[JAXHOPHASI_NUMBER_SIZE], configuration[JAXHOPHASI_CONFIGURATION_SIZE], winning[JAXHOPHASI_STATUS_SIZE];

@@ -1,16 +1,19 @@
 /*
  * The release gate for C and for whatever calls C.
  *
- * Link target/staticlib/libembedding.a, which `rt staticlib embedding` writes (Linux on x86-64).
+ * Link target/staticlib/libjaxhophasi.a, which `rt staticlib jaxhophasi` writes (Linux on x86-64).
  *
- * Every function returns the number of refusal, 0 where nothing is refused. A refused call writes nothing but its answer, in which
- * every count, length and yes-or-no is 0; the lent carried state, table and output keep their contents. A refused read leaves an
- * all-zero record and the place of the fault.
+ * Every function returns the number of refusal, 0 where nothing is refused. A refused call writes
+ * nothing but its answer, in which every count, length and yes-or-no is 0; the lent carried state,
+ * table and output keep their contents. A refused read leaves an all-zero record and the place of
+ * the fault.
  *
- * What is lent: a fixed array is a plain pointer to as many bytes as its constant says; a list is a pointer and then the number of
- * its elements. A list may be of any length and all of it may hold anything. No pointer is null, also where a list is empty; lists
- * of uint32_t are aligned as C wants them. What a call may write (a pointer without const) overlaps nothing else that is lent to
- * the same call. Nothing is kept after the call, nothing is allocated, and calls on different memory may run at the same time.
+ * What is lent: a fixed array is a plain pointer to as many bytes as its constant says; a list is
+ * a pointer and then the number of its elements. A list may be of any length and all of it may
+ * hold anything. No pointer is null, also where a list is empty; lists of uint32_t are aligned as
+ * C wants them. What a call may write (a pointer without const) overlaps nothing else that is lent
+ * to the same call. Nothing is kept after the call, nothing is allocated, and calls on different
+ * memory may run at the same time.
  */
 #ifndef JAXHOPHASI_H
 #define JAXHOPHASI_H
@@ -22,8 +25,17 @@
 extern "C" {
 #endif
 
+/* The version of this interface: the first number is raised where a caller must change something
+ * or may see another answer, the second where calls are added, the third at every other change.
+ * The three are also one number, 10000 for 1.0.0 and 10203 for 1.2.3. */
+#define JAXHOPHASI_VERSION_MAJOR 1
+#define JAXHOPHASI_VERSION_MINOR 0
+#define JAXHOPHASI_VERSION_PATCH 0
+#define JAXHOPHASI_VERSION \
+    (JAXHOPHASI_VERSION_MAJOR * 10000 + JAXHOPHASI_VERSION_MINOR * 100 + JAXHOPHASI_VERSION_PATCH)
+
 /* The record of a sheet. The next state of state q under kind e stands at
- * JAXHOPHASI_AUTOMATON_NEXT + q * JAXHOPHASI_SYMBOLS_MOST + e. Unused places are 0. */
+ * JAXHOPHASI_AUTOMATON_NEXT + q * JAXHOPHASI_MAX_SYMBOLS + e. Unused places are 0. */
 #define JAXHOPHASI_AUTOMATON_SIZE 564
 #define JAXHOPHASI_AUTOMATON_STATES 0     /* n, 1 to 32 */
 #define JAXHOPHASI_AUTOMATON_SYMBOLS 1    /* kinds of event m, 1 to 16 */
@@ -32,8 +44,8 @@ extern "C" {
 #define JAXHOPHASI_AUTOMATON_CLASSES 4    /* 16: 0 uncontrollable, 1 controllable */
 #define JAXHOPHASI_AUTOMATON_ACCEPTING 20 /* 32: 1 acceptable, 0 not */
 #define JAXHOPHASI_AUTOMATON_NEXT 52      /* 32 * 16 */
-#define JAXHOPHASI_STATES_MOST 32
-#define JAXHOPHASI_SYMBOLS_MOST 16
+#define JAXHOPHASI_MAX_STATES 32
+#define JAXHOPHASI_MAX_SYMBOLS 16
 
 /* The carried state. Unused places of the hold are 0. */
 #define JAXHOPHASI_CONFIGURATION_SIZE 8
@@ -74,12 +86,19 @@ static inline uint64_t jaxhophasi_number_at(const uint8_t *bytes)
 
 /* Places of the table for T held lists, and of the largest sheet's. */
 #define JAXHOPHASI_TABLE_LENGTH(T) (2 * (T))
-#define JAXHOPHASI_TABLE_MOST 599186
+#define JAXHOPHASI_MAX_TABLE 599186
 
 /* The longest sheet that jaxhophasi_write writes: 4 + 16 + 32 + 32 * 16. */
-#define JAXHOPHASI_SHEET_MOST 564
+#define JAXHOPHASI_MAX_SHEET 564
 
-/* Numbers of refusal. A read goes left to right, every other call checks its own in this order; the first that holds is given. */
+/* The same four limits by their older names. */
+#define JAXHOPHASI_STATES_MOST JAXHOPHASI_MAX_STATES
+#define JAXHOPHASI_SYMBOLS_MOST JAXHOPHASI_MAX_SYMBOLS
+#define JAXHOPHASI_TABLE_MOST JAXHOPHASI_MAX_TABLE
+#define JAXHOPHASI_SHEET_MOST JAXHOPHASI_MAX_SHEET
+
+/* Numbers of refusal. A read goes left to right, every other call checks its own in this order;
+ * the first that holds is given. */
 enum {
     JAXHOPHASI_FINE = 0,
     JAXHOPHASI_ENDS_EARLY = 1,           /* read: the bytes end before the sheet does */
@@ -102,7 +121,8 @@ enum {
     JAXHOPHASI_TOO_LARGE = 17            /* judge: over 4 states, 2 uncontrollable kinds or 3 held */
 };
 
-/* Reads and checks a sheet. Rows 1 to 10, left to right; place is where the faulty number begins, 0 where there is none. */
+/* Reads and checks a sheet. Rows 1 to 10, left to right; place is where the faulty number begins,
+ * 0 where there is none. */
 uint8_t jaxhophasi_read(const uint8_t *bytes, size_t bytes_length, uint8_t automaton[JAXHOPHASI_AUTOMATON_SIZE],
     uint8_t place[JAXHOPHASI_NUMBER_SIZE]);
 
@@ -113,12 +133,14 @@ uint8_t jaxhophasi_write(const uint8_t automaton[JAXHOPHASI_AUTOMATON_SIZE], uin
 /* How many held lists there are: T. Row 11. */
 uint8_t jaxhophasi_buffers_count(const uint8_t automaton[JAXHOPHASI_AUTOMATON_SIZE], uint8_t count[JAXHOPHASI_NUMBER_SIZE]);
 
-/* Solves a sheet into the first 2 T places of table; rounds is how many struck a state. Rows 11, 12. */
+/* Solves a sheet into the first 2 T places of table; rounds is how many struck a state. Rows 11,
+ * 12. */
 uint8_t jaxhophasi_solve(const uint8_t automaton[JAXHOPHASI_AUTOMATON_SIZE], uint32_t *table, size_t table_length,
     uint8_t rounds[JAXHOPHASI_NUMBER_SIZE]);
 
 /* The fresh carried state, into configuration. Row 11; refused, configuration stays as it was. */
-uint8_t jaxhophasi_initial(const uint8_t automaton[JAXHOPHASI_AUTOMATON_SIZE], uint8_t configuration[JAXHOPHASI_CONFIGURATION_SIZE]);
+uint8_t jaxhophasi_initial(const uint8_t automaton[JAXHOPHASI_AUTOMATON_SIZE],
+    uint8_t configuration[JAXHOPHASI_CONFIGURATION_SIZE]);
 
 /* Whether a carried state is guarded. Rows 11, 12, 13. */
 uint8_t jaxhophasi_winning(const uint8_t automaton[JAXHOPHASI_AUTOMATON_SIZE], const uint32_t *table, size_t table_length,
@@ -128,15 +150,16 @@ uint8_t jaxhophasi_winning(const uint8_t automaton[JAXHOPHASI_AUTOMATON_SIZE], c
 uint8_t jaxhophasi_receive(const uint8_t automaton[JAXHOPHASI_AUTOMATON_SIZE], const uint32_t *table, size_t table_length,
     uint8_t configuration[JAXHOPHASI_CONFIGURATION_SIZE], uint32_t event, uint8_t answer[JAXHOPHASI_RECEIVED_SIZE]);
 
-/* A whole day: configuration becomes the next carried state, and out begins with the kinds put out. Rows 11, 12, 13, 16. */
+/* A whole day: configuration becomes the next carried state, and out begins with the kinds put
+ * out. Rows 11, 12, 13, 16. */
 uint8_t jaxhophasi_run(const uint8_t automaton[JAXHOPHASI_AUTOMATON_SIZE], const uint32_t *table, size_t table_length,
-    uint8_t configuration[JAXHOPHASI_CONFIGURATION_SIZE], const uint32_t *events, size_t events_length, uint8_t *out, size_t out_length,
-    uint8_t answer[JAXHOPHASI_RAN_SIZE]);
+    uint8_t configuration[JAXHOPHASI_CONFIGURATION_SIZE], const uint32_t *events, size_t events_length, uint8_t *out,
+    size_t out_length, uint8_t answer[JAXHOPHASI_RAN_SIZE]);
 
-/* The second judge: may the gate rest where it is, can it come to rest? By the rules' words, without a table; for small sheets.
- * Rows 11, 13, 17. */
-uint8_t jaxhophasi_judge(const uint8_t automaton[JAXHOPHASI_AUTOMATON_SIZE], const uint8_t configuration[JAXHOPHASI_CONFIGURATION_SIZE],
-    uint8_t answer[JAXHOPHASI_VERDICT_SIZE]);
+/* The second judge: may the gate rest where it is, can it come to rest? By the rules' words,
+ * without a table; for small sheets. Rows 11, 13, 17. */
+uint8_t jaxhophasi_judge(const uint8_t automaton[JAXHOPHASI_AUTOMATON_SIZE],
+    const uint8_t configuration[JAXHOPHASI_CONFIGURATION_SIZE], uint8_t answer[JAXHOPHASI_VERDICT_SIZE]);
 
 #ifdef __cplusplus
 }

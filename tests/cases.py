@@ -1,10 +1,10 @@
-"""The test program: runs each line of a file through the interface for C, and prints the line and what came out below it. Lines that
-begin with # are printed alone.
+"""The test program: runs each line of a file through the interface for C, and prints the line and what
+came out below it. Lines that begin with # are printed alone.
 
     python3 tests/cases.py LIBRARY FILE
 
-LIBRARY is the shared object made from the archive. One record, one table and one carried state are kept from line to line. A line is a
-word and numbers; spaces and commas part them.
+LIBRARY is the shared object made from the archive. One record, one table and one carried state are
+kept from line to line. A line is a word and numbers; spaces and commas part them.
 
     sheet BYTES             reads a sheet:      = refusal, place, n, m, B, start, the sum of all bytes of the record
     overwrite PLACE VALUE   changes one byte of the record

@@ -79,7 +79,7 @@ static void check_record(const char *what, const uint8_t *sheet, size_t length)
         record[JAXHOPHASI_AUTOMATON_ACCEPTING + q] = flags[q];
     for (unsigned q = 0; q < n; q++)
         for (unsigned e = 0; e < m; e++)
-            record[JAXHOPHASI_AUTOMATON_NEXT + q * JAXHOPHASI_SYMBOLS_MOST + e] = next[q * m + e];
+            record[JAXHOPHASI_AUTOMATON_NEXT + q * JAXHOPHASI_MAX_SYMBOLS + e] = next[q * m + e];
     same(what, read_sheet(sheet, length), 0);
     same_bytes(what, record, automaton, 564);
 }
@@ -105,14 +105,27 @@ static void check_automaton(void)
     check_record("the record of V with start 2", from_two, sizeof from_two);
     check_record("the record of W", w, sizeof w);
     same("AUTOMATON_SIZE", JAXHOPHASI_AUTOMATON_SIZE, WRITTEN(jaxhophasi_read(v, sizeof v, lent, number)));
-    same("STATES_MOST", read_sheet(sheet, plain_sheet(sheet, JAXHOPHASI_STATES_MOST, 1)), 0);
-    same("a state over STATES_MOST", read_sheet(sheet, plain_sheet(sheet, JAXHOPHASI_STATES_MOST + 1, 1)), 3);
-    same("SYMBOLS_MOST", read_sheet(sheet, plain_sheet(sheet, 1, JAXHOPHASI_SYMBOLS_MOST)), 0);
-    same("a kind over SYMBOLS_MOST", read_sheet(sheet, plain_sheet(sheet, 1, JAXHOPHASI_SYMBOLS_MOST + 1)), 4);
+    same("MAX_STATES", read_sheet(sheet, plain_sheet(sheet, JAXHOPHASI_MAX_STATES, 1)), 0);
+    same("a state over MAX_STATES", read_sheet(sheet, plain_sheet(sheet, JAXHOPHASI_MAX_STATES + 1, 1)), 3);
+    same("MAX_SYMBOLS", read_sheet(sheet, plain_sheet(sheet, 1, JAXHOPHASI_MAX_SYMBOLS)), 0);
+    same("a kind over MAX_SYMBOLS", read_sheet(sheet, plain_sheet(sheet, 1, JAXHOPHASI_MAX_SYMBOLS + 1)), 4);
     same("the largest sheet", read_sheet(sheet, plain_sheet(sheet, 32, 16)), 0);
-    same("SHEET_MOST", jaxhophasi_write(automaton, out, JAXHOPHASI_SHEET_MOST, number), 0);
-    same("bytes of the largest sheet", jaxhophasi_number_at(number), JAXHOPHASI_SHEET_MOST);
-    same("a byte under SHEET_MOST", jaxhophasi_write(automaton, out, JAXHOPHASI_SHEET_MOST - 1, number), 16);
+    same("MAX_SHEET", jaxhophasi_write(automaton, out, JAXHOPHASI_MAX_SHEET, number), 0);
+    same("bytes of the largest sheet", jaxhophasi_number_at(number), JAXHOPHASI_MAX_SHEET);
+    same("a byte under MAX_SHEET", jaxhophasi_write(automaton, out, JAXHOPHASI_MAX_SHEET - 1, number), 16);
+}
+
+/* ---- the version, and limits by their older names ---- */
+
+static void check_names(void)
+{
+    same("VERSION_MAJOR", JAXHOPHASI_VERSION / 10000, JAXHOPHASI_VERSION_MAJOR);
+    same("VERSION_MINOR", JAXHOPHASI_VERSION / 100 % 100, JAXHOPHASI_VERSION_MINOR);
+    same("VERSION_PATCH", JAXHOPHASI_VERSION % 100, JAXHOPHASI_VERSION_PATCH);
+    same("STATES_MOST", JAXHOPHASI_STATES_MOST, 32);
+    same("SYMBOLS_MOST", JAXHOPHASI_SYMBOLS_MOST, 16);
+    same("TABLE_MOST", JAXHOPHASI_TABLE_MOST, 599186);
+    same("SHEET_MOST", JAXHOPHASI_SHEET_MOST, 564);
 }
 
 /* ---- numbers and the table ---- */
@@ -141,9 +154,9 @@ static void check_table(void)
     same("V's table, a place less", jaxhophasi_solve(automaton, table, places - 1, number), 12);
     same("eight controllable kinds", read_sheet(eight, sizeof eight), 0);
     jaxhophasi_buffers_count(automaton, number);
-    same("TABLE_MOST", JAXHOPHASI_TABLE_MOST, 2 * jaxhophasi_number_at(number));
-    same("the largest table, a place less", jaxhophasi_solve(automaton, table, JAXHOPHASI_TABLE_MOST - 1, number), 12);
-    same("the largest table", jaxhophasi_solve(automaton, table, JAXHOPHASI_TABLE_MOST, number), 0);
+    same("MAX_TABLE", JAXHOPHASI_MAX_TABLE, 2 * jaxhophasi_number_at(number));
+    same("the largest table, a place less", jaxhophasi_solve(automaton, table, JAXHOPHASI_MAX_TABLE - 1, number), 12);
+    same("the largest table", jaxhophasi_solve(automaton, table, JAXHOPHASI_MAX_TABLE, number), 0);
 }
 
 /* ---- the carried state and the answers, on W ---- */
@@ -287,6 +300,7 @@ int main(void)
         return 1;
     }
     check_automaton();
+    check_names();
     check_numbers();
     check_table();
     check_configuration();

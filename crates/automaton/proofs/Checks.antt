@@ -10,8 +10,9 @@ use lib.Seq.{set-at}
 use lib.Dec.{ltb}
 use borrow.Author.Tests.{lt-ltb, le-ltb, eq-eqb, ne-eqb}
 use Rattle.base.specs.Each.{each}
+use Rattle.base.proofs.Padding.{repeat-end}
 use Rattle.base.proofs.Ranges.{each-falls, each-keeps, count-adds, count-skips}
-use Rattle.automaton.specs.Parts.{controllableAt, controllableIn, goes, belowFrom, rowBelow, rowsBelow}
+use Rattle.automaton.specs.Arrays.{controllableAt, controllableIn, goes, belowFrom, rowBelow, rowsBelow}
 
 module _ (l : List ℕ) (from i limit : ℕ) (fine : Bool) (so-far : fine ≡ belowFrom l from i limit) where
   pub below-falls : limit ≤ getD l (from + i) 0 → false ≡ belowFrom l from (i + 1) limit
@@ -58,10 +59,6 @@ module _ (classes : List ℕ) (e n : ℕ) (so-far : n ≡ controllableIn classes
   passed h = count-skips (controllableAt classes) e n so-far (ne-eqb (getD classes e 0) 1 h)
 
 -- one more limit
-repeat-end : (k n : ℕ) (rest : List ℕ) → replicate k n ++ n ∷ rest ≡ replicate (suc k) n ++ rest
-repeat-end zero n rest = refl
-repeat-end (suc k) n rest = ap (λ l. n ∷ l) (repeat-end k n rest)
-
 pub limits-more : (e n : ℕ) → e < 16
     → set (replicate e n ++ replicate (16 - e) 1) e n ≡ replicate (e + 1) n ++ replicate (16 - (e + 1)) 1
 limits-more e n h =

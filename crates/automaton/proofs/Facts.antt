@@ -10,10 +10,10 @@ use borrow.Author.Tests.{ltb-true, leb-true, eqb-true, ltb-false, lt-ltb, le-ltb
 use Rattle.base.specs.Each.{each}
 use Rattle.base.proofs.Bools.{by, either, and-left, and-right, and-pair, and-both, and-none, and-left-false, and-right-false}
 use Rattle.base.proofs.Ranges.{each-at, each-all}
-use Rattle.automaton.specs.Parts.{goes, stands, placesStand}
+use Rattle.automaton.specs.Arrays.{goes, stands, placesStand}
 pub use Rattle.automaton.specs.Claims.{Valid}
 use Rattle.automaton.specs.Claims.{ValidAsWorded}
-use Rattle.automaton.specs.Automaton.{Automaton, class, controllables, flag, step, shaped, ranged, classesStand, flagsStand, nextStand, mostClass, valid}
+use Rattle.automaton.specs.Automaton.{Automaton, class, controllables, flag, step, shaped, ranged, classesStand, flagsStand, nextStand, maxClass, valid}
 
 -- a place that is used, and one that is not
 module _ (used : Bool) (limit v : ℕ) where
@@ -100,14 +100,14 @@ module _ (a : Automaton) where
   valid-facts h =
       let p1 = and-pair (shaped a) _ h in
       let p2 = and-pair (ranged (a .states) (a .symbols) (a .capacity) (a .initial)) _ (p1 .1) in
-      let p3 = and-pair (classesStand mostClass (a .symbols) (a .classes)) _ (p2 .1) in
+      let p3 = and-pair (classesStand maxClass (a .symbols) (a .classes)) _ (p2 .1) in
       let p4 = and-pair (flagsStand (a .states) (a .accepting)) _ (p3 .1) in
       let l1 = and-pair (eqb (length (a .classes)) 16) _ (p1 .0) in
       let l2 = and-pair (eqb (length (a .accepting)) 32) _ (l1 .1) in
       let r1 = and-pair (within 32 (a .states)) _ (p2 .0) in
       let r2 = and-pair (within 16 (a .symbols)) _ (r1 .1) in
       let r3 = and-pair (within 6 (a .capacity)) _ (r2 .1) in
-      let c1 = and-pair (placesStand (a .classes) (a .symbols) (mostClass + 1)) _ (p3 .0) in
+      let c1 = and-pair (placesStand (a .classes) (a .symbols) (maxClass + 1)) _ (p3 .0) in
       let long-c : length (a .classes) ≡ 16 = eqb-true _ _ (l1 .0) in
       let long-f : length (a .accepting) ≡ 32 = eqb-true _ _ (l2 .0) in
       let long-n : length (a .next) ≡ 512 = eqb-true _ _ (l2 .1) in
@@ -124,8 +124,8 @@ module _ (a : Automaton) where
         capacity-low = within-low 6 (a .capacity) (r3 .0);
         capacity-high = within-high 6 (a .capacity) (r3 .0);
         initial-below = ltb-true (a .initial) (a .states) (r3 .1);
-        class-high = λ e. omega (arith, places-high (a .classes) (a .symbols) (mostClass + 1) (omega arith) (omega arith) (c1 .0) e);
-        class-unused = places-unused (a .classes) (a .symbols) (mostClass + 1) (c1 .0);
+        class-high = λ e. omega (arith, places-high (a .classes) (a .symbols) (maxClass + 1) (omega arith) (omega arith) (c1 .0) e);
+        class-unused = places-unused (a .classes) (a .symbols) (maxClass + 1) (c1 .0);
         controllables-high = leb-true (controllables a) 8 (c1 .1);
         flag-high = λ q. omega (arith, places-high (a .accepting) (a .states) 2 (omega arith) (omega arith) (p4 .0) q);
         flag-unused = places-unused (a .accepting) (a .states) 2 (p4 .0);
@@ -149,7 +149,7 @@ module _ (a : Automaton) where
       (lt-ltb (a .initial) (a .states) (v .initial-below)))))
       (and-both
       (and-both
-      (places-when (a .classes) (a .symbols) (mostClass + 1) (λ e _. omega (arith, v .class-high e)) (v .class-unused))
+      (places-when (a .classes) (a .symbols) (maxClass + 1) (λ e _. omega (arith, v .class-high e)) (v .class-unused))
       (le-leb (controllables a) 8 (v .controllables-high)))
       (and-both
       (places-when (a .accepting) (a .states) 2 (λ q _. omega (arith, v .flag-high q)) (v .flag-unused))

@@ -12,8 +12,8 @@ use borrow.Author.Tests.{lt-ltb, le-ltb, le-leb, lt-leb, eq-eqb, leb-true, ltb-t
 use Rattle.base.specs.Each.{each}
 use Rattle.base.proofs.Bools.{by, and-left, and-right, and-both}
 use Rattle.base.proofs.Ranges.{each-split, each-same, each-rows}
-use Rattle.automaton.specs.Parts.{controllableIn, goes, stands, placesStand, belowFrom, limitsOf, rowBelow, rowsBelow}
-use Rattle.automaton.specs.Automaton.{Automaton, shaped, ranged, classesStand, flagsStand, nextStand, mostClass, tablesStand, valid}
+use Rattle.automaton.specs.Arrays.{controllableIn, goes, stands, placesStand, belowFrom, limitsOf, rowBelow, rowsBelow}
+use Rattle.automaton.specs.Automaton.{Automaton, shaped, ranged, classesStand, flagsStand, nextStand, maxClass, tablesStand, valid}
 
 -- the used places, then the others
 places-are : (l : List ℕ) (used limit : ℕ) → used ≤ length l
@@ -33,8 +33,8 @@ module _ (l : List ℕ) (used limit : ℕ) (h : used ≤ length l) where
   pub places-fall : belowFrom l 0 used limit ≡ false → false ≡ placesStand l used limit
   places-fall b = sym (places-are l used limit h ∙ rw b)
 
-  pub places-rest : belowFrom l 0 used limit ≡ true → belowFrom l used (length l - used) 1 ≡ placesStand l used limit
-  places-rest b = sym (places-are l used limit h ∙ rw b)
+  pub places-unused : belowFrom l 0 used limit ≡ true → belowFrom l used (length l - used) 1 ≡ placesStand l used limit
+  places-unused b = sym (places-are l used limit h ∙ rw b)
 
 -- the limits of a row
 limits-used : (n m e : ℕ) → e < m → m ≤ 16 → getD (limitsOf n m) e 0 ≡ n
@@ -92,16 +92,16 @@ module _ (n m : ℕ) (next : List ℕ) (h : n ≤ 32) (k : m ≤ 16) where
   pub next-falls : rowsBelow next n (limitsOf n m) ≡ false → false ≡ nextStand n m next
   next-falls b = sym (rows-are next n m h k ∙ rw b)
 
-  pub next-rest : rowsBelow next n (limitsOf n m) ≡ true → belowFrom next (n * 16) (512 - n * 16) 1 ≡ nextStand n m next
-  next-rest b = sym (rows-are next n m h k ∙ rw b)
+  pub next-unused : rowsBelow next n (limitsOf n m) ≡ true → belowFrom next (n * 16) (512 - n * 16) 1 ≡ nextStand n m next
+  next-unused b = sym (rows-are next n m h k ∙ rw b)
 
 -- rows 7 to 9, in their order
 module _ (n m : ℕ) (classes flags next : List ℕ) where
-  pub tables-classes : placesStand classes m (mostClass + 1) ≡ false → false ≡ tablesStand n m classes flags next
+  pub tables-classes : placesStand classes m (maxClass + 1) ≡ false → false ≡ tablesStand n m classes flags next
   unfolding classesStand
   tables-classes c = rw c
 
-  module _ (c : placesStand classes m (mostClass + 1) ≡ true) where
+  module _ (c : placesStand classes m (maxClass + 1) ≡ true) where
     pub tables-ninth : 8 < controllableIn classes m → false ≡ tablesStand n m classes flags next
     unfolding classesStand
     tables-ninth k = rw (c, lt-leb (controllableIn classes m) 8 k)
@@ -124,9 +124,9 @@ module _ (a : Automaton) where
   ranged-small h =
       let n = leb 1 (a .states) && leb (a .states) 32 in
       let m = leb 1 (a .symbols) && leb (a .symbols) 16 in
-      let rest = (leb 1 (a .capacity) && leb (a .capacity) 6) && ltb (a .initial) (a .states) in (
-        leb-true (a .states) 32 (and-right (leb 1 (a .states)) (leb (a .states) 32) (and-left n (m && rest) h)),
-        leb-true (a .symbols) 16 (and-right (leb 1 (a .symbols)) (leb (a .symbols) 16) (and-left m rest (and-right n (m && rest) h))),
+      let later = (leb 1 (a .capacity) && leb (a .capacity) 6) && ltb (a .initial) (a .states) in (
+        leb-true (a .states) 32 (and-right (leb 1 (a .states)) (leb (a .states) 32) (and-left n (m && later) h)),
+        leb-true (a .symbols) 16 (and-right (leb 1 (a .symbols)) (leb (a .symbols) 16) (and-left m later (and-right n (m && later) h))),
       )
 
   pub shapes : length (a .classes) ≡ 16 → length (a .accepting) ≡ 32 → length (a .next) ≡ 512 → shaped a ≡ true

@@ -1,4 +1,5 @@
--- The property automaton (document 01, "The sheet") as its record has it, and row 11 ("Numbers of refusal").
+-- The property automaton (document 01, "The sheet") as its record has it, and row 11 ("Numbers of
+-- refusal").
 use Prim.Native.Nat.{ℕ, _+_}
 use mathlib.Core.Bool.{Bool, not, _&&_}
 use mathlib.Core.List.{List, [], _∷_}
@@ -6,7 +7,7 @@ use lib.ListN.{length, getD, replicate}
 use lib.Dec.{eqb, leb, ltb}
 use Rattle.base.specs.Each.{each}
 pub use Rattle.automaton.specs.declared.Automaton.{Automaton}
-use Rattle.automaton.specs.Parts.{controllableAt, controllableIn, acceptingAt, goes, stands, placesStand}
+use Rattle.automaton.specs.Arrays.{controllableAt, controllableIn, acceptingAt, goes, stands, placesStand}
 
 -- the class of a symbol (document 01's kind of event): 0 or 1
 abbrev pub class : Automaton → ℕ → ℕ
@@ -34,10 +35,10 @@ accepts a q = acceptingAt (a .accepting) q
 unfoldable pub step : Automaton → ℕ → ℕ → ℕ
 step a q e = goes (a .next) q e
 
--- where a list of symbols leads from q
-unfoldable pub run : Automaton → ℕ → List ℕ → ℕ
-run a q [] = q
-run a q (e ∷ es) = run a (step a q e) es
+-- the state that a list of symbols leads to from q (source document 000: q after es)
+unfoldable pub reached : Automaton → ℕ → List ℕ → ℕ
+reached a q [] = q
+reached a q (e ∷ es) = reached a (step a q e) es
 
 -- the arrays have the lengths that their types give
 unfoldable pub shaped : Automaton → Bool
@@ -60,12 +61,12 @@ unfoldable pub nextStand : ℕ → ℕ → List ℕ → Bool
 nextStand n m next = each 32 (λ q. each 16 (λ e. stands (ltb q n && ltb e m) n (goes next q e)))
 
 -- the largest class
-abbrev pub mostClass : ℕ
-mostClass = 1
+abbrev pub maxClass : ℕ
+maxClass = 1
 
 -- rows 7 to 9
 abbrev pub tablesStand : ℕ → ℕ → List ℕ → List ℕ → List ℕ → Bool
-tablesStand n m classes flags next = classesStand mostClass m classes && (flagsStand n flags && nextStand n m next)
+tablesStand n m classes flags next = classesStand maxClass m classes && (flagsStand n flags && nextStand n m next)
 
 -- a record that row 11 lets pass: it keeps rows 3 to 9 and every unused place is 0
 unfoldable pub valid : Automaton → Bool

@@ -4,7 +4,7 @@ use mathlib.Core.Path.{_≡_}
 use mathlib.Core.Logic.{_↔_}
 use mathlib.Core.Bool.{true}
 use lib.ListN.{length}
-use Rattle.automaton.specs.Automaton.{Automaton, class, controllable, controllables, flag, accepts, step, mostClass, valid}
+use Rattle.automaton.specs.Automaton.{Automaton, class, controllable, controllables, flag, accepts, step, maxClass, valid}
 
 -- the controllable symbols are those of class 1
 abbrev pub ClassOne : Type 0
@@ -14,8 +14,9 @@ ClassOne = (a : Automaton) (e : ℕ) → (controllable a e ≡ true) ↔ (class 
 abbrev pub FlagOne : Type 0
 FlagOne = (a : Automaton) (q : ℕ) → (accepts a q ≡ true) ↔ (flag a q ≡ 1)
 
--- row 11 in document 01's words: n, m, B and the start in their ranges (rows 3 to 6), classes and flags (row 7), at most eight
--- controllable symbols (row 8), next states (row 9), and unused places 0. (Arrays have the lengths that their types give.)
+-- row 11 in document 01's words: n, m, B and the start in their ranges (rows 3 to 6), classes and
+-- flags (row 7), at most eight controllable symbols (row 8), next states (row 9), and unused
+-- places 0. (Arrays have the lengths that their types give.)
 pub record Valid (a : Automaton) : Type 0 where
   pub classes-length : length (a .classes) ≡ 16
   pub accepting-length : length (a .accepting) ≡ 32
@@ -27,7 +28,7 @@ pub record Valid (a : Automaton) : Type 0 where
   pub capacity-low : 1 ≤ a .capacity
   pub capacity-high : a .capacity ≤ 6
   pub initial-below : a .initial < a .states
-  pub class-high : (e : ℕ) → class a e ≤ mostClass
+  pub class-high : (e : ℕ) → class a e ≤ maxClass
   pub class-unused : (e : ℕ) → a .symbols ≤ e → class a e ≡ 0
   pub controllables-high : controllables a ≤ 8
   pub flag-high : (q : ℕ) → flag a q ≤ 1

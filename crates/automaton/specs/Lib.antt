@@ -1,3 +1,3 @@
 pub mod Automaton
-pub mod Parts
+pub mod Arrays
 pub mod Claims

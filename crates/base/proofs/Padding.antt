@@ -38,7 +38,7 @@ drop-zeros n zero = let e : n ≡ n - 0 = omega arith in ap (λ m. replicate {A 
 drop-zeros zero (suc k) = let e : 0 ≡ 0 - suc k = omega arith in ap (λ m. replicate {A = ℕ} m 0) e
 drop-zeros (suc n) (suc k) = let e : n - k ≡ suc n - suc k = omega arith in drop-zeros n k ∙ ap (λ m. replicate {A = ℕ} m 0) e
 
--- a run of stores at the front of zeros
+-- a list stored at the front of zeros
 pub pad-stored : (n : ℕ) (l : List ℕ) → length l ≤ n → sets (replicate n 0) 0 l ≡ pad n l
 unfolding pad
 pad-stored n l h =
@@ -81,7 +81,7 @@ pad-zero n l h =
     ap (λ x. set (pad n l) (length l) x) (pad-outside n l (length l) (omega arith)) ∙
     pad-set n l 0 h
 
--- a run of stores behind a padded list
+-- a list stored behind a padded list
 pub pad-sets : (n : ℕ) (l v : List ℕ) → length l + length v ≤ n → sets (pad n l) (length l) v ≡ pad n (l ++ v)
 pad-sets n l [] h = ap (pad n) (sym (append-nil l))
 pad-sets n l (x ∷ v) h =
@@ -90,3 +90,8 @@ pad-sets n l (x ∷ v) h =
     ap (λ i. sets (pad n (l ++ x ∷ [])) i v) e ∙
     pad-sets n (l ++ x ∷ []) v (simp length-append (omega arith)) ∙
     ap (pad n) (append-assoc l (x ∷ []) v)
+
+-- equal elements, one more
+pub repeat-end : (k : ℕ) (x : ℕ) (l : List ℕ) → replicate k x ++ x ∷ l ≡ replicate (suc k) x ++ l
+repeat-end zero x l = refl
+repeat-end (suc k) x l = ap (λ m. x ∷ m) (repeat-end k x l)

@@ -8,14 +8,14 @@ use native.Mathlib.Omega.{arith}
 use lib.ListN.{length, getD, set, take, drop, length-drop}
 use lib.Seq.{sets, take-suc, getD-drop, length-take-le}
 
--- a store after a run of stores
+-- a store after a list of stores
 pub sets-more : (out : List ℕ) (from i v : ℕ) (before : List ℕ) → length before ≡ i → set (sets out from before) (from + i) v ≡ sets out from (before ++ v ∷ [])
 sets-more out from i v [] h = let e : from + i ≡ from = omega arith in rw e
 sets-more out from i v (b ∷ before) h =
     let e : from + i ≡ suc from + (i - 1) = omega arith in
     rw e (sets-more (set out from b) (suc from) (i - 1) v before (omega arith))
 
--- two runs of stores, one behind the other
+-- two lists of stores, one behind the other
 pub sets-join : (out : List ℕ) (at : ℕ) (p r : List ℕ) → sets (sets out at p) (at + length p) r ≡ sets out at (p ++ r)
 sets-join out at [] r = rw (add-zero at)
 sets-join out at (x ∷ p) r = let e : at + suc (length p) ≡ suc at + length p = omega arith in rw e (sets-join (set out at x) (suc at) p r)

@@ -4,15 +4,16 @@ ghost use lib.Seq.{sets};
 ghost use Prim.Native.Nat.{_<_, _≤_, _+_, _^_};
 ghost use Rattle.base.specs.Masks.{has};
 
-// A byte as a wider number. A byte of a slice that is read through these needs no proof of its range.
+// A byte as a wider number. A byte of a slice that is read through these needs no proof of its
+// range.
 
-pub fn wide(b: u8) -> u32
+pub fn as_u32(b: u8) -> u32
     ensures { λ r. ⌜ (r ≡ b) × (r < 256) ⌝ }
 {
     b as u32
 }
 
-pub fn size(b: u8) -> usize
+pub fn as_usize(b: u8) -> usize
     ensures { λ r. ⌜ (r ≡ b) × (r < 256) ⌝ }
 {
     b as usize

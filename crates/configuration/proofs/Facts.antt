@@ -17,7 +17,7 @@ use Rattle.automaton.specs.declared.Automaton.{Automaton}
 use Rattle.automaton.specs.Automaton.{controllable}
 use Rattle.automaton.proofs.Facts.{Valid, valid-facts}
 use Rattle.automaton.proofs.Classes.{class-one}
-use Rattle.sets.specs.Table.{Controllable, Buffer}
+use Rattle.solver_sets.specs.Table.{Controllable, Buffer}
 use Rattle.configuration.specs.Claims.{ConsistentAsWorded}
 use Rattle.configuration.specs.Configuration.{Configuration, Position, heldEvents, positionOf, configuration, controllableSymbol, placeStands, bufferStands, consistentIn, consistent}
 

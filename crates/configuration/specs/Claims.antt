@@ -8,7 +8,8 @@ use Rattle.automaton.specs.declared.Automaton.{Automaton}
 use Rattle.automaton.specs.Automaton.{class, valid}
 use Rattle.configuration.specs.Configuration.{Configuration, consistent}
 
--- row 13: a state below n, at most B held, each held event a controllable symbol, and unused places 0
+-- row 13: a state below n, at most B held, each held event a controllable symbol, and unused
+-- places 0
 pub record Stands (a : Automaton) (c : Configuration) : Type 0 where
   pub state-below : c .state < a .states
   pub few : c .held ≤ a .capacity

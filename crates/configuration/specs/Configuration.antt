@@ -1,4 +1,5 @@
--- The configuration (document 01, "One event": the carried state): a state and the buffer of held events; and row 13.
+-- The configuration (document 01, "One event": the carried state): a state and the buffer of held
+-- events; and row 13.
 use Prim.Native.Nat.{ℕ}
 use mathlib.Core.Bool.{Bool, cond, _&&_}
 use mathlib.Core.List.{List, []}
@@ -7,7 +8,7 @@ use lib.Dec.{eqb, leb, ltb}
 use Rattle.base.specs.Each.{each}
 use Rattle.base.specs.Pad.{pad}
 use Rattle.automaton.specs.declared.Automaton.{Automaton}
-use Rattle.automaton.specs.Parts.{controllableAt}
+use Rattle.automaton.specs.Arrays.{controllableAt}
 use Rattle.automaton.specs.Automaton.{valid}
 pub use Rattle.configuration.specs.declared.Configuration.{Configuration}
 pub use Rattle.configuration.specs.declared.Start.{Start}
@@ -44,8 +45,9 @@ placeStands symbols classes used e = cond used (controllableSymbol symbols class
 unfoldable pub bufferStands : ℕ → List ℕ → ℕ → List ℕ → Bool
 bufferStands symbols classes held buffer = each 6 (λ i. placeStands symbols classes (ltb i held) (getD buffer i 0))
 
--- A configuration that row 13 lets pass: a state of the automaton, at most its capacity held, each held event controllable, and
--- unused places 0. (The buffer has the length that its type gives.) Of the automaton these parts are read, and nothing else.
+-- A configuration that row 13 lets pass: a state of the automaton, at most its capacity held, each
+-- held event controllable, and unused places 0. (The buffer has the length that its type gives.)
+-- Of the automaton these parts are read, and nothing else.
 unfoldable pub consistentIn : ℕ → ℕ → ℕ → List ℕ → Configuration → Bool
 consistentIn states symbols capacity classes c =
     eqb (length (c .buffer)) 6 &&

@@ -1,9 +1,11 @@
-// The configuration of a monitor: its state and the events that it holds back. (The crate `consistency` checks row 13.)
+// The configuration of a monitor: its state and the events that it holds back. (The crate
+// `configuration_check` checks row 13.)
 use automaton::Automaton;
 ghost use mathlib.Core.Path.{_≡_};
 ghost use Rattle.configuration.specs.Configuration.{begun, configuration, initialAnswer};
 
-// Document 01's carried state: a state, how many events are held, and those events in order; unused places are 0.
+// Document 01's carried state: a state, how many events are held, and those events in order;
+// unused places are 0.
 pub struct Configuration {
     pub state: u8,
     pub held: u8,
@@ -30,7 +32,7 @@ pub fn empty(state: u8) -> Configuration
 pub fn initial(a: Automaton) -> Start
     ensures { λ r. ⌜ r ≡ initialAnswer a ⌝ }
 {
-    if validity::valid(a) {
+    if automaton_check::valid(a) {
         return Start {
             refusal: 0,
             configuration: empty(a.initial),

@@ -9,22 +9,22 @@ use borrow.Author.Tests.{eqb-true, eqb-false}
 use Rattle.streams.specs.declared.Written.{Written}
 use Rattle.streams.specs.Streams.{Handed}
 use Rattle.text.proofs.Appending.{front-is, front-length}
-use Rattle.transcript.specs.declared.Progress.{Progress}
-use Rattle.transcript.specs.Pieces.{toCome, Continued}
+use Rattle.day_transcript.specs.declared.Progress.{Progress}
+use Rattle.day_transcript.specs.Pieces.{toCome, Continued}
 use Rattle.day.specs.Delivery.{Delivered, complete, stopped}
 
 -- so many bytes were handed over, whole pieces; the rest of the text is to come
-pub record Delivering (text rest : List ℕ) (count : ℕ) : Type 0 where
+pub record Delivering (text later : List ℕ) (count : ℕ) : Type 0 where
   pub fits : length text < 2 ^ 64
   pub before : List ℕ
-  pub whole : before ++ rest ≡ text
+  pub whole : before ++ later ≡ text
   pub counted : count ≡ length before
 
-pub begins : {text rest : List ℕ} → length text < 2 ^ 64 → rest ≡ text → Delivering text rest 0
+pub begins : {text later : List ℕ} → length text < 2 ^ 64 → later ≡ text → Delivering text later 0
 begins f e = record { fits = f; before = []; whole = e; counted = refl }
 
-pub ends : {text rest : List ℕ} {count : ℕ} → Delivering text rest count → rest ≡ [] → (out : List ℕ) → Delivered text out count true
-ends {text} {rest} {count} g e out =
+pub ends : {text later : List ℕ} {count : ℕ} → Delivering text later count → later ≡ [] → (out : List ℕ) → Delivered text out count true
+ends {text} {later} {count} g e out =
     let all : g .before ≡ text = sym (append-nil (g .before)) ∙ ap (λ l. g .before ++ l) (sym e) ∙ g .whole in
     rw (g .counted, all) complete
 

@@ -3,21 +3,22 @@ use streams::Written;
 ghost use mathlib.Core.Path.{_≡_};
 ghost use Prim.Native.Nat.{_≤_};
 ghost use lib.ListN.{length};
-ghost use Rattle.lines.specs.Lines.{lineRoom};
-ghost use Rattle.transcript.specs.Transcript.{transcript};
-ghost use Rattle.transcript.specs.Pieces.{tableAfter};
+ghost use Rattle.text_lines.specs.Lines.{lineRoom};
+ghost use Rattle.day_transcript.specs.Transcript.{transcript};
+ghost use Rattle.day_transcript.specs.Pieces.{tableAfter};
 ghost use Rattle.day.specs.Delivery.{Delivered};
 
-// Writes the transcript of an input piece by piece to standard output, until a piece cannot be written whole.
+// Writes the transcript of an input piece by piece to standard output, until a piece cannot be
+// written whole.
 fn write(input: &[u8], table: &mut [u32; 16384], out: &mut [u8]) -> Written
     requires { ⌜ lineRoom ≤ length (now out) ⌝ }
     ensures { λ r. ⌜ Delivered (transcript (now (input .entry))) (now (out .exit)) (r .count) (r .done) ⌝ }
     ensures { λ _. ⌜ now (table .exit) ≡ tableAfter (now (input .entry)) (now (table .entry)) ⌝ }
 {
     let mut count: usize = 0;
-    let mut progress = opening::begin(input, table);
+    let mut progress = day_opening::begin(input, table);
     loop {
-        let piece = pieces::next_piece(progress, input, table, out);
+        let piece = day_pieces::next_piece(progress, input, table, out);
         let length = piece.length;
         if length == 0 {
             break Written { count, done: true };
@@ -29,8 +30,8 @@ fn write(input: &[u8], table: &mut [u32; 16384], out: &mut [u8]) -> Written
         if !whole {
             break Written { count, done: false };
         }
-        let rest = piece.progress;
-        progress = rest;
+        let later = piece.progress;
+        progress = later;
     }
 }
 

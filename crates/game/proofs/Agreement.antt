@@ -11,12 +11,12 @@ use Rattle.base.proofs.Ranges.{each-all, each-false, count-max}
 use Rattle.automaton.specs.declared.Automaton.{Automaton}
 use Rattle.automaton.specs.Automaton.{controllable, uncontrollable, accepts, step, valid}
 use Rattle.automaton.proofs.Facts.{valid-facts}
-use Rattle.sets.specs.Sets.{sets}
-use Rattle.sets.specs.Definition6.{Uncontrollable}
-use Rattle.sets.specs.Claims.{Winning}
-use Rattle.sets.proofs.Total.{Total, total}
-use Rattle.sets.proofs.Largest.{sets-are}
-use Rattle.sets.proofs.Growth.{none-intermediate, intermediate-first, first-intermediate}
+use Rattle.solver_sets.specs.Sets.{setsFor}
+use Rattle.solver_sets.specs.Definition6.{Uncontrollable}
+use Rattle.solver_sets.specs.Claims.{Winning}
+use Rattle.solver_sets.proofs.Total.{Total, total}
+use Rattle.solver_sets.proofs.Largest.{sets-are}
+use Rattle.solver_sets.proofs.Growth.{none-intermediate, intermediate-first, first-intermediate}
 use Rattle.configuration.specs.declared.Configuration.{Configuration}
 use Rattle.configuration.specs.Configuration.{heldEvents, consistent}
 use Rattle.configuration.proofs.Facts.{consistent-facts}
@@ -25,7 +25,7 @@ use Rattle.game.specs.Claims.{Agrees, VerdictAgrees}
 
 -- resting, where what releasing comes to is the intermediate set
 module _ (a : Automaton) (t : Total a) (w : List ℕ) (released : ℕ → Bool)
-    (is : (q : ℕ) → q < a .states → released q ≡ has (sets a w .intermediate) q) where
+    (is : (q : ℕ) → q < a .states → released q ≡ has (setsFor a w .intermediate) q) where
   abbrev turn : ℕ → ℕ → ℕ → Bool
   turn r q e = controllable a e || (restsBy a released r (step a q e) || released (step a q e))
 
@@ -51,7 +51,7 @@ module _ (a : Automaton) (t : Total a) (w : List ℕ) (released : ℕ → Bool)
   restless-first q h zero l = h
   restless-first q h (suc k) l = rw h
 
-  restless-back : (r q e : ℕ) → Uncontrollable a e → has (sets a w .intermediate) (step a q e) ≡ false → Restless r (step a q e) → Restless (r + 1) q
+  restless-back : (r q e : ℕ) → Uncontrollable a e → has (setsFor a w .intermediate) (step a q e) ≡ false → Restless r (step a q e) → Restless (r + 1) q
   unfolding restsBy uncontrollable
   restless-back r q e u i h zero l = absurd (omega arith)
   restless-back r q e u i h (suc k) l =
@@ -59,9 +59,9 @@ module _ (a : Automaton) (t : Total a) (w : List ℕ) (released : ℕ → Bool)
       and-right-false (accepts a q)
       (each-false (a .symbols) (turn k q) e (u .0) (rw (c, h k (omega arith), is (step a q e) (t q e) ∙ i)))
 
-  rests-are : (q : ℕ) → q < a .states → restsBy a released (a .states) q ≡ has (sets a w .winning) q
+  rests-are : (q : ℕ) → q < a .states → restsBy a released (a .states) q ≡ has (setsFor a w .winning) q
   rests-are q l =
-      by (has (sets a w .winning) q)
+      by (has (setsFor a w .winning) q)
       (λ h. winning-rests (a .states) q h ∙ sym h)
       (λ h.
       let s = sets-are a w in
@@ -73,15 +73,15 @@ module _ (a : Automaton) (t : Total a) (w : List ℕ) (released : ℕ → Bool)
 
 -- releasing comes to rest exactly from the intermediate set
 module _ (a : Automaton) (t : Total a) where
-  releases-are : (w : List ℕ) (q : ℕ) → q < a .states → releases a w q ≡ has (sets a w .intermediate) q
+  releases-are : (w : List ℕ) (q : ℕ) → q < a .states → releases a w q ≡ has (setsFor a w .intermediate) q
   unfolding releases
-  releases-are [] q l = by (has (sets a [] .intermediate) q) (λ h. absurd (none-intermediate a q h)) sym
+  releases-are [] q l = by (has (setsFor a [] .intermediate) q) (λ h. absurd (none-intermediate a q h)) sym
   releases-are (e ∷ w) q l =
       let p : ℕ = step a q e in
-      let s : ℕ = sets a w .winning in
-      let i : ℕ = sets a w .intermediate in
+      let s : ℕ = setsFor a w .winning in
+      let i : ℕ = setsFor a w .intermediate in
       ap₂ _||_ (rests-are a t w (releases a w) (releases-are w) p (t q e)) (releases-are w p (t q e)) ∙
-      same-test (has s p || has i p) (has (sets a (e ∷ w) .intermediate) q)
+      same-test (has s p || has i p) (has (setsFor a (e ∷ w) .intermediate) q)
       (λ h. first-intermediate a e w q l (or-some (has s p) (has i p) h))
       (λ h. either (intermediate-first a e w q h .1) (or-left (has i p)) (or-right (has s p)))
 

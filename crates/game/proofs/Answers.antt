@@ -11,7 +11,7 @@ use Rattle.configuration.specs.declared.Configuration.{Configuration}
 use Rattle.configuration.specs.Configuration.{consistent, heldEvents}
 use Rattle.configuration.proofs.Facts.{consistent-facts}
 use Rattle.game.specs.Game.{Verdict, mayRest, canRest, tooLarge, gameRefusal, refused, verdict}
-use Rattle.game.specs.Parts.{heldFrom, Playable}
+use Rattle.game.specs.Arena.{heldFrom, PlayRequires}
 use Rattle.game.proofs.Arena.{arenaOf, may-same, can-same, playable, held-all}
 
 abbrev answer : Bool → Bool → Verdict
@@ -42,7 +42,7 @@ module _ (a : Automaton) (c : Configuration) where
           → answer may can ≡ verdict a c
       played l may can m n = rw (m, n, may-same, can-same, held-all) (answered l)
 
-      pub can-play : Playable (arenaOf a) (c .buffer) (c .held) × (0 ≤ c .held) × (c .state < a .states)
+      pub can-play : PlayRequires (arenaOf a) (c .buffer) (c .held) × (0 ≤ c .held) × (c .state < a .states)
       can-play =
           let x = valid-facts a v in
           let y = consistent-facts a c x k in

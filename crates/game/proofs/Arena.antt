@@ -1,4 +1,5 @@
--- The game over the parts that its functions are lent, for an automaton's and a configuration's own.
+-- The game over the parts that its functions are lent, for an automaton's and a configuration's
+-- own.
 use Prim.Native.Nat.{ℕ, zero, suc, _-_}
 use mathlib.Core.Path.{_≡_, refl, ap, ap₂}
 use mathlib.Core.Bool.{Bool, _&&_, _||_}
@@ -13,7 +14,7 @@ use Rattle.configuration.specs.declared.Configuration.{Configuration}
 use Rattle.configuration.specs.Configuration.{heldEvents}
 use Rattle.configuration.proofs.Facts.{Consistent, held-event}
 use Rattle.game.specs.Game.{restsBy, releases, mayRest, canRest}
-use Rattle.game.specs.Parts.{arena, heldFrom, Playable}
+use Rattle.game.specs.Arena.{arena, heldFrom, PlayRequires}
 
 abbrev pub arenaOf : Automaton → Automaton
 arenaOf a = arena (a .states) (a .symbols) (a .classes) (a .accepting) (a .next)
@@ -42,7 +43,7 @@ module _ (a : Automaton) where
   can-same w r q = ap₂ _||_ (may-same w r q) (releases-same w q)
 
 module _ (a : Automaton) (c : Configuration) where
-  pub playable : Valid a → Consistent a c → Playable (arenaOf a) (c .buffer) (c .held)
+  pub playable : Valid a → Consistent a c → PlayRequires (arenaOf a) (c .buffer) (c .held)
   unfolding step
   playable v k = record {
     states-high = v .states-high;

@@ -8,7 +8,7 @@ use lib.Dec.{ltb}
 use borrow.Author.Tests.{lt-ltb, le-ltb}
 use Rattle.base.specs.Each.{count}
 use Rattle.base.proofs.Ranges.{count-not}
-use Rattle.automaton.specs.Parts.{controllableAt, controllableIn}
+use Rattle.automaton.specs.Arrays.{controllableAt, controllableIn}
 use Rattle.game.specs.Game.{tooLargeIn}
 
 module _ (states symbols : ℕ) (classes : List ℕ) (held : ℕ) where

@@ -12,7 +12,7 @@ use Rattle.base.proofs.Bools.{or-left, or-right}
 use Rattle.automaton.specs.declared.Automaton.{Automaton}
 use Rattle.automaton.specs.Automaton.{controllable, accepts, step}
 use Rattle.game.specs.Game.{releases, mayRest, canRest}
-use Rattle.game.specs.Parts.{heldFrom}
+use Rattle.game.specs.Arena.{heldFrom}
 use Rattle.game.proofs.Worded.{as-worded}
 
 module _ (a : Automaton) where

@@ -1,4 +1,5 @@
--- The game (document 01, "Where it may rest": the second judge): two questions that put each other.
+-- The game (document 01, "Where it may rest": the second judge): two questions that put each
+-- other.
 use Prim.Native.Nat.{ℕ, zero, suc}
 use mathlib.Core.Bool.{Bool, false, cond, not, _&&_, _||_}
 use mathlib.Core.List.{List, [], _∷_}
@@ -6,14 +7,15 @@ use lib.Dec.{eqb, ltb}
 use Rattle.base.specs.Each.{each, count}
 use Rattle.base.specs.Rows.{first}
 use Rattle.automaton.specs.declared.Automaton.{Automaton}
-use Rattle.automaton.specs.Parts.{controllableAt}
+use Rattle.automaton.specs.Arrays.{controllableAt}
 use Rattle.automaton.specs.Automaton.{controllable, accepts, step, valid}
 use Rattle.configuration.specs.declared.Configuration.{Configuration}
 use Rattle.configuration.specs.Configuration.{consistent, heldEvents}
 pub use Rattle.game.specs.declared.Verdict.{Verdict}
 
--- Resting at q with some rounds left, where `released` says of a state whether releasing the first held event there comes to rest:
--- an accepting state and, with rounds left, after each uncontrollable symbol coming to rest with one round fewer.
+-- Resting at q with some rounds left, where `released` says of a state whether releasing the first
+-- held event there comes to rest: an accepting state and, with rounds left, after each
+-- uncontrollable symbol coming to rest with one round fewer.
 unfoldable pub restsBy : Automaton → (ℕ → Bool) → ℕ → ℕ → Bool
 restsBy a released zero q = accepts a q
 restsBy a released (suc r) q =

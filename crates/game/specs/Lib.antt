@@ -1,3 +1,3 @@
 pub mod Game
-pub mod Parts
+pub mod Arena
 pub mod Claims

@@ -1,5 +1,5 @@
-// The game (document 01's second judge): may we rest here, and can we come to rest? The two questions are put here; the crate `judge`
-// answers both for small automata.
+// The game (document 01's second judge): may we rest here, and can we come to rest? The two
+// questions are put here; the crate `game_judge` answers both for small automata.
 mod play;
 
 pub use play::can_rest;

@@ -15,20 +15,20 @@ use Rattle.automaton.proofs.Facts.{Valid, valid-facts}
 use Rattle.configuration.specs.declared.Configuration.{Configuration}
 use Rattle.configuration.specs.Configuration.{Position, heldEvents, positionOf, configuration, consistent}
 use Rattle.configuration.proofs.Facts.{Consistent, consistent-facts, held-buffer, position-made}
-use Rattle.releasing.specs.Step.{byTable, Effect, effectFrom, advance}
-use Rattle.symbols.specs.declared.Ranking.{Ranking}
-use Rattle.releasing.specs.Parts.{restIn, Lent}
-use Rattle.symbols.specs.Symbols.{rankingOf}
-use Rattle.releasing.proofs.Tabled.{rest-tabled, lent}
-use Rattle.stepping.proofs.Tabled.{symbols-low}
-use Rattle.answers.specs.declared.Turned.{Turned}
-use Rattle.answers.specs.Answers.{tableRefusal, callRefusal, isWinning, status, receiveRefusal, refusedEvent, received}
-use Rattle.answers.specs.Turns.{turnRefusal, turned, turnedBuffer}
-use Rattle.answers.proofs.Refusals.{status-inconsistent, status-clear}
-use Rattle.answers.proofs.Turns.{Opened, call-stands, receive-unopened, receive-turns, turn-stands, turn-emits, turn-accepted, turn-keeps, turn-room}
-use Rattle.processing.specs.declared.Limits.{Limits}
-use Rattle.processing.specs.Lending.{Opens}
-use Rattle.processing.proofs.Taking.{lends}
+use Rattle.monitor_rule.specs.Step.{byTable, Effect, effectFrom, advance}
+use Rattle.automaton_symbols.specs.declared.Ranking.{Ranking}
+use Rattle.monitor_rule.specs.Fronts.{restIn, ReleaseRequires}
+use Rattle.automaton_symbols.specs.Symbols.{rankingOf}
+use Rattle.monitor_rule.proofs.Tabled.{rest-tabled, lent}
+use Rattle.monitor_step.proofs.Tabled.{symbols-low}
+use Rattle.monitor_answers.specs.declared.Turned.{Turned}
+use Rattle.monitor_answers.specs.Answers.{tableRefusal, callRefusal, isWinning, status, receiveRefusal, refusedEvent, received}
+use Rattle.monitor_answers.specs.Turns.{turnRefusal, turned, turnedBuffer}
+use Rattle.monitor_answers.proofs.Refusals.{status-inconsistent, status-clear}
+use Rattle.monitor_answers.proofs.Turns.{Opened, call-stands, receive-unopened, receive-turns, turn-stands, turn-emits, turn-accepted, turn-keeps, turn-room}
+use Rattle.monitor_loop.specs.declared.Limits.{Limits}
+use Rattle.monitor_loop.specs.Lending.{TurnRequires}
+use Rattle.monitor_loop.proofs.Taking.{lends}
 
 -- what the test of rest asks at a consistent configuration, and what it then answers
 module _ (a : Automaton) (t : List ℕ) (o : Opened a t) (r : Ranking) (own : r ≡ rankingOf (a .classes) (a .symbols)) (c : Configuration)
@@ -39,7 +39,7 @@ module _ (a : Automaton) (t : List ℕ) (o : Opened a t) (r : Ranking) (own : r 
   place : Consistent a c
   place = consistent-facts a c v k
 
-  pub lent-at : Lent (a .next) (r .ranks) (r .count) t (c .state) (c .buffer) (c .held)
+  pub lent-at : ReleaseRequires (a .next) (r .ranks) (r .count) t (c .state) (c .buffer) (c .held)
   unfolding heldEvents
   lent-at =
       rw own
@@ -81,7 +81,7 @@ module _ (a : Automaton) (t : List ℕ) (c : Configuration) (e : ℕ) where
     limits = record { controllables = r .count; states = a .states; symbols = a .symbols; capacity = a .capacity }
 
     -- a turn into seven bytes
-    pub turn-asks : (size : ℕ) → 7 ≤ size → Opens limits (a .classes) (a .next) (r .ranks) t c 0 size
+    pub turn-asks : (size : ℕ) → 7 ≤ size → TurnRequires limits (a .classes) (a .next) (r .ranks) t c 0 size
     turn-asks size h =
         record {
           automaton = a;

@@ -1,18 +1,18 @@
-// The enforcement monitor's calls over a lent table: whether a configuration is winning, and one event. (The call of a whole day is
-// crate `batch`.)
-use answers::Received;
-use answers::Status;
+// The enforcement monitor's calls over a lent table: whether a configuration is winning, and one
+// event. (The call of a whole day is crate `monitor_day`.)
 use automaton::Automaton;
-use base::size;
+use base::as_usize;
 use configuration::Configuration;
-use consistency::consistent;
-use entering::enter;
-use processing::Limits;
-use processing::turn;
-use searching::rests;
+use configuration_check::consistent;
+use monitor_answers::Received;
+use monitor_answers::Status;
+use monitor_entry::enter;
+use monitor_loop::Limits;
+use monitor_loop::turn;
+use monitor_release::rests;
 ghost use mathlib.Core.Path.{_≡_};
 ghost use mathlib.Core.Bool.{false};
-ghost use Rattle.answers.specs.Answers.{status, received, refusedEvent};
+ghost use Rattle.monitor_answers.specs.Answers.{status, received, refusedEvent};
 
 fn refused_status(refusal: u8) -> Status
     ensures { λ r. ⌜ r ≡ record { refusal = refusal; winning = false } ⌝ }
@@ -49,9 +49,9 @@ pub fn winning(a: Automaton, table: &[u32], c: Configuration) -> Status
             &ranking.ranks,
             ranking.count,
             table,
-            size(c.state),
+            as_usize(c.state),
             buffer,
-            size(c.held),
+            as_usize(c.held),
         ),
     }
 }
@@ -118,9 +118,9 @@ pub fn receive(a: Automaton, table: &[u32], c: Configuration, event: u32) -> Rec
             &ranking.ranks,
             ranking.count,
             table,
-            size(after.state),
+            as_usize(after.state),
             buffer,
-            size(after.held),
+            as_usize(after.held),
         ),
     }
 }

@@ -16,7 +16,7 @@ use Rattle.notation.specs.Tokens.{Token}
 use Rattle.notation.specs.Words.{Fault}
 use Rattle.notation.specs.Outcomes.{numbers, faulty, before}
 use Rattle.notation.specs.Packing.{Packed, Reading, sound, readingFrom, reading, encoded, done, noRoom, refused, packed, packedBuffer}
-use Rattle.notation.specs.Parts.{Item, itemAt, checked, Fits}
+use Rattle.notation.specs.Items.{Item, itemAt, checked, StoreGroupsRequires}
 use Rattle.notation.proofs.Outcomes.{Stands, stands-first, stands-next, left, split, none-left, one-left, no-fault, fault-before, same-fault, placed-fits, placed-short}
 use Rattle.notation.proofs.Finding.{Lies}
 use Rattle.notation.proofs.Readings.{item-lies, item-fewer, item-ended, item-faulty, item-number}
@@ -50,8 +50,8 @@ module _ {s : List ℕ} {lines at : ℕ} (g : Walks s lines at) (i : Item) (e : 
     further : at < i .token .to
     further = omega (arith, lies .after)
 
-    rest-left : (k : ℕ) × (g .stands .steps ≡ suc k)
-    rest-left = left (g .stands) further (lies .inside)
+    steps-more : (k : ℕ) × (g .stands .steps ≡ suc k)
+    steps-more = left (g .stands) further (lies .inside)
 
     unfoldable walks-next : Walks s (i .token .lines) (i .token .to)
     walks-next = record { stands = stands-next (g .stands) further (lies .inside); counted = omega (arith, lies .counted, lies .order) }
@@ -81,15 +81,15 @@ module _ {s : List ℕ} {lines at n : ℕ} (g : Checking s lines at n) (i : Item
           omega (arith, g .fewer, c, lies (g .walks) i e .after, item-fewer s lines at i e (g .walks .counted) (g .walks .stands .inside) more)
 
       pub checking-goes-on : sound (i .word .fault) ≡ true → Checking s (i .token .lines) (i .token .to) (n + m)
-      unfolding walks-next rest-left stands-next
+      unfolding walks-next steps-more stands-next
       checking-goes-on f =
-          let k = rest-left (g .walks) i e more in
-          let rest = readingFrom (suc (k .0)) s (i .token .lines) (i .token .to) in
+          let k = steps-more (g .walks) i e more in
+          let later = readingFrom (suc (k .0)) s (i .token .lines) (i .token .to) in
           record {
             walks = walks-next (g .walks) i e more;
             fewer = checking-most;
             so-far =
-                rw c (checked-before n (i .word .value) rest) ∙
+                rw c (checked-before n (i .word .value) later) ∙
                 ap (checked n) (sym (item-number s lines at i e (suc (k .0)) more f)) ∙
                 rw (k .1) at (g .so-far);
           }
@@ -108,19 +108,19 @@ encoded-more p v = encoded-append p (v ∷ []) ∙ ap (λ l. encoded p ++ l) (ap
 pub record Storing (s out₀ out : List ℕ) (lines at place : ℕ) : Type 0 where
   pub walks : Walks s lines at
   pub written : List ℕ
-  pub rest : List ℕ
-  pub coming : readingFrom (suc (walks .stands .steps)) s lines at ≡ numbers rest
-  pub whole : reading s ≡ numbers (written ++ rest)
-  pub room : length (encoded (written ++ rest)) ≤ length out₀
+  pub later : List ℕ
+  pub coming : readingFrom (suc (walks .stands .steps)) s lines at ≡ numbers later
+  pub whole : reading s ≡ numbers (written ++ later)
+  pub room : length (encoded (written ++ later)) ≤ length out₀
   pub stored : Appended out₀ 0 (encoded written) out place
 
-pub storing-begins : {s out : List ℕ} → Fits s out → Storing s out out 0 0 0
+pub storing-begins : {s out : List ℕ} → StoreGroupsRequires s out → Storing s out out 0 0 0
 unfolding reading encoded walks-first stands-first
 storing-begins {s} {out} f =
     record {
       walks = walks-first s;
       written = [];
-      rest = f .values;
+      later = f .values;
       coming = f .read;
       whole = f .read;
       room = f .room;
@@ -136,20 +136,20 @@ module _ {s out₀ out : List ℕ} {lines at place : ℕ} (g : Storing s out₀ 
     unfolding packedBuffer
     storing-ended h =
         let vs = g .written in
-        let none : g .rest ≡ [] = none-left (g .rest) (sym (item-ended s lines at i e (g .walks .stands .steps) h) ∙ g .coming) in
+        let none : g .later ≡ [] = none-left (g .later) (sym (item-ended s lines at i e (g .walks .stands .steps) h) ∙ g .coming) in
         let all : reading s ≡ numbers vs = g .whole ∙ rw (none, append-nil vs) in
         let fits : length (encoded vs) ≤ length out₀ = rw (none, append-nil vs) at (g .room) in
         g .stored .content ∙ rw all (placed-fits (encoded vs) out₀ fits)
 
     module _ (more : i .token .from < i .token .to) where
       -- there is a number, and what comes after it
-      next : (m : List ℕ) × (g .rest ≡ i .word .value ∷ m) ×
+      next : (m : List ℕ) × (g .later ≡ i .word .value ∷ m) ×
           (readingFrom (g .walks .stands .steps) s (i .token .lines) (i .token .to) ≡ numbers m)
       next =
           by (sound (i .word .fault))
-          (λ f. one-left (i .word .value) (readingFrom (g .walks .stands .steps) s (i .token .lines) (i .token .to)) (g .rest)
+          (λ f. one-left (i .word .value) (readingFrom (g .walks .stands .steps) s (i .token .lines) (i .token .to)) (g .later)
           (sym (item-number s lines at i e (g .walks .stands .steps) more f) ∙ g .coming))
-          (λ f. absurd (no-fault (i .word .fault, i .token) (g .rest)
+          (λ f. absurd (no-fault (i .word .fault, i .token) (g .later)
           (sym (item-faulty s lines at i e (g .walks .stands .steps) more f) ∙ g .coming)))
 
       abbrev v : ℕ
@@ -171,15 +171,15 @@ module _ {s out₀ out : List ℕ} {lines at place : ℕ} (g : Storing s out₀ 
 
       pub storing-goes-on : {out′ : List ℕ} {n : ℕ} → Appended out place (bytes v) out′ n
           → Storing s out₀ out′ (i .token .lines) (i .token .to) n
-      unfolding walks-next rest-left stands-next
+      unfolding walks-next steps-more stands-next
       storing-goes-on x =
-          let k = rest-left (g .walks) i e more in
-          let joined : g .written ++ g .rest ≡ (g .written ++ v ∷ []) ++ next .0 =
+          let k = steps-more (g .walks) i e more in
+          let joined : g .written ++ g .later ≡ (g .written ++ v ∷ []) ++ next .0 =
           ap (λ l. g .written ++ l) (next .1) ∙ sym (append-assoc (g .written) (v ∷ []) (next .0)) in
           record {
             walks = walks-next (g .walks) i e more;
             written = g .written ++ v ∷ [];
-            rest = next .0;
+            later = next .0;
             coming = ap (λ n. readingFrom n s (i .token .lines) (i .token .to)) (sym (k .1)) ∙ next .2;
             whole = g .whole ∙ ap numbers joined;
             room = rw joined at (g .room);
@@ -252,7 +252,7 @@ module _ (s out : List ℕ) (a : Packed) (e : a ≡ checked 0 (reading s)) where
         rw (accepted .1) (rw (lt-leb (length (encoded vs)) (length out) short), placed-short (encoded vs) out short)
 
     module _ (l : a .length ≤ length out) where
-      pub pack-fits : Fits s out
+      pub pack-fits : StoreGroupsRequires s out
       pack-fits = record { values = accepted .0; read = accepted .1; room = omega (arith, counted, l) }
 
       pub pack-done : a ≡ packed (reading s) out

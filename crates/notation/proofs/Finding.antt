@@ -10,7 +10,7 @@ use lib.Seq.{drop-cons}
 use lib.Dec.{eqb}
 use borrow.Author.Tests.{ne-eqb}
 use Rattle.base.proofs.Bools.{by}
-use Rattle.notation.specs.Tokens.{Place, Token, separator, ends, comment, newlines, beginning, run, tokenAt}
+use Rattle.notation.specs.Tokens.{Place, Token, separator, ends, comment, newlines, beginning, tokenLength, tokenAt}
 
 -- a byte ends a line or none
 pub newlines-most : (b : ℕ) → newlines b ≤ 1
@@ -51,23 +51,23 @@ module _ {s : List ℕ} {lines from ended at : ℕ} {c : Bool} (g : Beginning s 
       }
 
 -- the loop that looks for a token's end
-pub record Running (s : List ℕ) (from at : ℕ) : Type 0 where
+pub record Scanning (s : List ℕ) (from at : ℕ) : Type 0 where
   pub inside : at ≤ length s
-  pub so-far : at + run (drop at s) ≡ from + run (drop from s)
+  pub so-far : at + tokenLength (drop at s) ≡ from + tokenLength (drop from s)
 
-module _ {s : List ℕ} {from at : ℕ} (g : Running s from at) where
-  pub running-ended : length s ≤ at → at ≡ from + run (drop from s)
-  unfolding run
-  running-ended h = let e : at + 0 ≡ from + run (drop from s) = rw (drop-of-length-le s h) at (g .so-far) in omega arith
+module _ {s : List ℕ} {from at : ℕ} (g : Scanning s from at) where
+  pub scanning-ended : length s ≤ at → at ≡ from + tokenLength (drop from s)
+  unfolding tokenLength
+  scanning-ended h = let e : at + 0 ≡ from + tokenLength (drop from s) = rw (drop-of-length-le s h) at (g .so-far) in omega arith
 
-  pub running-found : at < length s → ends (getD s at 0) ≡ true → at ≡ from + run (drop from s)
-  unfolding run
-  running-found h e = let i : at + 0 ≡ from + run (drop from s) = rw (next-byte s at h, e) at (g .so-far) in omega arith
+  pub scanning-found : at < length s → ends (getD s at 0) ≡ true → at ≡ from + tokenLength (drop from s)
+  unfolding tokenLength
+  scanning-found h e = let i : at + 0 ≡ from + tokenLength (drop from s) = rw (next-byte s at h, e) at (g .so-far) in omega arith
 
-  pub running-goes-on : at < length s → ends (getD s at 0) ≡ false → Running s from (at + 1)
-  unfolding run
-  running-goes-on h e =
-      let i : at + (run (drop (at + 1) s) + 1) ≡ from + run (drop from s) = rw (next-byte s at h, e) at (g .so-far) in
+  pub scanning-goes-on : at < length s → ends (getD s at 0) ≡ false → Scanning s from (at + 1)
+  unfolding tokenLength
+  scanning-goes-on h e =
+      let i : at + (tokenLength (drop (at + 1) s) + 1) ≡ from + tokenLength (drop from s) = rw (next-byte s at h, e) at (g .so-far) in
       record { inside = omega arith; so-far = omega arith }
 
 -- where the next token begins
@@ -92,10 +92,10 @@ begun (b ∷ s) c lines at =
 pub begun-inside : (s : List ℕ) (lines at : ℕ) → at ≤ length s → beginning (drop at s) false lines at .at ≤ length s
 begun-inside s lines at h = omega (arith, begun (drop at s) false lines at .inside, length-drop at s)
 
-run-most : (s : List ℕ) → run s ≤ length s
-unfolding run
-run-most [] = omega arith
-run-most (b ∷ s) = by (ends b) (λ e. rw e (omega arith)) (λ e. rw e (omega (arith, run-most s)))
+token-most : (s : List ℕ) → tokenLength s ≤ length s
+unfolding tokenLength
+token-most [] = omega arith
+token-most (b ∷ s) = by (ends b) (λ e. rw e (omega arith)) (λ e. rw e (omega (arith, token-most s)))
 
 -- a token lies in the text, after the place from which it was looked for
 pub record Lies (s : List ℕ) (at : ℕ) (t : Token) : Type 0 where
@@ -113,7 +113,7 @@ token-lies s lines at h l =
     record {
       after = g .after;
       order = omega arith;
-      inside = omega (arith, run-most (drop (p .at) s), length-drop (p .at) s);
+      inside = omega (arith, token-most (drop (p .at) s), length-drop (p .at) s);
       counted = g .counted h;
     }
 

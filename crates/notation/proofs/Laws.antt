@@ -10,11 +10,11 @@ use borrow.Author.Tests.{ltb-true, ltb-false, le-leb}
 use Rattle.base.proofs.Bools.{by}
 use Rattle.varint.specs.Varint.{bytes}
 use Rattle.text.specs.Decimal.{ascii}
-use Rattle.notation.specs.Tokens.{separator, ends, comment, newlines, beginning, run, tokenAt, bytesOf}
+use Rattle.notation.specs.Tokens.{separator, ends, comment, newlines, beginning, tokenLength, tokenAt, bytesOf}
 use Rattle.notation.specs.Words.{isDigit, allDigits, valueFrom, wordFrom, wordOf}
 use Rattle.notation.specs.Outcomes.{numbers, before}
 use Rattle.notation.specs.Packing.{sound, readingFrom, reading, encoded, refused, packed}
-use Rattle.notation.specs.Parts.{itemAt}
+use Rattle.notation.specs.Items.{itemAt}
 use Rattle.notation.specs.Claims.{NeverLonger, RoomInText, ReadSmall, CasesRead}
 use Rattle.notation.proofs.Readings.{item-lies, item-small, item-fewer, item-ended, item-faulty, item-number}
 use Rattle.notation.proofs.Outcomes.{none-left, one-left, no-fault}
@@ -71,7 +71,7 @@ room-in-text s vs out h l =
     rw (h, t)
 
 pub cases-read : CasesRead
-unfolding ascii separator ends comment newlines beginning run tokenAt bytesOf isDigit allDigits valueFrom wordFrom wordOf sound before readingFrom reading packed refused
+unfolding ascii separator ends comment newlines beginning tokenLength tokenAt bytesOf isDigit allDigits valueFrom wordFrom wordOf sound before readingFrom reading packed refused
 cases-read =
     record {
       automaton = refl;

@@ -15,7 +15,7 @@ use Rattle.notation.specs.Tokens.{tokenAt, bytesOf}
 use Rattle.notation.specs.Words.{largest, isDigit, allDigits, valueFrom, wordFrom, wordOf}
 use Rattle.notation.specs.Outcomes.{numbers, faulty, before}
 use Rattle.notation.specs.Packing.{sound, readingFrom}
-use Rattle.notation.specs.Parts.{Item, itemAt}
+use Rattle.notation.specs.Items.{Item, itemAt}
 use Rattle.notation.proofs.Finding.{Lies, token-lies}
 use Rattle.notation.proofs.Values.{digit-high}
 

@@ -9,7 +9,7 @@ use lib.Dec.{ltb, leb}
 use borrow.Author.Tests.{lt-ltb, le-ltb, le-leb, lt-leb, ltb-true, leb-true}
 use Rattle.base.proofs.Bools.{by, and-left, and-right, and-both, and-left-false, and-right-false}
 use Rattle.notation.specs.Words.{largest, isDigit, allDigits, valueFrom, number, wrong, wordFrom, wordOf}
-use Rattle.notation.specs.Parts.{capped}
+use Rattle.notation.specs.Items.{capped}
 use Rattle.notation.specs.declared.Fault.the-variants.{NotNumber, TooLarge}
 use Rattle.notation.proofs.Finding.{next-byte}
 

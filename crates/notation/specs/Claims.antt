@@ -29,7 +29,8 @@ Says text vs = reading (ascii text) ≡ numbers vs
 
 -- a text is refused, with the fault in this line at this token
 abbrev pub Refused : String → Fault → ℕ → ℕ → ℕ → Type 0
-Refused text f line from to = packed (reading (ascii text)) [] ≡ record { fault = f; line = line; from = from; to = to; length = 0 }
+Refused text f line from to = packed (reading (ascii text)) []
+    ≡ record { fault = f; line = line; from = from; to = to; length = 0 }
 
 pub record CasesRead : Type 0 where
   -- document 01's sheet V

@@ -2,5 +2,5 @@ pub mod Outcomes
 pub mod Tokens
 pub mod Words
 pub mod Packing
-pub mod Parts
+pub mod Items
 pub mod Claims

@@ -22,8 +22,8 @@ sound NotNumber = false
 sound TooLarge = false
 sound NoRoom = false
 
--- What a text says from a place on, with so many lines ended before it. (A token has a byte at least, so as many steps as there
--- are bytes and one are enough.)
+-- What a text says from a place on, with so many lines ended before it. (A token has a byte at
+-- least, so as many steps as there are bytes and one are enough.)
 unfoldable pub readingFrom : ℕ → List ℕ → ℕ → ℕ → Reading
 readingFrom zero s lines at = numbers []
 readingFrom (suc k) s lines at =

@@ -16,7 +16,8 @@ separator b = eqb b (code " ") || (eqb b (code ",") || (eqb b (code "\t") || (eq
 unfoldable pub ends : ℕ → Bool
 ends b = separator b || eqb b (code "#")
 
--- whether the byte after b is in a comment, which goes to its line's end; c says whether b is in one
+-- whether the byte after b is in a comment, which goes to its line's end; c says whether b is in
+-- one
 unfoldable pub comment : Bool → ℕ → Bool
 comment c b = (c || eqb b (code "#")) && not (eqb b (code "\n"))
 
@@ -24,23 +25,24 @@ comment c b = (c || eqb b (code "#")) && not (eqb b (code "\n"))
 unfoldable pub newlines : ℕ → ℕ
 newlines b = cond (eqb b (code "\n")) 1 0
 
--- Where the next token begins, past separators and comments, and how many lines end before it. Given are the bytes from the place
--- `at` on, whether the first of them is in a comment, and how many lines end before it.
+-- Where the next token begins, past separators and comments, and how many lines end before it.
+-- Given are the bytes from the place `at` on, whether the first of them is in a comment, and how
+-- many lines end before it.
 unfoldable pub beginning : List ℕ → Bool → ℕ → ℕ → Place
 beginning [] c lines at = record { lines = lines; at = at }
 beginning (b ∷ s) c lines at =
     cond (c || ends b) (beginning s (comment c b) (lines + newlines b) (at + 1)) (record { lines = lines; at = at })
 
 -- how many bytes stand before the next separator or comment
-unfoldable pub run : List ℕ → ℕ
-run [] = 0
-run (b ∷ s) = cond (ends b) 0 (run s + 1)
+unfoldable pub tokenLength : List ℕ → ℕ
+tokenLength [] = 0
+tokenLength (b ∷ s) = cond (ends b) 0 (tokenLength s + 1)
 
 -- the first token from a place on; an empty one at the text's end where there is none
 unfoldable pub tokenAt : List ℕ → ℕ → ℕ → Token
 tokenAt s lines at =
     let p = beginning (drop at s) false lines at in
-    record { lines = p .lines; from = p .at; to = p .at + run (drop (p .at) s) }
+    record { lines = p .lines; from = p .at; to = p .at + tokenLength (drop (p .at) s) }
 
 -- the bytes of a token
 unfoldable pub bytesOf : List ℕ → Token → List ℕ

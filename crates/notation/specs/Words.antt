@@ -32,7 +32,8 @@ number v = record { fault = None; value = v }
 abbrev pub wrong : Fault → Word
 wrong f = record { fault = f; value = 0 }
 
--- what bytes are after digits of value v: a number where all of them are digits and it is not too large
+-- what bytes are after digits of value v: a number where all of them are digits and it is not too
+-- large
 unfoldable pub wordFrom : ℕ → List ℕ → Word
 wordFrom v w =
     cond (allDigits w)

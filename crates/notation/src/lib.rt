@@ -1,6 +1,7 @@
-// Numbers as text: decimal numbers with separators and comments between them, and the same numbers in seven-bit groups. The
-// notation is defined in specs/, and what holds of it is proved here. The crate `tokens` finds the tokens of a text, `words` reads
-// one, `packing` packs the text.
+// Numbers as text: decimal numbers with separators and comments between them, and the same numbers
+// in seven-bit groups. The notation is defined in specs/, and what holds of it is proved here. The
+// crate `notation_tokens` finds the tokens of a text and reads one, `notation_pack` packs the
+// text.
 
 // A place of a text, and how many lines end before it.
 pub struct Place {
@@ -15,7 +16,8 @@ pub struct Token {
     pub to: usize,
 }
 
-// What is wrong: nothing; a token that is no number, or one over 2,097,151; a lent buffer that is too short.
+// What is wrong: nothing; a token that is no number, or one over 2,097,151; a lent buffer that is
+// too short.
 pub enum Fault {
     None,
     NotNumber,
@@ -35,8 +37,8 @@ pub struct Item {
     pub word: Word,
 }
 
-// What packing answers: how many bytes were written, or the fault, with the number of the line where it stands and the token's
-// beginning and end (0 where there is none).
+// What packing answers: how many bytes were written, or the fault, with the number of the line
+// where it stands and the token's beginning and end (0 where there is none).
 pub struct Packed {
     pub fault: Fault,
     pub line: usize,

@@ -1,4 +1,5 @@
-// The program `pack`: reads decimal numbers as text and writes them in seven-bit groups, or a line on standard error.
+// The program `pack`: reads decimal numbers as text and writes them in seven-bit groups, or a line
+// on standard error.
 ghost use mathlib.Core.Path.{_≡_};
 ghost use lib.ListN.{replicate};
 
@@ -27,7 +28,7 @@ fn main() {
     let count = read.length;
     let mut out = byte_room();
     let mut note = [0u8; 96];
-    let output = conversion::pack_input(&input[..count], &mut out, &mut note);
+    let output = notation_programs::pack_input(&input[..count], &mut out, &mut note);
     let bytes = output.bytes;
     let said = output.note;
     let written = streams::write_all(streams::STANDARD_OUTPUT, &out[..bytes]);

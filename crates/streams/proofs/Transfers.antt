@@ -118,8 +118,8 @@ unspent t = (t .size - t .count) + t .interruptions + cond (t .going) 1 0
 pub lent-answer : {t : Transfer} (bytes : List ℕ) → Standing (length bytes) t → (answer : ℤ) → mag answer < 2 ^ 63
     → Moved (length (take (length bytes - t .count) (drop (t .count) bytes))) answer → Moved (t .size - t .count) (toZ w64 (ofZ w64 answer))
 lent-answer {t} bytes g answer f m =
-    let rest = take (length bytes - t .count) (drop (t .count) bytes) in
-    let l : length rest ≡ t .size - t .count =
+    let later = take (length bytes - t .count) (drop (t .count) bytes) in
+    let l : length later ≡ t .size - t .count =
     length-take-le _ (drop (t .count) bytes) (rw (length-drop (t .count) bytes) (omega arith)) ∙ ap (λ k. k - t .count) (sym (g .whole)) in
     rw (toZ-ofZ w64 answer (record { sfits = f })) (rw l at m)
 

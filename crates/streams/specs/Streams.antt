@@ -1,4 +1,5 @@
--- What reading and writing answer, and what a program says where it cannot do the one or the other.
+-- What reading and writing answer, and what a program says where it cannot do the one or the
+-- other.
 use Prim.Native.Nat.{ℕ, _≤_, _<_}
 use mathlib.Core.Path.{_≡_}
 use mathlib.Core.Bool.{true, false}
@@ -19,14 +20,15 @@ inputOf t = record { length = t .count; failed = t .failed }
 abbrev pub writtenOf : Transfer → Written
 writtenOf t = record { count = t .count; done = eqb (t .count) (t .size) }
 
--- A transfer of so many bytes that is over, by what C's calls answered, in order. What they answer is free, and so are the bytes
--- that they moved; all else is settled by it.
+-- A transfer of so many bytes that is over, by what C's calls answered, in order. What they answer
+-- is free, and so are the bytes that they moved; all else is settled by it.
 pub record Over (size : ℕ) (t : Transfer) : Type 0 where
   pub answers : List (ℤ × ℤ)
   pub made : t ≡ transferred (begun size) answers
   pub over : t .going ≡ false
 
--- a lent buffer after reading: how many bytes of it count, and whether a read failed, which it does only where there is room
+-- a lent buffer after reading: how many bytes of it count, and whether a read failed, which it
+-- does only where there is room
 pub record Filled (buffer : List ℕ) (r : Input) : Type 0 where
   pub transfer : Transfer
   pub over : Over (length buffer) transfer

@@ -7,11 +7,11 @@ use lib.Dec.{eqb, ltb}
 pub use Rattle.streams.specs.declared.transfer.Transfer.{Transfer}
 
 -- how often signals may interrupt one transfer
-abbrev pub interruptionsMost : ℕ
-interruptionsMost = 65536
+abbrev pub maxInterruptions : ℕ
+maxInterruptions = 65536
 
 abbrev pub begun : ℕ → Transfer
-begun size = record { size = size; count = 0; interruptions = interruptionsMost; going = ltb 0 size; failed = false }
+begun size = record { size = size; count = 0; interruptions = maxInterruptions; going = ltb 0 size; failed = false }
 
 abbrev pub ended : Transfer → Bool → Transfer
 ended t failed = record { size = t .size; count = t .count; interruptions = t .interruptions; going = false; failed = failed }
@@ -26,14 +26,16 @@ advanced t bytes =
       failed = t .failed;
     }
 
--- a call moved so many bytes: none ends the transfer (of a read: the input), and so do all that were left
+-- a call moved so many bytes: none ends the transfer (of a read: the input), and so do all that
+-- were left
 unfoldable pub moved : Transfer → ℕ → Transfer
 moved t bytes = cond (eqb bytes 0) (ended t false) (advanced t bytes)
 
 abbrev pub again : Transfer → Transfer
 again t = record { size = t .size; count = t .count; interruptions = t .interruptions - 1; going = t .going; failed = t .failed }
 
--- a signal interrupted a call before it moved a byte: it is made again, unless no interruption is left
+-- a signal interrupted a call before it moved a byte: it is made again, unless no interruption is
+-- left
 unfoldable pub interrupted : Transfer → Transfer
 interrupted t = cond (eqb (t .interruptions) 0) (ended t true) (again t)
 

@@ -1,6 +1,7 @@
-// Standard input and output, for every program: all of an input into a lent buffer, and all of a slice to a descriptor. A read
-// that fails is told from the end of the input, and a call that a signal interrupted is made again. (The library under it
-// promises nothing of the bytes that are read or written.)
+// Standard input and output, for every program: all of an input into a lent buffer, and all of a
+// slice to a descriptor. A read that fails is told from the end of the input, and a call that a
+// signal interrupted is made again. (The library under it promises nothing of the bytes that are
+// read or written.)
 mod transfer;
 
 use text::word;
@@ -20,7 +21,8 @@ pub const STANDARD_OUTPUT: i32 = libc::STDOUT_FILENO;
 
 pub const STANDARD_ERROR: i32 = libc::STDERR_FILENO;
 
-// How many bytes were read, to the end of the input or until the buffer was full, and whether a read failed before that.
+// How many bytes were read, to the end of the input or until the buffer was full, and whether a
+// read failed before that.
 pub struct Input {
     pub length: usize,
     pub failed: bool,
@@ -50,7 +52,8 @@ fn written_of(t: Transfer) -> Written
     }
 }
 
-// Reads to the end of the input, or until the buffer is full. Of the buffer's bytes nothing is promised.
+// Reads to the end of the input, or until the buffer is full. Of the buffer's bytes nothing is
+// promised.
 pub fn read_all(descriptor: i32, buf: &mut [u8]) -> Input
     ensures { λ r. ⌜ Filled (now (buf .exit)) r ⌝ }
 {

@@ -1,15 +1,16 @@
-// A transfer of bytes by calls of C's `read` or `write`: what one call more makes of it. No call is made here.
+// A transfer of bytes by calls of C's `read` or `write`: what one call more makes of it. No call
+// is made here.
 ghost use mathlib.Core.Path.{_≡_};
 ghost use Prim.Native.Nat.{_≤_, _-_};
 ghost use Rattle.libc.specs.Io.{Moved};
 ghost use Rattle.streams.specs.Transfers.{begun, ended, moved, interrupted, failed, after};
 
-// How often signals may interrupt one transfer: one more counts as a failure. A proved loop must end, and nothing else says that
-// the signals do.
+// How often signals may interrupt one transfer: one more counts as a failure. A proved loop must
+// end, and nothing else says that the signals do.
 const INTERRUPTIONS: usize = 65536;
 
-// Where a transfer of `size` bytes stands: how many were moved, how many interruptions are left, whether another call is to be
-// made, and whether one failed.
+// Where a transfer of `size` bytes stands: how many were moved, how many interruptions are left,
+// whether another call is to be made, and whether one failed.
 pub struct Transfer {
     pub size: usize,
     pub count: usize,

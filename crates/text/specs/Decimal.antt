@@ -26,7 +26,8 @@ digits (suc k) n = cond (ltb n 10) (digit n ∷ []) (digits k (n / 10) ++ digit 
 unfoldable pub decimal : ℕ → List ℕ
 decimal n = digits (suc n) n
 
--- Bytes were stored in a lent buffer from a place on, all of them, and nothing else in it changed; `next` is the place after them.
+-- Bytes were stored in a lent buffer from a place on, all of them, and nothing else in it changed;
+-- `next` is the place after them.
 pub record Appended (before : List ℕ) (at : ℕ) (bytes after : List ℕ) (next : ℕ) : Type 0 where
   pub content : after ≡ sets before at bytes
   pub place : next ≡ at + length bytes

@@ -1,5 +1,5 @@
-// Text as bytes: words and decimal numbers, stored in a lent buffer from a place on. Each function answers the place after what it
-// stored, and asks for the room that its text takes.
+// Text as bytes: words and decimal numbers, stored in a lent buffer from a place on. Each function
+// answers the place after what it stored, and asks for the room that its text takes.
 ghost use mathlib.Core.List.{_++_};
 ghost use Prim.Native.Nat.{_+_, _≤_};
 ghost use lib.ListN.{length};
@@ -39,7 +39,8 @@ pub fn labelled(out: &mut [u8], at: usize, text: &[u8], n: usize) -> usize
 // A word and a number, and another word and number.
 pub fn pair(out: &mut [u8], at: usize, first: &[u8], n: usize, second: &[u8], m: usize) -> usize
     requires { ⌜ at + length ((now first ++ decimal n) ++ (now second ++ decimal m)) ≤ length (now out) ⌝ }
-    ensures { λ r. ⌜ Appended (now (out .entry)) at ((now (first .entry) ++ decimal n) ++ (now (second .entry) ++ decimal m)) (now (out .exit)) r ⌝ }
+    ensures { λ r. ⌜ Appended (now (out .entry)) at ((now (first .entry) ++ decimal n) ++ (now (second .entry) ++ decimal m))
+        (now (out .exit)) r ⌝ }
 {
     let next = labelled(out, at, first, n);
     labelled(out, next, second, m)

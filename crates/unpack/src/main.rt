@@ -1,4 +1,5 @@
-// The program `unpack`: reads numbers in seven-bit groups and writes them in decimal, or a line on standard error.
+// The program `unpack`: reads numbers in seven-bit groups and writes them in decimal, or a line on
+// standard error.
 ghost use mathlib.Core.Path.{_≡_};
 ghost use lib.ListN.{replicate};
 
@@ -27,7 +28,7 @@ fn main() {
     let count = read.length;
     let mut out = text_room();
     let mut note = [0u8; 96];
-    let output = conversion::unpack_input(&input[..count], &mut out, &mut note);
+    let output = notation_programs::unpack_input(&input[..count], &mut out, &mut note);
     let bytes = output.bytes;
     let said = output.note;
     let written = streams::write_all(streams::STANDARD_OUTPUT, &out[..bytes]);

@@ -24,10 +24,10 @@ module _ (k v : ℕ) where
   encode-more h = rw (le-ltb v 128 h)
 
 -- the value of a group and of the rest
-weigh : (group rest unit low : ℕ) → low + group * unit + rest * (unit * 128) ≡ low + (group + rest * 128) * unit
-weigh group rest unit low =
-    let e : rest * (unit * 128) ≡ rest * 128 * unit = rw (mul-comm unit 128) (sym (mul-assoc rest 128 unit)) in
-    rw (e, add-mul group (rest * 128) unit) (omega arith)
+weigh : (group later unit low : ℕ) → low + group * unit + later * (unit * 128) ≡ low + (group + later * 128) * unit
+weigh group later unit low =
+    let e : later * (unit * 128) ≡ later * 128 * unit = rw (mul-comm unit 128) (sym (mul-assoc later 128 unit)) in
+    rw (e, add-mul group (later * 128) unit) (omega arith)
 
 module _ (q : List ℕ) (start : ℕ) where
   -- v after p, in at most k + 1 groups, reads back
@@ -47,14 +47,14 @@ module _ (q : List ℕ) (start : ℕ) where
       (λ e. back-one (suc k) v p unit low (ltb-true v 128 e))
       (λ e. let l : 128 ≤ v = ltb-false v 128 e in
       let b : ℕ = v % 128 + 128 in
-      let rest : List ℕ = encode (suc k) (v / 128) in
-      let inside : length p < length (p ++ b ∷ (rest ++ q)) = simp length-append (omega arith) in
+      let later : List ℕ = encode (suc k) (v / 128) in
+      let inside : length p < length (p ++ b ∷ (later ++ q)) = simp length-append (omega arith) in
       let long : length (p ++ b ∷ []) ≡ length p + 1 = length-append p (b ∷ []) in
       let smaller : v / 128 < 128 ^ suc k = let j : v < 128 ^ suc k * 128 = rw (pow-suc 128 (suc k)) at h in omega arith in
       let whole : b - 128 + v / 128 * 128 ≡ v = omega arith in
       rw (encode-more (suc k) v l)
-      (sym (group-more (p ++ b ∷ (rest ++ q)) start (suc k) unit low (length p) b inside (sym (getD-append-seam p b (rest ++ q) 0)) (omega arith)) ∙
-      rw (append-snoc p b (rest ++ q), long) at (groups-back k (v / 128) (p ++ b ∷ []) (unit * 128) (low + (b - 128) * unit) smaller) ∙
+      (sym (group-more (p ++ b ∷ (later ++ q)) start (suc k) unit low (length p) b inside (sym (getD-append-seam p b (later ++ q) 0)) (omega arith)) ∙
+      rw (append-snoc p b (later ++ q), long) at (groups-back k (v / 128) (p ++ b ∷ []) (unit * 128) (low + (b - 128) * unit) smaller) ∙
       same (weigh (b - 128) (v / 128) unit low ∙ ap (λ x. low + x * unit) whole) (omega arith)))
 
 pub reads-back : ReadsBack
@@ -63,12 +63,12 @@ reads-back v p q h = groups-back q (length p) 2 v p 1 0 h ∙ same (omega arith)
 
 -- what was read in at most k groups of weight `unit` and more, after `low`
 record Groups (s : List ℕ) (k unit low at v next : ℕ) : Type 0 where
-  rest : ℕ
-  sum : v ≡ low + rest * unit
+  later : ℕ
+  sum : v ≡ low + later * unit
   after : at < next
   inside : next ≤ length s
-  small : AreBytes s → rest < 128 ^ k
-  fewest : AreBytes s → at + length (encode k rest) ≤ next
+  small : AreBytes s → later < 128 ^ k
+  fewest : AreBytes s → at + length (encode k later) ≤ next
 
 module _ (s : List ℕ) (start v next : ℕ) where
   no-fault : (row : ℕ) → fault (suc row) start ≡ value v next → ⊥
@@ -88,7 +88,7 @@ module _ (s : List ℕ) (start v next : ℕ) where
       let g : value (low + b * unit) (at + 1) ≡ value v next = group-last s start k unit low at b i refl l ∙ h in
       let n : at + 1 ≡ next = ap (λ n. n .place) g in
       record {
-        rest = b;
+        later = b;
         sum = sym (ap (λ n. n .value) g);
         after = omega arith;
         inside = omega arith;
@@ -98,17 +98,17 @@ module _ (s : List ℕ) (start v next : ℕ) where
       (λ f.
       let l : 128 ≤ b = ltb-false b 128 f in
       let r = groups-read k (unit * 128) (low + (b - 128) * unit) (at + 1) (group-more s start k unit low at b i refl l ∙ h) in
-      let w : ℕ = b - 128 + r .rest * 128 in
+      let w : ℕ = b - 128 + r .later * 128 in
       record {
-        rest = w;
-        sum = r .sum ∙ weigh (b - 128) (r .rest) unit low;
+        later = w;
+        sum = r .sum ∙ weigh (b - 128) (r .later) unit low;
         after = omega arith;
         inside = r .inside;
         small = λ d. rw (pow-suc 128 k) (omega (arith, r .small d, d at i));
         fewest = λ d. by (ltb w 128)
             (λ u. rw (encode-one k w (ltb-true w 128 u)) (omega arith))
             (λ u. rw (encode-more k w (ltb-false w 128 u))
-            (let o : w / 128 ≡ r .rest = omega (arith, d at i) in rw o (omega (arith, r .fewest d))));
+            (let o : w / 128 ≡ r .later = omega (arith, d at i) in rw o (omega (arith, r .fewest d))));
       }))
       (λ e. absurd (no-fault 0 (group-ended s start k unit low at (ltb-false at (length s) e) ∙ h)))
 
@@ -130,5 +130,5 @@ pub fewest : Fewest
 unfolding bytes
 fewest s at v next d h =
     let g = whole s at v next h in
-    let e : v ≡ g .rest = omega (arith, g .sum) in
+    let e : v ≡ g .later = omega (arith, g .sum) in
     rw e (g .fewest d)

@@ -1,5 +1,5 @@
--- Numbers in one to three groups of seven bits, the low group first, the top bit set on all bytes but the last (document 01, "The
--- sheet").
+-- Numbers in one to three groups of seven bits, the low group first, the top bit set on all bytes
+-- but the last (document 01, "The sheet").
 use Prim.Native.Nat.{ℕ, zero, suc, _+_, _-_, _*_, _/_, _%_}
 use mathlib.Core.Bool.{Bool, cond, _&&_}
 use mathlib.Core.List.{List, [], _∷_, _++_}
@@ -15,8 +15,9 @@ value v next = record { refusal = 0; value = v; place = next }
 abbrev pub fault : ℕ → ℕ → Number
 fault row at = record { refusal = row; value = 0; place = at }
 
--- The number that begins at `start`, of which `low` is read and at most k groups of weight `unit` and more are left, the next at
--- `at`. Row 1: the bytes end; row 2: a third byte with its top bit set.
+-- The number that begins at `start`, of which `low` is read and at most k groups of weight `unit`
+-- and more are left, the next at `at`. Row 1: the bytes end; row 2: a third byte with its top bit
+-- set.
 unfoldable pub groups : List ℕ → ℕ → ℕ → ℕ → ℕ → ℕ → Number
 groups s start zero unit low at = fault 2 start
 groups s start (suc k) unit low at =

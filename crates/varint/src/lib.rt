@@ -2,8 +2,8 @@
 ghost use mathlib.Core.Path.{_≡_};
 ghost use Rattle.varint.specs.Varint.{read, fault, written, writtenLength};
 
-// What stands at a place of the input: the value and the place after it (refusal 0), or the refusing row and the place where the
-// number begins, with value 0.
+// What stands at a place of the input: the value and the place after it (refusal 0), or the
+// refusing row and the place where the number begins, with value 0.
 pub struct Number {
     pub refusal: u8,
     pub value: u32,
@@ -20,14 +20,15 @@ pub fn fault(row: u8, at: usize) -> Number
     }
 }
 
-// The number at a place, or row 1 where the bytes end before it does, or row 2 where its third byte has the top bit set.
+// The number at a place, or row 1 where the bytes end before it does, or row 2 where its third
+// byte has the top bit set.
 pub fn read(s: &[u8], at: usize) -> Number
     ensures { λ r. ⌜ r ≡ read (now (s .entry)) at ⌝ }
 {
     if s.len() <= at {
         return fault(1, at);
     }
-    let a = base::wide(s[at]);
+    let a = base::as_u32(s[at]);
     if a < 128 {
         return Number {
             refusal: 0,
@@ -38,7 +39,7 @@ pub fn read(s: &[u8], at: usize) -> Number
     if s.len() - at <= 1 {
         return fault(1, at);
     }
-    let b = base::wide(s[at + 1]);
+    let b = base::as_u32(s[at + 1]);
     if b < 128 {
         return Number {
             refusal: 0,
@@ -49,7 +50,7 @@ pub fn read(s: &[u8], at: usize) -> Number
     if s.len() - at <= 2 {
         return fault(1, at);
     }
-    let c = base::wide(s[at + 2]);
+    let c = base::as_u32(s[at + 2]);
     if c < 128 {
         return Number {
             refusal: 0,
@@ -60,7 +61,8 @@ pub fn read(s: &[u8], at: usize) -> Number
     fault(2, at)
 }
 
-// Writes v in the fewest bytes and answers how many. Above 2,097,151 or without room nothing is written and the answer is 0.
+// Writes v in the fewest bytes and answers how many. Above 2,097,151 or without room nothing is
+// written and the answer is 0.
 pub fn write(out: &mut [u8], v: u32) -> usize
     ensures { λ r. ⌜ (r ≡ writtenLength (now (out .entry)) v) × (now (out .exit) ≡ written (now (out .entry)) v) ⌝ }
 {

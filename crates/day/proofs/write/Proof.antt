@@ -1,10 +1,10 @@
 use Rattle.day.proofs.Delivering.{Delivering, begins, count-fits, goes-on, ends, stops}
 use Rattle.text.proofs.Appending.{front-within, front-length}
-use Rattle.lines.specs.Lines.{lineRoom}
-use Rattle.transcript.specs.Transcript.{transcript}
-use Rattle.transcript.specs.Pieces.{toCome}
-use Rattle.transcript.proofs.Bounds.{transcript-bounded}
-use Rattle.transcript.proofs.Continuing.{kept-length, less-left}
+use Rattle.text_lines.specs.Lines.{lineRoom}
+use Rattle.day_transcript.specs.Transcript.{transcript}
+use Rattle.day_transcript.specs.Pieces.{toCome}
+use Rattle.day_transcript.proofs.Bounds.{transcript-bounded}
+use Rattle.day_transcript.proofs.Continuing.{kept-length, less-left}
 use lib.ListN.{length}
 use Prim.Native.Nat.{_≤_, _<_, _^_}
 use mathlib.Core.Path.{_≡_, refl, sym, _∙_}

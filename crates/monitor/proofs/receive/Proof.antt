@@ -5,12 +5,12 @@ use native.Mathlib.Omega.{arith}
 use borrow.Author.Needs.{needs}
 use Rattle.automaton.proofs.Whole.{shapes}
 use Rattle.configuration.specs.Configuration.{consistent}
-use Rattle.symbols.specs.Symbols.{rankingOf}
-use Rattle.releasing.proofs.Searching.{rests-asks}
-use Rattle.answers.specs.Turns.{turned, turnedBuffer}
-use Rattle.answers.proofs.Turns.{Opened}
-use Rattle.entering.proofs.Entries.{entered, entered-opened}
-use Rattle.processing.proofs.Taking.{lends}
+use Rattle.automaton_symbols.specs.Symbols.{rankingOf}
+use Rattle.monitor_rule.proofs.Searching.{rests-asks}
+use Rattle.monitor_answers.specs.Turns.{turned, turnedBuffer}
+use Rattle.monitor_answers.proofs.Turns.{Opened}
+use Rattle.monitor_entry.proofs.Entries.{entered, entered-opened}
+use Rattle.monitor_loop.proofs.Taking.{lends}
 use Rattle.monitor.proofs.Receiving.{lent-at, rest-is, receive-stands, turn-asks, receive-refuses, count-small, stands-after, receive-accepts}
 use Rattle.monitor.proofs.receive.Statement.{statement}
 use Rattle.monitor.proofs.receive.Tie as tie
@@ -46,7 +46,7 @@ turning c = c .before .before .before
 abbrev accepted : tie.After-struct-known3 → tie.Else2
 accepted c = c .before .before .before
 
-abbrev rested : tie.After-size → tie.Else2
+abbrev rested : tie.After-as-usize → tie.Else2
 rested c = accepted (c .before .before .before)
 
 stands : (c : tie.Else2) → consistent (start (entry (passed (turning c .before))) .args .t1) (turning c .turn .result .configuration) ≡ true
@@ -89,17 +89,17 @@ cast-t16 c =
     let l = count-small _ _ _ _ (o .0) _ (o .1) _ (took t .0) (k .if2 .left) in
     omega arith
 
-size-requires : tie.Need-size-requires
-size-requires c κs = search needs
+as-usize-requires : tie.Need-as-usize-requires
+as-usize-requires c κs = search needs
 
-size-requires-2 : tie.Need-size-requires-2
-size-requires-2 c κs = search needs
+as-usize-requires-2 : tie.Need-as-usize-requires-2
+as-usize-requires-2 c κs = search needs
 
 rests-requires : tie.Need-rests-requires
 rests-requires c κs =
     let k = rested (c .before) in
     let o = opened (passed (turning k .before)) in
-    rests-asks (lent-at _ _ (o .0) _ (o .1) _ (stands k)) _ _ (c .before .size .ensures .0) (c .size2 .ensures .0)
+    rests-asks (lent-at _ _ (o .0) _ (o .1) _ (stands k)) _ _ (c .before .as-usize .ensures .0) (c .as-usize2 .ensures .0)
 
 returns-3 : tie.Need-returns-3
 returns-3 c =
@@ -107,7 +107,7 @@ returns-3 c =
     let k = rested (s .before) in
     let t = turning k in
     let o = opened (passed (t .before)) in
-    let w = rest-is _ _ (o .0) _ (o .1) _ (stands k) _ (rw (s .size2 .ensures .0, s .before .size .ensures .0) at (c .rests .ensures)) in
+    let w = rest-is _ _ (o .0) _ (o .1) _ (stands k) _ (rw (s .as-usize2 .ensures .0, s .before .as-usize .ensures .0) at (c .rests .ensures)) in
     receive-accepts _ _ _ _ (o .0) _ (o .1) _ (took t .0) (k .if2 .left) _ (took t .1) _ w
 
 pub receive-spec : {M : Type 1} → statement M
@@ -122,7 +122,7 @@ receive-spec =
     refused-requires-2
     returns-2
     cast-t16
-    size-requires
-    size-requires-2
+    as-usize-requires
+    as-usize-requires-2
     rests-requires
     returns-3)

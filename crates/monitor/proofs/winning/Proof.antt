@@ -4,10 +4,10 @@ use borrow.Author.Tests.{not-true, not-false}
 use borrow.Author.Needs.{needs}
 use Rattle.automaton.proofs.Whole.{shapes}
 use Rattle.configuration.specs.Configuration.{consistent}
-use Rattle.symbols.specs.Symbols.{rankingOf}
-use Rattle.releasing.proofs.Searching.{rests-asks}
-use Rattle.answers.proofs.Turns.{Opened}
-use Rattle.entering.proofs.Entries.{entered, entered-opened}
+use Rattle.automaton_symbols.specs.Symbols.{rankingOf}
+use Rattle.monitor_rule.proofs.Searching.{rests-asks}
+use Rattle.monitor_answers.proofs.Turns.{Opened}
+use Rattle.monitor_entry.proofs.Entries.{entered, entered-opened}
 use Rattle.monitor.proofs.Receiving.{lent-at, rest-is, status-stands, status-refuses, status-answers}
 use Rattle.monitor.proofs.winning.Statement.{statement}
 use Rattle.monitor.proofs.winning.Tie as tie
@@ -33,7 +33,7 @@ stands : (c : tie.Else2) → consistent (start (entry (passed (c .before))) .arg
 stands c = sym (c .before .consistent .ensures) ∙ not-false _ (c .if2 .left)
 
 -- the test of rest
-abbrev clear : tie.After-size → tie.Else2
+abbrev clear : tie.After-as-usize → tie.Else2
 clear c = c .before .before .before .before .before
 
 enter-requires : tie.Need-enter-requires
@@ -59,17 +59,17 @@ returns-2 c =
     c .refused-status2 .ensures ∙
     status-refuses _ _ _ (opened (passed (b .before)) .0) (sym (b .before .consistent .ensures) ∙ not-true _ (b .if2 .taken))
 
-size-requires : tie.Need-size-requires
-size-requires c κs = search needs
+as-usize-requires : tie.Need-as-usize-requires
+as-usize-requires c κs = search needs
 
-size-requires-2 : tie.Need-size-requires-2
-size-requires-2 c κs = search needs
+as-usize-requires-2 : tie.Need-as-usize-requires-2
+as-usize-requires-2 c κs = search needs
 
 rests-requires : tie.Need-rests-requires
 rests-requires c κs =
     let k = clear (c .before) in
     let o = opened (passed (k .before)) in
-    rests-asks (lent-at _ _ (o .0) _ (o .1) _ (stands k)) _ _ (c .before .size .ensures .0) (c .size2 .ensures .0)
+    rests-asks (lent-at _ _ (o .0) _ (o .1) _ (stands k)) _ _ (c .before .as-usize .ensures .0) (c .as-usize2 .ensures .0)
 
 returns-3 : tie.Need-returns-3
 returns-3 c =
@@ -77,7 +77,7 @@ returns-3 c =
     let k = clear (s .before) in
     let o = opened (passed (k .before)) in
     status-answers _ _ _ (o .0) (stands k) _
-    (rest-is _ _ (o .0) _ (o .1) _ (stands k) _ (rw (s .size2 .ensures .0, s .before .size .ensures .0) at (c .rests .ensures)))
+    (rest-is _ _ (o .0) _ (o .1) _ (stands k) _ (rw (s .as-usize2 .ensures .0, s .before .as-usize .ensures .0) at (c .rests .ensures)))
 
 pub winning-spec : {M : Type 1} → statement M
 winning-spec =
@@ -89,7 +89,7 @@ winning-spec =
     consistent-requires
     refused-status-requires-2
     returns-2
-    size-requires
-    size-requires-2
+    as-usize-requires
+    as-usize-requires-2
     rests-requires
     returns-3)

@@ -1,5 +1,5 @@
 use Rattle.game.proofs.Turns.{turn, turn-in, turn-out, rest-not, rest-last, rest-on, come-here, come-none, come-released}
-use Rattle.game.specs.Parts.{arena, heldFrom}
+use Rattle.game.specs.Arena.{arena, heldFrom}
 use Rattle.automaton.specs.Automaton.{controllable, accepts, step}
 use Rattle.base.proofs.Ranges.{each-more, each-false}
 use Rattle.base.proofs.Bools.{and-both, or-left}
@@ -19,12 +19,13 @@ use Rattle.game.proofs.play.+can_rest+may_rest.Lts-can_rest as can-rest
 use Rattle.game.proofs.play.may_rest.Reads as may-rest
 use Rattle.game.proofs.play.may_rest.Kinds as may-rest-kinds
 use Rattle.game.proofs.play.+can_rest+may_rest.Lts-may_rest as may-rest-lts
-use Rattle.base.proofs.size.Reads as size-reads
+use Rattle.base.proofs.as_usize.Reads as size-reads
 use Rattle.game.proofs.play.step.Reads as step-reads
 use Rattle.game.proofs.play.+can_rest+may_rest.{statement}
 use Rattle.game.proofs.play.+can_rest+may_rest.Tie.{close}
 
--- The number that falls at each call: a held event left weighs more than all rounds, and coming to rest one more than resting.
+-- The number that falls at each call: a held event left weighs more than all rounds, and coming to
+-- rest one more than resting.
 abbrev μ-can-rest : Measures 1 can-rest-kinds.ps ℕ
 μ-can-rest κs a = 2 * ((a .1 .1 .1 .1 .1 .1 .0 - a .1 .1 .1 .1 .1 .1 .1 .0) * 33 + a .1 .1 .1 .1 .1 .1 .1 .1 .1 .0) + 1
 
@@ -81,7 +82,7 @@ can-rest-returns-2 : (t : ℕ) → can-rest-lts.Need-returns-2 (
 ) (can-rest-at t) can-rest.Post
 can-rest-returns-2 t c = let a = c .before .before .before .args in sym (come-none _ (a .buffer .now) (a .held) (a .at) _ _ (c .if2 .taken) (sym (c .before .before .may-rest .ensures) ∙ c .before .if1 .left))
 
-can-rest-element-copy-out-size : (t : ℕ) → can-rest-lts.Need-element-copy-out-size (
+can-rest-element-copy-out-size : (t : ℕ) → can-rest-lts.Need-element-copy-out-as-usize (
   may-rest-below t,
   may-rest.Post,
   size-reads.Asked,
@@ -93,7 +94,7 @@ can-rest-element-copy-out-size : (t : ℕ) → can-rest-lts.Need-element-copy-ou
 ) (can-rest-at t) can-rest.Post
 can-rest-element-copy-out-size t c = search needs
 
-can-rest-size-requires : (t : ℕ) → can-rest-lts.Need-size-requires (
+can-rest-size-requires : (t : ℕ) → can-rest-lts.Need-as-usize-requires (
   may-rest-below t,
   may-rest.Post,
   size-reads.Asked,
@@ -140,7 +141,7 @@ can-rest-can-rest-requires : (t : ℕ) → can-rest-lts.Need-can-rest-requires (
   can-rest.Post,
 ) (can-rest-at t) can-rest.Post
 unfolding step
-can-rest-can-rest-requires t c κs = let s = c .before .before .before .before .before .before in let p = s .pre .1 .0 in let e : c .before .size .result < s .args .m = omega (arith, p .events (s .args .at) (omega arith)) in (omega arith, (p, omega arith, rw (c .step .ensures) (p .steps (s .args .q) (c .before .size .result) (omega arith) e)))
+can-rest-can-rest-requires t c κs = let s = c .before .before .before .before .before .before in let p = s .pre .1 .0 in let e : c .before .as-usize .result < s .args .m = omega (arith, p .events (s .args .at) (omega arith)) in (omega arith, (p, omega arith, rw (c .step .ensures) (p .steps (s .args .q) (c .before .as-usize .result) (omega arith) e)))
 
 can-rest-returns-3 : (t : ℕ) → can-rest-lts.Need-returns-3 (
   may-rest-below t,
@@ -153,7 +154,7 @@ can-rest-returns-3 : (t : ℕ) → can-rest-lts.Need-returns-3 (
   can-rest.Post,
 ) (can-rest-at t) can-rest.Post
 unfolding step
-can-rest-returns-3 t c = let a = c .before .before .before .before .before .before .before .args in c .can-rest .ensures ∙ rw (c .before .step .ensures, c .before .before .size .ensures .0) (sym (come-released _ (a .buffer .now) (a .held) (a .at) _ _ (omega arith) (omega arith) (sym (c .before .before .before .before .before .before .may-rest .ensures) ∙ c .before .before .before .before .before .if1 .left)))
+can-rest-returns-3 t c = let a = c .before .before .before .before .before .before .before .args in c .can-rest .ensures ∙ rw (c .before .step .ensures, c .before .before .as-usize .ensures .0) (sym (come-released _ (a .buffer .now) (a .held) (a .at) _ _ (omega arith) (omega arith) (sym (c .before .before .before .before .before .before .may-rest .ensures) ∙ c .before .before .before .before .before .if1 .left)))
 
 abbrev may-rest-Inv-loop : may-rest-lts.InvT-loop
 may-rest-Inv-loop next classes accepting buffer n m held at q rounds e₀ e = (e ≤ m) × (each e (turn (arena n m classes accepting next) (heldFrom buffer held at) (rounds - 1) q) ≡ true)

@@ -1,0 +1,203 @@
+-- Parts of lent bytes, and arrays that are filled part by part.
+use Prim.Native.Nat.{ℕ, zero, suc, _+_, _-_, _/_, _%_, _≤_, _<_}
+use mathlib.Core.Path.{_≡_, refl, sym, _∙_, ap}
+use mathlib.Core.Bool.{Bool, true, false, cond}
+use mathlib.Core.List.{List, [], _∷_, _++_, append-nil, append-assoc}
+use native.Mathlib.Omega.{arith}
+use mir.Val.{boolByte}
+use lib.ListN.{length, set, replicate, take, drop, length-append, length-drop, length-replicate, drop-of-length-le}
+use lib.Seq.{sets, sets-eq, take-all, length-take-le}
+use Rattle.base.specs.Pad.{pad}
+use Rattle.base.proofs.Padding.{pad-sets, pad-stored}
+use Rattle.automaton.specs.declared.Automaton.{Automaton}
+use Rattle.configuration.specs.declared.Configuration.{Configuration}
+use Rattle.monitor_answers.specs.declared.Received.{Received}
+use Rattle.monitor_answers.specs.declared.Ran.{Ran}
+use Rattle.c_layout.specs.Offsets.{maxStates, maxSymbols, maxNext, maxCapacity, maxEmitted}
+use Rattle.c_layout.specs.Offsets.{automatonSize, automatonStates, automatonSymbols, automatonCapacity, automatonInitial}
+use Rattle.c_layout.specs.Offsets.{automatonClasses, automatonAccepting, automatonNext}
+use Rattle.c_layout.specs.Offsets.{configurationSize, configurationState, configurationHeld, configurationBuffer, numberSize}
+use Rattle.c_layout.specs.Offsets.{receivedSize, receivedEmitted, receivedCount, receivedWinning}
+use Rattle.c_layout.specs.Offsets.{ranSize, ranLength, ranRefused}
+use Rattle.c_layout.specs.Answers.{receivedBytes, ranBytes}
+use Rattle.c_layout.specs.Layout.{byteAt, part, numberBytes, automatonOf, automatonBytes, configurationOf, configurationBytes}
+
+-- as many stores as there are places
+pub sets-whole : (l v : List ℕ) → length l ≡ length v → sets l 0 v ≡ v
+sets-whole l v h =
+    let d : drop (length v) l ≡ [] = drop-of-length-le l {i = length v} (omega arith) in
+    let e : 0 + length v ≡ length v = omega arith in
+    sets-eq v l 0 (omega arith) ∙ ap (λ k. v ++ drop k l) e ∙ ap (λ x. v ++ x) d ∙ append-nil v
+
+-- an array that is filled from a part of the bytes
+pub part-copied : (at n : ℕ) (bytes : List ℕ) → at + n ≤ length bytes → sets (replicate n 0) 0 (take n (drop at bytes)) ≡ part at n bytes
+unfolding part
+part-copied at n bytes h =
+    sets-whole (replicate n 0) (take n (drop at bytes)) (length-replicate {A = ℕ} n 0 ∙ sym (length-take-le n (drop at bytes) (rw (length-drop at bytes) (omega arith))))
+
+pub pad-full : (n : ℕ) (l : List ℕ) → length l ≡ n → pad n l ≡ l
+unfolding pad
+pad-full n l h = let e : n - length l ≡ 0 = omega arith in rw e (append-nil l)
+
+-- a whole array, stored behind a padded list
+pub pad-array : (n at k : ℕ) (l v : List ℕ) → length l ≡ at → length v ≡ k → at + k ≤ n → sets (pad n l) at (take k (drop 0 v)) ≡ pad n (l ++ v)
+pad-array n at k l v e f h =
+    ap (λ x. sets (pad n l) at x) (take-all k v (omega arith)) ∙
+    ap (λ i. sets (pad n l) i v) (sym e) ∙
+    pad-sets n l v (omega arith)
+
+pub number-length : (k v : ℕ) → length (numberBytes k v) ≡ k
+unfolding numberBytes
+number-length zero v = refl
+number-length (suc k) v = omega (arith, number-length k (v / 256))
+
+-- the record, from its bytes
+pub automaton-made : (bytes classes accepting next : List ℕ) → length bytes ≡ automatonSize
+    → classes ≡ sets (replicate maxSymbols 0) 0 (take maxSymbols (drop automatonClasses bytes))
+    → accepting ≡ sets (replicate maxStates 0) 0 (take maxStates (drop automatonAccepting bytes))
+    → next ≡ sets (replicate maxNext 0) 0 (take maxNext (drop automatonNext bytes))
+    → _≡_ {A = Automaton}
+    (record {
+      states = byteAt bytes automatonStates;
+      symbols = byteAt bytes automatonSymbols;
+      capacity = byteAt bytes automatonCapacity;
+      initial = byteAt bytes automatonInitial;
+      classes = classes;
+      accepting = accepting;
+      next = next;
+    })
+    (automatonOf bytes)
+unfolding automatonOf
+automaton-made bytes classes accepting next long c f n =
+    let x = c ∙ part-copied automatonClasses maxSymbols bytes (omega arith) in
+    let y = f ∙ part-copied automatonAccepting maxStates bytes (omega arith) in
+    let z = n ∙ part-copied automatonNext maxNext bytes (omega arith) in
+    λ i.
+    record {
+      states = byteAt bytes automatonStates;
+      symbols = byteAt bytes automatonSymbols;
+      capacity = byteAt bytes automatonCapacity;
+      initial = byteAt bytes automatonInitial;
+      classes = x i;
+      accepting = y i;
+      next = z i;
+    }
+
+pub configuration-made : (bytes buffer : List ℕ) → length bytes ≡ configurationSize
+    → buffer ≡ sets (replicate maxCapacity 0) 0 (take maxCapacity (drop configurationBuffer bytes))
+    → _≡_ {A = Configuration}
+    (record { state = byteAt bytes configurationState; held = byteAt bytes configurationHeld; buffer = buffer })
+    (configurationOf bytes)
+unfolding configurationOf
+configuration-made bytes buffer long b =
+    let x = b ∙ part-copied configurationBuffer maxCapacity bytes (omega arith) in
+    λ i. record { state = byteAt bytes configurationState; held = byteAt bytes configurationHeld; buffer = x i }
+
+-- the bytes of a record: four numbers, then three arrays, each stored behind what stands already
+pub automaton-laid : (a : Automaton) (x y z : List ℕ)
+    → length (a .classes) ≡ maxSymbols → length (a .accepting) ≡ maxStates → length (a .next) ≡ maxNext
+    → x ≡ sets
+    (sets (replicate automatonSize 0) automatonStates (a .states ∷ a .symbols ∷ a .capacity ∷ a .initial ∷ []))
+    automatonClasses
+    (take maxSymbols (drop 0 (a .classes)))
+    → y ≡ sets x automatonAccepting (take maxStates (drop 0 (a .accepting)))
+    → z ≡ sets y automatonNext (take maxNext (drop 0 (a .next)))
+    → z ≡ automatonBytes a
+unfolding automatonBytes
+automaton-laid a x y z c f n xs ys zs =
+    let head : List ℕ = a .states ∷ a .symbols ∷ a .capacity ∷ a .initial ∷ [] in
+    let to-classes : List ℕ = head ++ a .classes in
+    let to-flags : List ℕ = to-classes ++ a .accepting in
+    let size = automatonSize in
+    let one : x ≡ pad size to-classes =
+    xs ∙
+    ap (λ b. sets b automatonClasses (take maxSymbols (drop 0 (a .classes)))) (pad-stored size head (omega arith)) ∙
+    pad-array size automatonClasses maxSymbols head (a .classes) refl c (omega arith) in
+    let k1 : length to-classes ≡ automatonAccepting = simp length-append (omega arith) in
+    let two : y ≡ pad size to-flags =
+    ys ∙
+    ap (λ b. sets b automatonAccepting (take maxStates (drop 0 (a .accepting)))) one ∙
+    pad-array size automatonAccepting maxStates to-classes (a .accepting) k1 f (omega arith) in
+    let k2 : length to-flags ≡ automatonNext = length-append to-classes (a .accepting) ∙ omega arith in
+    let three : z ≡ pad size (to-flags ++ a .next) =
+    zs ∙
+    ap (λ b. sets b automatonNext (take maxNext (drop 0 (a .next)))) two ∙
+    pad-array size automatonNext maxNext to-flags (a .next) k2 n (omega arith) in
+    let k3 : length (to-flags ++ a .next) ≡ size = length-append to-flags (a .next) ∙ omega arith in
+    three ∙
+    pad-full size (to-flags ++ a .next) k3 ∙
+    append-assoc to-classes (a .accepting) (a .next) ∙
+    append-assoc head (a .classes) (a .accepting ++ a .next)
+
+pub configuration-laid : (c : Configuration) (x : List ℕ) → length (c .buffer) ≡ maxCapacity
+    → x ≡ sets
+    (sets (replicate configurationSize 0) configurationState (c .state ∷ c .held ∷ []))
+    configurationBuffer
+    (take maxCapacity (drop 0 (c .buffer)))
+    → x ≡ configurationBytes c
+unfolding configurationBytes
+configuration-laid c x b xs =
+    let head : List ℕ = c .state ∷ c .held ∷ [] in
+    let size = configurationSize in
+    xs ∙
+    ap (λ l. sets l configurationBuffer (take maxCapacity (drop 0 (c .buffer)))) (pad-stored size head (omega arith)) ∙
+    pad-array size configurationBuffer maxCapacity head (c .buffer) refl b (omega arith) ∙
+    pad-full size (head ++ c .buffer) (simp length-append (omega arith))
+
+-- a byte more of a number
+module _ (bytes whole : List ℕ) (i w later : ℕ) where
+  pub number-more : i < w → sets bytes i (numberBytes (w - i) later) ≡ whole
+      → sets (set bytes i (later % 256)) (i + 1) (numberBytes (w - (i + 1)) (later / 256)) ≡ whole
+  unfolding numberBytes
+  number-more l so-far =
+      let e : suc (w - (i + 1)) ≡ w - i = omega arith in
+      let f : i + 1 ≡ suc i = omega arith in
+      ap (λ j. sets (set bytes i (later % 256)) j (numberBytes (w - (i + 1)) (later / 256))) f ∙
+      ap (λ k. sets bytes i (numberBytes k later)) e ∙
+      so-far
+
+  pub number-done : w ≤ i → i ≤ w → sets bytes i (numberBytes (w - i) later) ≡ whole → bytes ≡ whole
+  unfolding numberBytes
+  number-done l m so-far = let e : 0 ≡ w - i = omega arith in ap (λ k. sets bytes i (numberBytes k later)) e ∙ so-far
+
+pub number-laid : (v : ℕ) (x : List ℕ) → x ≡ sets (replicate numberSize 0) 0 (numberBytes numberSize v)
+    → x ≡ numberBytes numberSize v
+number-laid v x h = h ∙ sets-whole (replicate numberSize 0) (numberBytes numberSize v) (sym (number-length numberSize v))
+
+-- a flag as a byte
+pub flag-byte : (b : Bool) → boolByte b ≡ cond b 1 0
+flag-byte true = refl
+flag-byte false = refl
+
+pub received-laid : (r : Received) (x : List ℕ) → length (r .emitted) ≡ maxEmitted
+    → x ≡ sets (replicate receivedSize 0) receivedEmitted (take maxEmitted (drop 0 (r .emitted)))
+    → set (set x receivedCount (r .count)) receivedWinning (boolByte (r .winning)) ≡ receivedBytes r
+unfolding receivedBytes
+received-laid r x e xs =
+    let size = receivedSize in
+    let tail : List ℕ = r .count ∷ cond (r .winning) 1 0 ∷ [] in
+    let one : x ≡ pad size (r .emitted) =
+    xs ∙
+    ap (λ l. sets (replicate size 0) 0 l) (take-all maxEmitted (r .emitted) (omega arith)) ∙
+    pad-stored size (r .emitted) (omega arith) in
+    ap (λ b. set (set x receivedCount (r .count)) receivedWinning b) (flag-byte (r .winning)) ∙
+    ap (λ l. sets l receivedCount tail) one ∙
+    ap (λ i. sets (pad size (r .emitted)) i tail) (sym e) ∙
+    pad-sets size (r .emitted) tail (omega arith) ∙
+    pad-full size (r .emitted ++ tail) (simp length-append (omega arith))
+
+pub ran-laid : (r : Ran) (n m x y : List ℕ) → n ≡ numberBytes numberSize (r .length) → m ≡ numberBytes numberSize (r .refused)
+    → x ≡ sets (replicate ranSize 0) ranLength (take numberSize (drop 0 n))
+    → y ≡ sets x ranRefused (take numberSize (drop 0 m))
+    → y ≡ ranBytes r
+unfolding ranBytes
+ran-laid r n m x y e f xs ys =
+    let a : length n ≡ numberSize = ap length e ∙ number-length numberSize (r .length) in
+    let b : length m ≡ numberSize = ap length f ∙ number-length numberSize (r .refused) in
+    let one : x ≡ pad ranSize n =
+    xs ∙ ap (λ l. sets (replicate ranSize 0) 0 l) (take-all numberSize n (omega arith)) ∙ pad-stored ranSize n (omega arith) in
+    ys ∙
+    ap (λ l. sets l ranRefused (take numberSize (drop 0 m))) one ∙
+    pad-array ranSize ranRefused numberSize n m a b (omega arith) ∙
+    pad-full ranSize (n ++ m) (length-append n m ∙ omega arith) ∙
+    rw (e, f)

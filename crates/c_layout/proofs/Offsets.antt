@@ -1,0 +1,138 @@
+-- Proof of what stands at each offset.
+use Prim.Native.Nat.{ℕ, zero, suc, _+_, _*_, _/_, _%_, _^_, _<_}
+use mathlib.Core.Path.{_≡_, refl, sym, _∙_, ap}
+use mathlib.Core.Bool.{Bool, true, cond}
+use mathlib.Core.List.{List, [], _∷_, _++_, append-nil}
+use native.Mathlib.Nat.{zero-add, div-one, div-div-eq-div-mul, mul-comm, pow-suc}
+use native.Mathlib.Omega.{arith}
+use lib.ListN.{length, getD, take, drop, length-append, List·getD-append}
+use lib.Seq.{getD-take, getD-drop, getD-append-add, getD-at, take-at, drop-at}
+use Rattle.automaton.specs.declared.Automaton.{Automaton}
+use Rattle.automaton.specs.Automaton.{step, shaped}
+use Rattle.configuration.specs.declared.Configuration.{Configuration}
+use Rattle.monitor_answers.specs.declared.Received.{Received}
+use Rattle.monitor_answers.specs.declared.Ran.{Ran}
+use Rattle.c_layout.specs.Offsets.{maxSymbols, maxStates, maxNext, maxCapacity, maxEmitted}
+use Rattle.c_layout.specs.Offsets.{automatonSize, automatonClasses, automatonAccepting, automatonNext}
+use Rattle.c_layout.specs.Offsets.{configurationSize, configurationBuffer, numberSize, receivedCount, receivedWinning}
+use Rattle.c_layout.specs.Layout.{byteAt, part, automatonOf, automatonBytes, configurationOf, configurationBytes}
+use Rattle.c_layout.specs.Layout.{numberOf, numberBytes}
+use Rattle.c_layout.specs.Answers.{statusBytes, receivedBytes, ranBytes, verdictBytes}
+use Rattle.c_layout.specs.Calls.{receivedLeft, ranLeft}
+use Rattle.c_layout.specs.Claims.{YesOrNo, NumberAt, AutomatonIn, ConfigurationIn, ReceivedIn, RanIn, OffsetsHold}
+use Rattle.c_layout.proofs.Laying.{number-length}
+use Rattle.c_layout.proofs.Trips.{shaped-lengths, automaton-kept, configuration-kept, number-kept}
+
+-- a byte of a part
+part-byte : (at n i : ℕ) (bytes : List ℕ) → i < n → byteAt bytes (at + i) ≡ getD (part at n bytes) i 0
+unfolding part
+part-byte at n i bytes h = sym (getD-take n (drop at bytes) i 0 h ∙ getD-drop at bytes i 0)
+
+yes-or-no : (b : Bool) → YesOrNo b (cond b 1 0)
+yes-or-no b = (λ h. rw h refl, λ h. rw h refl)
+
+automaton-out : (bytes : List ℕ) → length bytes ≡ automatonSize → AutomatonIn (automatonOf bytes) bytes
+unfolding automatonOf step
+automaton-out bytes long =
+    record {
+      size = long;
+      states = refl;
+      symbols = refl;
+      capacity = refl;
+      initial = refl;
+      classes = λ e h. part-byte automatonClasses maxSymbols e bytes h;
+      accepting = λ q h. part-byte automatonAccepting maxStates q bytes h;
+      next = λ q e h k.
+          ap (byteAt bytes) (omega arith) ∙ part-byte automatonNext maxNext (q * maxSymbols + e) bytes (omega arith);
+    }
+
+configuration-out : (bytes : List ℕ) → length bytes ≡ configurationSize → ConfigurationIn (configurationOf bytes) bytes
+unfolding configurationOf
+configuration-out bytes long =
+    record { size = long; state = refl; held = refl; buffer = λ i h. part-byte configurationBuffer maxCapacity i bytes h }
+
+-- a record's bytes, and a configuration's
+automaton-in : (a : Automaton) → shaped a ≡ true → AutomatonIn a (automatonBytes a)
+unfolding automatonBytes
+automaton-in a h =
+    let (x, y, z) = shaped-lengths a h in
+    let long : length (automatonBytes a) ≡ automatonSize = simp length-append (omega arith) in
+    rw (automaton-kept a h) at (automaton-out (automatonBytes a) long)
+
+configuration-in : (c : Configuration) → length (c .buffer) ≡ maxCapacity → ConfigurationIn c (configurationBytes c)
+unfolding configurationBytes
+configuration-in c h =
+    let long : length (configurationBytes c) ≡ configurationSize = omega arith in
+    rw (configuration-kept c h) at (configuration-out (configurationBytes c) long)
+
+-- byte i of a number
+number-byte : (width i v : ℕ) → i < width → byteAt (numberBytes width v) i ≡ v / 256 ^ i % 256
+unfolding numberBytes
+number-byte zero i v h = absurd (omega arith)
+number-byte (suc width) zero v h = ap (λ x. x % 256) (sym (div-one v))
+number-byte (suc width) (suc i) v h =
+    number-byte width i (v / 256) (omega arith) ∙
+    ap (λ x. x % 256) (div-div-eq-div-mul v 256 (256 ^ i) ∙ ap (λ x. v / x) (mul-comm 256 (256 ^ i) ∙ sym (pow-suc 256 i)))
+
+-- a number that stands behind other bytes and before others
+number-at : (v : ℕ) (front later : List ℕ) → NumberAt v (length front) (front ++ (numberBytes numberSize v ++ later))
+unfolding part
+number-at v front later =
+    let bytes = numberBytes numberSize v in
+    let long : length bytes ≡ numberSize = number-length numberSize v in
+    record {
+      low-first = λ i h.
+          getD-append-add front (bytes ++ later) i 0 ∙
+          List·getD-append bytes later 0 i (omega arith) ∙
+          number-byte numberSize i v h;
+      value = λ h.
+          ap (λ l. numberOf (take numberSize l)) (drop-at front (bytes ++ later) (length front) refl) ∙
+          ap numberOf (take-at bytes later numberSize long) ∙
+          number-kept numberSize v h;
+    }
+
+number-in : (v : ℕ) → (length (numberBytes numberSize v) ≡ numberSize) × NumberAt v 0 (numberBytes numberSize v)
+number-in v =
+    (number-length numberSize v, rw (append-nil (numberBytes numberSize v)) at (number-at v [] []))
+
+received-in : (r : Received) → length (r .emitted) ≡ maxEmitted → ReceivedIn r (receivedLeft r .answer)
+unfolding receivedLeft receivedBytes
+received-in r long =
+    let flag : ℕ = cond (r .winning) 1 0 in
+    let tail : List ℕ = r .count ∷ flag ∷ [] in
+    let bytes = r .emitted ++ tail in
+    let last : byteAt bytes receivedWinning ≡ flag = ap (byteAt bytes) (omega arith) ∙ getD-append-add (r .emitted) tail 1 0 in
+    record {
+      size = simp length-append (omega arith);
+      emitted = λ i h. ap (byteAt bytes) (zero-add i) ∙ List·getD-append (r .emitted) tail 0 i (omega arith);
+      count = getD-at (r .emitted) (r .count) (flag ∷ []) 0 receivedCount long;
+      winning = rw last (yes-or-no (r .winning));
+    }
+
+ran-in : (r : Ran) (out : List ℕ) → RanIn r (ranLeft r out .answer)
+unfolding ranLeft ranBytes
+ran-in r out =
+    let n = numberBytes numberSize (r .length) in
+    let m = numberBytes numberSize (r .refused) in
+    let long : length n ≡ numberSize = number-length numberSize (r .length) in
+    let last : NumberAt (r .refused) (length n) (n ++ (m ++ [])) = number-at (r .refused) n [] in
+    record {
+      size = length-append n m ∙ omega (arith, number-length numberSize (r .refused));
+      written = number-at (r .length) [] m;
+      refused = rw (long, append-nil m) at last;
+    }
+
+pub offsets-hold : OffsetsHold
+unfolding statusBytes verdictBytes
+offsets-hold =
+    record {
+      automaton = automaton-in;
+      automaton-out = automaton-out;
+      configuration = configuration-in;
+      configuration-out = configuration-out;
+      number = number-in;
+      status = λ s. record { size = refl; winning = yes-or-no (s .winning) };
+      received = received-in;
+      ran = ran-in;
+      verdict = λ v. record { size = refl; may-rest = yes-or-no (v .«may_rest»); can-rest = yes-or-no (v .«can_rest») };
+    }

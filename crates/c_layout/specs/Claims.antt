@@ -1,0 +1,152 @@
+-- What is proved of the layout: what stands at each offset, and that nothing is lost on the way
+-- into bytes or out of them.
+use Prim.Native.Nat.{ℕ, _+_, _*_, _/_, _%_, _<_, _^_}
+use mathlib.Core.Path.{_≡_}
+use mathlib.Core.Bool.{Bool, true, false}
+use mathlib.Core.List.{List}
+use lib.ListN.{length, getD, replicate}
+use Rattle.automaton.specs.declared.Automaton.{Automaton}
+use Rattle.automaton.specs.Automaton.{class, flag, step, shaped}
+use Rattle.configuration.specs.declared.Configuration.{Configuration}
+use Rattle.configuration.specs.Configuration.{initialOf, initialAnswer}
+use Rattle.game.specs.declared.Verdict.{Verdict}
+use Rattle.monitor_answers.specs.declared.Status.{Status}
+use Rattle.monitor_answers.specs.declared.Received.{Received}
+use Rattle.monitor_answers.specs.declared.Ran.{Ran}
+use Rattle.monitor_answers.specs.Answers.{received, ran}
+use Rattle.c_layout.specs.Offsets.{maxStates, maxSymbols, maxCapacity, maxEmitted}
+use Rattle.c_layout.specs.Offsets.{automatonSize, automatonStates, automatonSymbols, automatonCapacity, automatonInitial}
+use Rattle.c_layout.specs.Offsets.{automatonClasses, automatonAccepting, automatonNext}
+use Rattle.c_layout.specs.Offsets.{configurationSize, configurationState, configurationHeld, configurationBuffer}
+use Rattle.c_layout.specs.Offsets.{numberSize, statusSize, receivedSize, receivedEmitted, receivedCount, receivedWinning}
+use Rattle.c_layout.specs.Offsets.{ranSize, ranLength, ranRefused, verdictSize, verdictMayRest, verdictCanRest}
+use Rattle.c_layout.specs.Layout.{byteAt, part, automatonOf, automatonBytes, configurationOf, configurationBytes}
+use Rattle.c_layout.specs.Layout.{numberOf, numberBytes}
+use Rattle.c_layout.specs.Answers.{statusBytes, verdictBytes}
+use Rattle.c_layout.specs.Calls.{initialBytes, receivedLeft, ranLeft, receiveLeaves, runLeaves}
+
+-- What stands at each offset, in the header's words.
+
+-- a yes-or-no: 1 or 0
+abbrev pub YesOrNo : Bool → ℕ → Type 0
+YesOrNo b byte = (b ≡ true → byte ≡ 1) × (b ≡ false → byte ≡ 0)
+
+-- a number from a place on: eight bytes, low byte first
+pub record NumberAt (v place : ℕ) (bytes : List ℕ) : Type 0 where
+  pub low-first : (i : ℕ) → i < numberSize → byteAt bytes (place + i) ≡ v / 256 ^ i % 256
+  pub value : v < 2 ^ 64 → numberOf (part place numberSize bytes) ≡ v
+
+pub record AutomatonIn (a : Automaton) (bytes : List ℕ) : Type 0 where
+  pub size : length bytes ≡ automatonSize
+  pub states : byteAt bytes automatonStates ≡ a .states
+  pub symbols : byteAt bytes automatonSymbols ≡ a .symbols
+  pub capacity : byteAt bytes automatonCapacity ≡ a .capacity
+  pub initial : byteAt bytes automatonInitial ≡ a .initial
+  pub classes : (e : ℕ) → e < maxSymbols → byteAt bytes (automatonClasses + e) ≡ class a e
+  pub accepting : (q : ℕ) → q < maxStates → byteAt bytes (automatonAccepting + q) ≡ flag a q
+  pub next : (q e : ℕ) → q < maxStates → e < maxSymbols → byteAt bytes (automatonNext + q * maxSymbols + e) ≡ step a q e
+
+pub record ConfigurationIn (c : Configuration) (bytes : List ℕ) : Type 0 where
+  pub size : length bytes ≡ configurationSize
+  pub state : byteAt bytes configurationState ≡ c .state
+  pub held : byteAt bytes configurationHeld ≡ c .held
+  pub buffer : (i : ℕ) → i < maxCapacity → byteAt bytes (configurationBuffer + i) ≡ getD (c .buffer) i 0
+
+pub record StatusIn (s : Status) (bytes : List ℕ) : Type 0 where
+  pub size : length bytes ≡ statusSize
+  pub winning : YesOrNo (s .winning) (byteAt bytes 0)
+
+pub record ReceivedIn (r : Received) (bytes : List ℕ) : Type 0 where
+  pub size : length bytes ≡ receivedSize
+  pub emitted : (i : ℕ) → i < maxEmitted → byteAt bytes (receivedEmitted + i) ≡ getD (r .emitted) i 0
+  pub count : byteAt bytes receivedCount ≡ r .count
+  pub winning : YesOrNo (r .winning) (byteAt bytes receivedWinning)
+
+pub record RanIn (r : Ran) (bytes : List ℕ) : Type 0 where
+  pub size : length bytes ≡ ranSize
+  pub written : NumberAt (r .length) ranLength bytes
+  pub refused : NumberAt (r .refused) ranRefused bytes
+
+pub record VerdictIn (v : Verdict) (bytes : List ℕ) : Type 0 where
+  pub size : length bytes ≡ verdictSize
+  pub may-rest : YesOrNo (v .«may_rest») (byteAt bytes verdictMayRest)
+  pub can-rest : YesOrNo (v .«can_rest») (byteAt bytes verdictCanRest)
+
+-- so it is with what the calls lay and take out (arrays have the lengths that their types give)
+pub record OffsetsHold : Type 0 where
+  pub automaton : (a : Automaton) → shaped a ≡ true → AutomatonIn a (automatonBytes a)
+  pub automaton-out : (bytes : List ℕ) → length bytes ≡ automatonSize → AutomatonIn (automatonOf bytes) bytes
+  pub configuration : (c : Configuration) → length (c .buffer) ≡ maxCapacity → ConfigurationIn c (configurationBytes c)
+  pub configuration-out : (bytes : List ℕ) → length bytes ≡ configurationSize → ConfigurationIn (configurationOf bytes) bytes
+  pub number : (v : ℕ) → (length (numberBytes numberSize v) ≡ numberSize) × NumberAt v 0 (numberBytes numberSize v)
+  pub status : (s : Status) → StatusIn s (statusBytes s)
+  pub received : (r : Received) → length (r .emitted) ≡ maxEmitted → ReceivedIn r (receivedLeft r .answer)
+  pub ran : (r : Ran) (out : List ℕ) → RanIn r (ranLeft r out .answer)
+  pub verdict : (v : Verdict) → VerdictIn v (verdictBytes v)
+
+-- a record comes back from its bytes, and its bytes from it
+abbrev pub AutomatonKept : Type 0
+AutomatonKept = (a : Automaton) → shaped a ≡ true → automatonOf (automatonBytes a) ≡ a
+
+abbrev pub AutomatonBytesKept : Type 0
+AutomatonBytesKept = (bytes : List ℕ) → length bytes ≡ automatonSize → automatonBytes (automatonOf bytes) ≡ bytes
+
+-- so does a configuration
+abbrev pub ConfigurationKept : Type 0
+ConfigurationKept = (c : Configuration) → length (c .buffer) ≡ maxCapacity → configurationOf (configurationBytes c) ≡ c
+
+abbrev pub ConfigurationBytesKept : Type 0
+ConfigurationBytesKept = (bytes : List ℕ) → length bytes ≡ configurationSize → configurationBytes (configurationOf bytes) ≡ bytes
+
+-- a number comes back where the bytes are enough for it
+abbrev pub NumberKept : Type 0
+NumberKept = (width v : ℕ) → v < 256 ^ width → numberOf (numberBytes width v) ≡ v
+
+-- a call leaves what it answers by value: the refusal and a day's output as they are, the
+-- configuration in its bytes
+pub record LeftAsAnswered : Type 0 where
+  pub event-refusal : (r : Received) → receivedLeft r .refusal ≡ r .refusal
+  pub event-configuration : (r : Received) → receivedLeft r .configuration ≡ configurationBytes (r .configuration)
+  pub run-refusal : (r : Ran) (out : List ℕ) → ranLeft r out .refusal ≡ r .refusal
+  pub run-configuration : (r : Ran) (out : List ℕ) → ranLeft r out .configuration ≡ configurationBytes (r .configuration)
+  pub run-output : (r : Ran) (out : List ℕ) → ranLeft r out .output ≡ out
+
+-- a refused call leaves the lent configuration as it was, and a day its output; of its answer
+-- every byte is 0
+abbrev pub RefusedInitialKeeps : Type 0
+RefusedInitialKeeps =
+    (record-bytes lent : List ℕ) → (initialAnswer (automatonOf record-bytes) .refusal ≡ 0 → ⊥)
+    → initialBytes record-bytes lent ≡ lent
+
+abbrev pub RefusedEventKeeps : Type 0
+RefusedEventKeeps =
+    (record-bytes t c : List ℕ) (e : ℕ) → length c ≡ configurationSize
+    → (received (automatonOf record-bytes) t (configurationOf c) e .refusal ≡ 0 → ⊥)
+    → let x = receiveLeaves record-bytes t c e in
+    (x .configuration ≡ c) × (x .answer ≡ replicate receivedSize 0)
+
+abbrev pub RefusedRunKeeps : Type 0
+RefusedRunKeeps =
+    (record-bytes t c events out : List ℕ) → length c ≡ configurationSize
+    → (ran (automatonOf record-bytes) t (configurationOf c) events out .refusal ≡ 0 → ⊥)
+    → let x = runLeaves record-bytes t c events out in
+    (x .configuration ≡ c) × (x .answer ≡ replicate ranSize 0) × (x .output ≡ out)
+
+-- what a call hands back is what the next call takes out of the lent bytes, so a list of calls
+-- over lent bytes is that list of calls
+abbrev pub InitialHandedOn : Type 0
+InitialHandedOn =
+    (record-bytes lent : List ℕ) → initialAnswer (automatonOf record-bytes) .refusal ≡ 0
+    → configurationOf (initialBytes record-bytes lent) ≡ initialOf (automatonOf record-bytes)
+
+abbrev pub EventHandedOn : Type 0
+EventHandedOn =
+    (record-bytes t c : List ℕ) (e : ℕ) → length c ≡ configurationSize
+    → configurationOf (receiveLeaves record-bytes t c e .configuration)
+    ≡ received (automatonOf record-bytes) t (configurationOf c) e .configuration
+
+abbrev pub RunHandedOn : Type 0
+RunHandedOn =
+    (record-bytes t c events out : List ℕ) → length c ≡ configurationSize
+    → configurationOf (runLeaves record-bytes t c events out .configuration)
+    ≡ ran (automatonOf record-bytes) t (configurationOf c) events out .configuration

@@ -1,0 +1,57 @@
+-- How the record, the configuration and numbers lie in the bytes that a caller lends.
+use Prim.Native.Nat.{ℕ, zero, suc, _+_, _*_, _/_, _%_}
+use mathlib.Core.List.{List, [], _∷_, _++_}
+use lib.ListN.{getD, take, drop}
+use Rattle.automaton.specs.declared.Automaton.{Automaton}
+use Rattle.configuration.specs.declared.Configuration.{Configuration}
+use Rattle.c_layout.specs.Offsets.{maxStates, maxSymbols, maxNext, maxCapacity}
+use Rattle.c_layout.specs.Offsets.{automatonStates, automatonSymbols, automatonCapacity, automatonInitial}
+use Rattle.c_layout.specs.Offsets.{automatonClasses, automatonAccepting, automatonNext}
+use Rattle.c_layout.specs.Offsets.{configurationState, configurationHeld, configurationBuffer}
+
+-- the byte at a place
+abbrev pub byteAt : List ℕ → ℕ → ℕ
+byteAt bytes place = getD bytes place 0
+
+-- `count` bytes from a place on
+unfoldable pub part : ℕ → ℕ → List ℕ → List ℕ
+part at count bytes = take count (drop at bytes)
+
+-- the record (document 01's sheet): four numbers, the classes, the flags, the next states
+unfoldable pub automatonBytes : Automaton → List ℕ
+automatonBytes a =
+    (a .states ∷ a .symbols ∷ a .capacity ∷ a .initial ∷ []) ++ (a .classes ++ (a .accepting ++ a .next))
+
+unfoldable pub automatonOf : List ℕ → Automaton
+automatonOf bytes =
+    record {
+      states = byteAt bytes automatonStates;
+      symbols = byteAt bytes automatonSymbols;
+      capacity = byteAt bytes automatonCapacity;
+      initial = byteAt bytes automatonInitial;
+      classes = part automatonClasses maxSymbols bytes;
+      accepting = part automatonAccepting maxStates bytes;
+      next = part automatonNext maxNext bytes;
+    }
+
+-- the configuration (document 01's carried state): the state, how many are held, the places of the
+-- buffer
+unfoldable pub configurationBytes : Configuration → List ℕ
+configurationBytes c = (c .state ∷ c .held ∷ []) ++ c .buffer
+
+unfoldable pub configurationOf : List ℕ → Configuration
+configurationOf bytes =
+    record {
+      state = byteAt bytes configurationState;
+      held = byteAt bytes configurationHeld;
+      buffer = part configurationBuffer maxCapacity bytes;
+    }
+
+-- a number in `width` bytes, low byte first
+unfoldable pub numberBytes : ℕ → ℕ → List ℕ
+numberBytes zero v = []
+numberBytes (suc width) v = v % 256 ∷ numberBytes width (v / 256)
+
+unfoldable pub numberOf : List ℕ → ℕ
+numberOf [] = 0
+numberOf (b ∷ bytes) = b + 256 * numberOf bytes

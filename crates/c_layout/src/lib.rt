@@ -1,0 +1,59 @@
+// How the record, the configuration, numbers and answers lie in the bytes that a caller from
+// another language lends: the layout is defined in specs/, and what holds of it is proved here.
+// The crates `c_records` and `c_answers` lay values into bytes and take them out, with the sizes
+// and offsets below: the numbers of specs/Offsets.antt.
+
+// How many places the arrays of a record, of a configuration and of an answer have.
+pub const MAX_STATES: usize = 32;
+
+pub const MAX_SYMBOLS: usize = 16;
+
+pub const MAX_NEXT: usize = MAX_STATES * MAX_SYMBOLS;
+
+pub const MAX_CAPACITY: usize = 6;
+
+pub const MAX_EMITTED: usize = 7;
+
+pub const AUTOMATON_SIZE: usize = 564;
+
+pub const AUTOMATON_STATES: usize = 0;
+
+pub const AUTOMATON_SYMBOLS: usize = 1;
+
+pub const AUTOMATON_CAPACITY: usize = 2;
+
+pub const AUTOMATON_INITIAL: usize = 3;
+
+pub const AUTOMATON_CLASSES: usize = 4;
+
+pub const AUTOMATON_ACCEPTING: usize = 20;
+
+pub const AUTOMATON_NEXT: usize = 52;
+
+pub const CONFIGURATION_SIZE: usize = 8;
+
+pub const CONFIGURATION_STATE: usize = 0;
+
+pub const CONFIGURATION_HELD: usize = 1;
+
+pub const CONFIGURATION_BUFFER: usize = 2;
+
+pub const NUMBER_SIZE: usize = 8;
+
+pub const STATUS_SIZE: usize = 1;
+
+pub const RECEIVED_SIZE: usize = 9;
+
+pub const RECEIVED_EMITTED: usize = 0;
+
+pub const RECEIVED_COUNT: usize = 7;
+
+pub const RECEIVED_WINNING: usize = 8;
+
+pub const RAN_SIZE: usize = 16;
+
+pub const RAN_LENGTH: usize = 0;
+
+pub const RAN_REFUSED: usize = 8;
+
+pub const VERDICT_SIZE: usize = 2;

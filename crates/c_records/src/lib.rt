@@ -1,0 +1,79 @@
+// How an automaton and a configuration lie in the bytes that a caller lends: into bytes and out of
+// them.
+use automaton::Automaton;
+use base::copy;
+use c_layout::AUTOMATON_ACCEPTING;
+use c_layout::AUTOMATON_CAPACITY;
+use c_layout::AUTOMATON_CLASSES;
+use c_layout::AUTOMATON_INITIAL;
+use c_layout::AUTOMATON_NEXT;
+use c_layout::AUTOMATON_SIZE;
+use c_layout::AUTOMATON_STATES;
+use c_layout::AUTOMATON_SYMBOLS;
+use c_layout::CONFIGURATION_BUFFER;
+use c_layout::CONFIGURATION_HELD;
+use c_layout::CONFIGURATION_SIZE;
+use c_layout::CONFIGURATION_STATE;
+use c_layout::MAX_CAPACITY;
+use c_layout::MAX_NEXT;
+use c_layout::MAX_STATES;
+use c_layout::MAX_SYMBOLS;
+use configuration::Configuration;
+ghost use mathlib.Core.Path.{_≡_};
+ghost use Rattle.c_layout.specs.Layout.{automatonOf, automatonBytes, configurationOf, configurationBytes};
+
+pub fn automaton_of(bytes: &[u8; AUTOMATON_SIZE]) -> Automaton
+    ensures { λ r. ⌜ r ≡ automatonOf (now (bytes .entry)) ⌝ }
+{
+    let mut classes = [0u8; MAX_SYMBOLS];
+    copy(bytes, AUTOMATON_CLASSES, MAX_SYMBOLS, &mut classes, 0);
+    let mut accepting = [0u8; MAX_STATES];
+    copy(bytes, AUTOMATON_ACCEPTING, MAX_STATES, &mut accepting, 0);
+    let mut next = [0u8; MAX_NEXT];
+    copy(bytes, AUTOMATON_NEXT, MAX_NEXT, &mut next, 0);
+    Automaton {
+        states: bytes[AUTOMATON_STATES],
+        symbols: bytes[AUTOMATON_SYMBOLS],
+        capacity: bytes[AUTOMATON_CAPACITY],
+        initial: bytes[AUTOMATON_INITIAL],
+        classes,
+        accepting,
+        next,
+    }
+}
+
+pub fn automaton_bytes(a: Automaton) -> [u8; AUTOMATON_SIZE]
+    ensures { λ r. ⌜ r ≡ automatonBytes a ⌝ }
+{
+    let mut bytes = [0u8; AUTOMATON_SIZE];
+    bytes[AUTOMATON_STATES] = a.states;
+    bytes[AUTOMATON_SYMBOLS] = a.symbols;
+    bytes[AUTOMATON_CAPACITY] = a.capacity;
+    bytes[AUTOMATON_INITIAL] = a.initial;
+    copy(&a.classes, 0, MAX_SYMBOLS, &mut bytes, AUTOMATON_CLASSES);
+    copy(&a.accepting, 0, MAX_STATES, &mut bytes, AUTOMATON_ACCEPTING);
+    copy(&a.next, 0, MAX_NEXT, &mut bytes, AUTOMATON_NEXT);
+    bytes
+}
+
+pub fn configuration_of(bytes: &[u8; CONFIGURATION_SIZE]) -> Configuration
+    ensures { λ r. ⌜ r ≡ configurationOf (now (bytes .entry)) ⌝ }
+{
+    let mut buffer = [0u8; MAX_CAPACITY];
+    copy(bytes, CONFIGURATION_BUFFER, MAX_CAPACITY, &mut buffer, 0);
+    Configuration {
+        state: bytes[CONFIGURATION_STATE],
+        held: bytes[CONFIGURATION_HELD],
+        buffer,
+    }
+}
+
+pub fn configuration_bytes(c: Configuration) -> [u8; CONFIGURATION_SIZE]
+    ensures { λ r. ⌜ r ≡ configurationBytes c ⌝ }
+{
+    let mut bytes = [0u8; CONFIGURATION_SIZE];
+    bytes[CONFIGURATION_STATE] = c.state;
+    bytes[CONFIGURATION_HELD] = c.held;
+    copy(&c.buffer, 0, MAX_CAPACITY, &mut bytes, CONFIGURATION_BUFFER);
+    bytes
+}

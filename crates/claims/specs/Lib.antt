@@ -1,7 +1,0 @@
-pub mod Store
-pub mod Calls
-pub mod Moments
-pub mod Rival
-pub mod Claims
-pub mod Answers
-pub mod Published

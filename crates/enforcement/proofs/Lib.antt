@@ -1,0 +1,15 @@
+pub mod Published
+pub mod Stores
+pub mod Alone
+pub mod Replies
+pub mod Moments
+pub mod History
+pub mod Brought
+pub mod Resting
+pub mod Staying
+pub mod Driven
+pub mod Strategies
+pub mod Demand3
+pub mod Answers
+pub mod Said
+pub mod Tables

@@ -1,0 +1,7 @@
+pub mod Store
+pub mod Calls
+pub mod Moments
+pub mod Strategy
+pub mod Claims
+pub mod Answers
+pub mod Published

@@ -1,0 +1,51 @@
+-- The published function (Definition 3.10 of source document 001) in document 01's words: what it
+-- is after an event or a day, from what it was before. Nothing of the monitor's step is used,
+-- neither its release nor its tests of the rows.
+use Prim.Native.Nat.{ℕ, suc, _+_, _<_, _≤_}
+use mathlib.Core.Path.{_≡_}
+use mathlib.Core.Logic.{_⊎_}
+use mathlib.Core.List.{List, [], _∷_, _++_}
+use lib.ListN.{length}
+use Rattle.automaton.specs.declared.Automaton.{Automaton}
+use Rattle.automaton.specs.Automaton.{class, reached}
+use Rattle.solver_sets.specs.Claims.{Winning}
+use Rattle.monitor_rule.specs.Claims.{Unknown, Full, Taken, RowsOfEvent, Longest}
+use Rattle.monitor_answers.specs.Claims.{RowOfRun}
+use Rattle.enforcement.specs.Store.{Store, store, storeAll, event, events, feed, refusedOf}
+use Rattle.enforcement.specs.Calls.{receiveCall, runCall, refusalIn, expected}
+
+-- From an output and a buffer the function goes on to z: of the buffer's front parts that lead the
+-- state, which is where the output leads, into S of the rest, the longest moves to the output's
+-- end; if there is none, nothing moves.
+pub record Releases (a : Automaton) (output buffer : List ℕ) (z : Store) : Type 0 where
+  pub front : List ℕ
+  pub put-out : z .output ≡ output ++ front
+  pub longest : Longest (Winning a) a (reached a (a .initial) output) buffer front (z .buffer)
+
+pub record AsPublished (a : Automaton) (s : Store) : Type 0 where
+  -- an accepted event goes to the output's end if it is not controllable, else to the buffer's
+  pub passes : (e : ℕ) → e < a .symbols → (class a e ≡ 1 → ⊥)
+      → Releases a (s .output ++ e ∷ []) (s .buffer) (store a s e)
+  pub holds : (e : ℕ) → e < a .symbols → class a e ≡ 1 → length (s .buffer) < a .capacity
+      → Releases a (s .output) (s .buffer ++ e ∷ []) (store a s e)
+  -- an event that a row refuses, by this buffer, changes nothing
+  pub refuses : (e : ℕ) → Unknown a e ⊎ Full a (length (s .buffer)) e → store a s e ≡ s
+  -- an event is fed as it is; of a list, one after the other
+  pub event-fed : (e : ℕ) → feed a s (event e) ≡ store a s e
+  pub none-fed : storeAll a s [] ≡ s
+  pub first-fed : (e : ℕ) (es : List ℕ) → storeAll a s (e ∷ es) ≡ storeAll a (store a s e) es
+  -- a day that row 16 refuses, by this buffer, brings no event; any other brings all, in order
+  pub run-short : (es : List ℕ) (size : ℕ) → size < length es + length (s .buffer) → feed a s (events es size) ≡ s
+  pub run-fed : (es : List ℕ) (size : ℕ) → length es + length (s .buffer) ≤ size → feed a s (events es size) ≡ storeAll a s es
+  -- of a day's events those are counted that a row refuses
+  pub none-counted : refusedOf a s [] ≡ 0
+  pub counted : (e : ℕ) (es : List ℕ) → Unknown a e ⊎ Full a (length (s .buffer)) e
+      → refusedOf a s (e ∷ es) ≡ suc (refusedOf a s es)
+  pub not-counted : (e : ℕ) (es : List ℕ) → Taken a (length (s .buffer)) e → refusedOf a s (e ∷ es) ≡ refusedOf a (store a s e) es
+  -- its replies give the number of the row that refuses, and else 0
+  pub event-row : (e : ℕ) → RowsOfEvent a (length (s .buffer)) e (refusalIn (expected a s (receiveCall e)))
+  pub run-row : (es out : List ℕ) → RowOfRun (length out) es (length (s .buffer)) (refusalIn (expected a s (runCall es out)))
+
+-- so it is of every automaton and whatever was put out and is held
+abbrev pub FollowsPublished : Type 0
+FollowsPublished = (a : Automaton) (s : Store) → AsPublished a s

@@ -1,0 +1,154 @@
+-- The marked cases of document 01, as rows of one list.
+use Prim.Native.Nat.{ℕ, suc}
+use mathlib.Core.Path.{_≡_}
+use mathlib.Core.Bool.{Bool, true, false}
+use mathlib.Core.List.{List, [], _∷_, _++_, map}
+use lib.ListN.{length, replicate}
+use Rattle.base.specs.All.{AllOf}
+use Rattle.base.specs.Pad.{pad}
+use Rattle.varint.specs.Varint.{bytes, read, value}
+use Rattle.automaton.specs.declared.Automaton.{Automaton}
+use Rattle.automaton.specs.Automaton.{controllables}
+use Rattle.automaton_format.specs.Reading.{parse, parsed}
+use Rattle.solver_sets.specs.Table.{table, rounds}
+use Rattle.configuration.specs.Configuration.{configuration, initialOf}
+use Rattle.solver_answers.specs.Solving.{countAnswer}
+use Rattle.monitor_answers.specs.declared.Received.{Received}
+use Rattle.monitor_answers.specs.Answers.{status}
+use Rattle.enforcement.specs.Calls.{receiveCall, receive, replies}
+
+-- sheet V (0 Query, 1 Answer), and its record
+abbrev pub bytesV : List ℕ
+bytesV = 3 ∷ 2 ∷ 1 ∷ 0 ∷ 0 ∷ 1 ∷ 1 ∷ 0 ∷ 1 ∷ 1 ∷ 0 ∷ 1 ∷ 2 ∷ 2 ∷ 2 ∷ []
+
+unfoldable pub automatonV : Automaton
+automatonV =
+    record {
+      states = 3;
+      symbols = 2;
+      capacity = 1;
+      initial = 0;
+      classes = pad 16 (0 ∷ 1 ∷ []);
+      accepting = pad 32 (1 ∷ 0 ∷ 1 ∷ []);
+      next = pad 512 (pad 16 (1 ∷ 0 ∷ []) ++ pad 16 (1 ∷ 2 ∷ []) ++ pad 16 (2 ∷ 2 ∷ []));
+    }
+
+-- sheet W (0 Sign, 1 Withdraw, 2 Page, 3 Receipt), and its record
+abbrev pub bytesW : List ℕ
+bytesW =
+    4 ∷ 4 ∷ 2 ∷ 0 ∷
+    0 ∷ 0 ∷ 1 ∷ 1 ∷
+    1 ∷ 1 ∷ 0 ∷ 0 ∷
+    1 ∷ 0 ∷ 3 ∷ 0 ∷
+    1 ∷ 0 ∷ 2 ∷ 1 ∷
+    2 ∷ 3 ∷ 3 ∷ 1 ∷
+    3 ∷ 3 ∷ 3 ∷ 3 ∷ []
+
+unfoldable pub automatonW : Automaton
+automatonW =
+    record {
+      states = 4;
+      symbols = 4;
+      capacity = 2;
+      initial = 0;
+      classes = pad 16 (0 ∷ 0 ∷ 1 ∷ 1 ∷ []);
+      accepting = pad 32 (1 ∷ 1 ∷ 0 ∷ 0 ∷ []);
+      next = pad 512 (pad 16 (1 ∷ 0 ∷ 3 ∷ 0 ∷ []) ++ pad 16 (1 ∷ 0 ∷ 2 ∷ 1 ∷ []) ++ pad 16 (2 ∷ 3 ∷ 3 ∷ 1 ∷ [])
+          ++ pad 16 (3 ∷ 3 ∷ 3 ∷ 3 ∷ []));
+    }
+
+-- an automaton of one state with an uncontrollable symbol and k controllable ones
+unfoldable pub sized : ℕ → ℕ → Automaton
+sized k b =
+    record {
+      states = 1;
+      symbols = suc k;
+      capacity = b;
+      initial = 0;
+      classes = pad 16 (0 ∷ replicate k 1);
+      accepting = pad 32 (1 ∷ []);
+      next = replicate 512 0;
+    }
+
+-- the whole answer to an event: refusal, symbols emitted, state, held events, winning (document
+-- 01's guarded)
+abbrev pub answer : ℕ → List ℕ → ℕ → List ℕ → Bool → Received
+answer row emitted q held winning =
+    record {
+      refusal = row;
+      configuration = configuration (record { state = q; buffer = held });
+      emitted = pad 7 emitted;
+      count = length emitted;
+      winning = winning;
+    }
+
+pub data Case : Type 0 where
+  -- bytes of a sheet, its record
+  encoded : List ℕ → Automaton → Case
+  -- its table and rounds
+  solved : Automaton → List ℕ → ℕ → Case
+  -- whether it is initially winning
+  initially : Automaton → Bool → Case
+  -- events over its table, from the initial configuration on, and their answers
+  events : Automaton → List ℕ → List Received → Case
+  -- a number and its bytes
+  number : ℕ → List ℕ → Case
+  -- bytes that are not the fewest, and their number
+  padded : List ℕ → ℕ → Case
+  -- k, B and T
+  buffers : ℕ → ℕ → ℕ → Case
+
+abbrev pub Holds : Case → Type 0
+Holds (encoded s a) = parse s ≡ parsed a
+Holds (solved a t r) = (table a ≡ t) × (rounds a ≡ r)
+Holds (initially a w) = status a (table a) (initialOf a) ≡ record { refusal = 0; winning = w }
+Holds (events a es rs) = replies a (table a) (initialOf a) (map receiveCall es) ≡ map receive rs
+Holds (number v s) = (bytes v ≡ s) × (read s 0 ≡ value v (length s))
+Holds (padded s v) = read s 0 ≡ value v (length s)
+Holds (buffers k b t) = (controllables (sized k b) ≡ k) × (countAnswer (sized k b) ≡ record { refusal = 0; count = t })
+
+abbrev pub cases : List Case
+cases =
+    encoded bytesV automatonV ∷
+    encoded bytesW automatonW ∷
+    solved automatonV (4 ∷ 0 ∷ 5 ∷ 6 ∷ []) 1 ∷
+    solved automatonW (3 ∷ 0 ∷ 3 ∷ 0 ∷ 3 ∷ 7 ∷ 3 ∷ 0 ∷ 3 ∷ 2 ∷ 3 ∷ 7 ∷ 3 ∷ 7 ∷ []) 0 ∷
+    initially automatonV false ∷
+    -- Answer, Query
+    events automatonV (1 ∷ 0 ∷ [])
+    (answer 0 [] 0 (1 ∷ []) true ∷
+    answer 0 (0 ∷ 1 ∷ []) 2 [] true ∷ []) ∷
+    -- Query, Answer
+    events automatonV (0 ∷ 1 ∷ [])
+    (answer 0 (0 ∷ []) 1 [] false ∷
+    answer 0 (1 ∷ []) 2 [] true ∷ []) ∷
+    -- Page, Receipt, Sign
+    events automatonW (2 ∷ 3 ∷ 0 ∷ [])
+    (answer 0 [] 0 (2 ∷ []) true ∷
+    answer 0 [] 0 (2 ∷ 3 ∷ []) true ∷
+    answer 0 (0 ∷ 2 ∷ 3 ∷ []) 1 [] true ∷ []) ∷
+    -- Sign, Page, Withdraw
+    events automatonW (0 ∷ 2 ∷ 1 ∷ [])
+    (answer 0 (0 ∷ []) 1 [] true ∷
+    answer 0 [] 1 (2 ∷ []) true ∷
+    answer 0 (1 ∷ []) 0 (2 ∷ []) true ∷ []) ∷
+    -- Page three times
+    events automatonW (2 ∷ 2 ∷ 2 ∷ [])
+    (answer 0 [] 0 (2 ∷ []) true ∷
+    answer 0 [] 0 (2 ∷ 2 ∷ []) true ∷
+    answer 15 [] 0 (2 ∷ 2 ∷ []) false ∷ []) ∷
+    -- Sign, Receipt
+    events automatonW (0 ∷ 3 ∷ [])
+    (answer 0 (0 ∷ []) 1 [] true ∷
+    answer 0 (3 ∷ []) 1 [] true ∷ []) ∷
+    number 127 (127 ∷ []) ∷
+    number 128 (128 ∷ 1 ∷ []) ∷
+    number 2097151 (255 ∷ 255 ∷ 127 ∷ []) ∷
+    padded (128 ∷ 0 ∷ []) 0 ∷
+    buffers 2 2 7 ∷
+    buffers 0 6 1 ∷
+    buffers 8 6 299593 ∷ []
+
+-- all of them hold
+abbrev pub MarkedCases : Type 0
+MarkedCases = AllOf Holds cases

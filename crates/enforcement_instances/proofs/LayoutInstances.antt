@@ -1,0 +1,112 @@
+-- The instances of the claims on lent bytes.
+use Prim.Native.Nat.{ℕ, _+_}
+use mathlib.Core.Path.{_≡_, refl}
+use mathlib.Core.Bool.{true}
+use mathlib.Core.List.{[], _∷_}
+use native.Mathlib.Omega.{arith}
+use lib.ListN.{length, length-replicate}
+use Rattle.base.specs.Pad.{pad}
+use Rattle.automaton.specs.Automaton.{step, shaped, ranged, valid}
+use Rattle.configuration.specs.Configuration.{initialAnswer}
+use Rattle.c_layout.specs.Offsets.{automatonSize, numberSize}
+use Rattle.c_layout.specs.Layout.{part, automatonOf, configurationOf}
+use Rattle.monitor_answers.specs.Answers.{received, ran}
+use Rattle.c_layout.proofs.Offsets.{offsets-hold}
+use Rattle.c_layout.proofs.Trips.{automaton-kept, automaton-bytes-kept, configuration-kept, configuration-bytes-kept, number-kept}
+use Rattle.c_layout.proofs.Trips.{left-as-answered, refused-initial-keeps, refused-event-keeps, refused-run-keeps}
+use Rattle.c_layout.proofs.Handing.{initial-handed-on, event-handed-on, run-handed-on}
+use Rattle.enforcement_bytes.proofs.ByteCalls.{as-by-value, bytes-enforced}
+use Rattle.enforcement_cases.specs.Cases.{automatonW}
+use Rattle.enforcement_instances.proofs.Statements.{filled, tableW, onePage}
+use Rattle.enforcement_instances.proofs.Sheets.{valid-w, solved-w, computing}
+use Rattle.enforcement_instances.proofs.LayoutStatements.{recordW, anyRecord, anyBytes, atZero, signed, longRun, later, saysYes, Placed, Layouts}
+
+shaped-w : shaped automatonW ≡ true
+unfolding shaped automatonW pad
+shaped-w = refl
+
+kept-w : automatonOf recordW ≡ automatonW
+kept-w = automaton-kept automatonW shaped-w
+
+sevens : length anyRecord ≡ automatonSize
+sevens = length-replicate {A = ℕ} automatonSize 7
+
+placed : Placed
+unfolding automatonW pad step
+placed =
+    let w = offsets-hold .automaton automatonW shaped-w in
+    let c = offsets-hold .configuration onePage refl in
+    let n = offsets-hold .number 60001 in
+    let r = offsets-hold .received signed refl in
+    let d = offsets-hold .ran longRun [] in
+    let v = offsets-hold .verdict later in
+    record {
+      automaton-size = w .size;
+      states = w .states;
+      symbols = w .symbols;
+      capacity = w .capacity;
+      initial = w .initial;
+      classes = w .classes 2 (omega arith);
+      accepting = w .accepting 1 (omega arith);
+      next = w .next 2 3 (omega arith) (omega arith);
+      automaton-out = offsets-hold .automaton-out anyRecord sevens .capacity;
+      configuration-size = c .size;
+      state = c .state;
+      held = c .held;
+      buffer = c .buffer 0 (omega arith);
+      configuration-out = offsets-hold .configuration-out anyBytes refl .held;
+      number-size = n .0;
+      number-low-first = n .1 .low-first 1 (omega arith);
+      number-value = n .1 .value (omega arith);
+      status-size = offsets-hold .status saysYes .size;
+      status = offsets-hold .status saysYes .winning .0 refl;
+      received-size = r .size;
+      emitted = r .emitted 2 (omega arith);
+      count = r .count;
+      winning = r .winning .0 refl;
+      ran-size = d .size;
+      written-low-first = d .written .low-first 1 (omega arith);
+      written = d .written .value (omega arith);
+      refused = d .refused .value (omega arith);
+      verdict-size = v .size;
+      may-rest = v .may-rest .1 refl;
+      can-rest = v .can-rest .0 refl;
+    }
+
+refused-11 : initialAnswer (automatonOf anyRecord) .refusal ≡ 11
+unfolding shaped ranged valid automatonOf part initialAnswer
+refused-11 = refl
+
+accepted-w : initialAnswer (automatonOf recordW) .refusal ≡ 0
+unfolding initialAnswer
+accepted-w = rw (kept-w, valid-w)
+
+refused-14 : received (automatonOf recordW) tableW (configurationOf atZero) 4 .refusal ≡ 14
+unfolding computing part configurationOf
+refused-14 = rw kept-w refl
+
+refused-16 : ran (automatonOf recordW) tableW (configurationOf atZero) (0 ∷ []) [] .refusal ≡ 16
+unfolding computing part configurationOf
+refused-16 = rw kept-w refl
+
+pub layouts : Layouts
+unfolding pad
+layouts =
+    record {
+      offsets-hold = placed;
+      automaton-kept = kept-w;
+      automaton-bytes-kept = automaton-bytes-kept anyRecord sevens;
+      configuration-kept = configuration-kept onePage refl;
+      configuration-bytes-kept = configuration-bytes-kept anyBytes refl;
+      number-kept = number-kept numberSize 60001 (omega arith);
+      refused-initial-keeps = refused-initial-keeps anyRecord anyBytes (λ h. omega (arith, refused-11));
+      refused-event-keeps = refused-event-keeps recordW tableW atZero 4 refl (λ h. omega (arith, refused-14));
+      refused-run-keeps = refused-run-keeps recordW tableW atZero (0 ∷ []) [] refl (λ h. omega (arith, refused-16));
+      initial-handed-on = initial-handed-on recordW anyBytes accepted-w;
+      event-handed-on = event-handed-on recordW tableW atZero 0 refl;
+      run-handed-on = run-handed-on recordW tableW atZero (0 ∷ 2 ∷ []) (filled 2 9) refl;
+      left-as-answered =
+          (left-as-answered .event-refusal signed, left-as-answered .run-refusal longRun (7 ∷ []), left-as-answered .run-output longRun (7 ∷ []));
+      as-by-value = λ xs. as-by-value recordW tableW atZero refl xs;
+      bytes-enforced = λ xs. bytes-enforced recordW tableW anyBytes (rw kept-w valid-w) (rw kept-w solved-w) xs;
+    }

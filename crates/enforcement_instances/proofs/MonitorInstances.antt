@@ -1,0 +1,343 @@
+-- The instances of the claims on the monitor's calls and on the published function.
+use Prim.Native.Nat.{ℕ, suc, _*_, _<_}
+use mathlib.Core.Path.{_≡_, refl, sym, _∙_, ap}
+use mathlib.Core.Logic.{inl, inr}
+use mathlib.Core.Bool.{true, false}
+use mathlib.Core.List.{List, [], _∷_, _++_, map}
+use native.Mathlib.Omega.{arith}
+use lib.ListN.{length, take, drop, List·getD-append}
+use borrow.Author.Tests.{le-ltb}
+use Rattle.base.specs.Pad.{pad}
+use Rattle.base.specs.Masks.{has}
+use Rattle.base.proofs.Bools.{either}
+use Rattle.automaton.specs.Automaton.{accepts, reached, valid}
+use Rattle.automaton.proofs.Facts.{valid-as-worded}
+use Rattle.automaton.proofs.Classes.{class-one, flag-one}
+use Rattle.solver_sets.specs.Sets.{acceptingSet, admits, stays, refine, settle, settled, setsOf, emptySets, into, setsFor}
+use Rattle.solver_sets.specs.Table.{index, short, table}
+use Rattle.solver_sets.specs.Claims.{Winning}
+use Rattle.solver_sets.proofs.Numbering.{numbered}
+use Rattle.solver_sets.proofs.Tables.{short-as-worded}
+use Rattle.configuration.specs.Configuration.{heldEvents, consistent, configuration, initialOf}
+use Rattle.monitor_rule.specs.Step.{bySets, byTable, release}
+use Rattle.monitor_rule.specs.Claims.{Full, Longest}
+use Rattle.monitor_rule.proofs.Worded.{event-rows-as-worded, releases-longest, only-longest}
+use Rattle.monitor_answers.specs.Answers.{isWinning, status, received}
+use Rattle.monitor_answers.specs.Claims.{Clear}
+use Rattle.configuration.proofs.Facts.{consistent-as-worded}
+use Rattle.monitor_answers.proofs.Worded.{status-rows-as-worded, receive-rows-as-worded, run-rows-as-worded, room-as-worded}
+use Rattle.enforcement.specs.Store.{Store, empty, stateOf, added, moved, store, storeAll, lacksRoom, feed, feedAll, refusedOf}
+use Rattle.enforcement.specs.Store.{acceptedOf, acceptedBy, acceptedAll}
+use Rattle.enforcement.specs.Calls.{Call, handedBack, reply, fedBy, configurationAt, since, expected, expectedAll}
+use Rattle.enforcement.specs.Moments.{Moment, effectAt, within, broughtBy, broughtAll, moments}
+use Rattle.enforcement.specs.Strategy.{Lost, lostBound}
+use Rattle.enforcement.specs.Claims.{Enforced, winningAfter, outputAfter}
+use Rattle.enforcement.specs.Claims.{arrivalAt, strategyRelease, ourRelease, strategyOutput, strategyBuffer, LongerIsLost}
+use Rattle.enforcement.specs.Published.{Releases}
+use Rattle.enforcement.specs.Answers.{SameBits}
+use Rattle.enforcement.proofs.Published.{follows-published}
+use Rattle.enforcement.proofs.Tables.{table-exists}
+use Rattle.enforcement.proofs.Demand3.{demand3, demand3-solved}
+use Rattle.enforcement.proofs.Driven.{driven-out}
+use Rattle.enforcement.proofs.Said.{once-winning-said}
+use Rattle.enforcement.proofs.Answers.{flag-is-status, flag-stays, others-ignored}
+use Rattle.enforcement_cases.specs.Cases.{automatonV, automatonW}
+use Rattle.enforcement_instances.proofs.Statements.{filled, tableW, at}
+use Rattle.enforcement_instances.proofs.MonitorStatements.{wideV, startV, Rows, storeOf, twoHeld, Releasing}
+use Rattle.enforcement_instances.proofs.MonitorStatements.{calls, page, sign, withdraw, eager, answers, Fields}
+use Rattle.enforcement_instances.proofs.MonitorStatements.{longCalls, longAnswers, Day, Enforcing}
+use Rattle.enforcement_instances.proofs.Sheets.{valid-w, valid-v, solves-w, buffers-w, solved-w, solved-v, computing}
+
+-- V's start, with its table; and W with two Pages held
+clear-v : Clear automatonV (table automatonV) startV
+unfolding computing automatonV
+clear-v =
+    record {
+      record-valid = valid-v;
+      table-long = le-ltb (length (table automatonV)) _ (solved-v .long);
+      configuration-consistent = refl;
+    }
+
+clear-w : Clear automatonW tableW (configuration (at 0 (2 ∷ 2 ∷ [])))
+unfolding computing
+clear-w = record { record-valid = valid-w; table-long = refl; configuration-consistent = refl }
+
+-- what rows 11, 12 and 13 refuse
+invalid-wide : valid wideV ≡ false
+unfolding computing automatonV
+invalid-wide = refl
+
+short-three : short automatonV (filled 3 0) ≡ true
+unfolding computing automatonV
+short-three = refl
+
+inconsistent-three : consistent automatonV (configuration (at 3 [])) ≡ false
+unfolding computing automatonV
+inconsistent-three = refl
+
+pub rows : Rows
+unfolding automatonV automatonW pad heldEvents initialOf
+rows =
+    let t = table automatonV in
+    let status-rows = status-rows-as-worded automatonV t in
+    let over-w = byTable automatonW tableW in
+    let run-rows = run-rows-as-worded automatonV t startV (0 ∷ 1 ∷ []) in
+    record {
+      class-one = class-one automatonW 2 .1 refl;
+      row-11 = status-rows-as-worded wideV t startV .first-rows .row-11 .1 invalid-wide;
+      row-12 = status-rows-as-worded automatonV (filled 3 0) startV .first-rows .row-12 .1 (valid-v, short-three);
+      row-13 = status-rows (configuration (at 3 [])) .first-rows .row-13 .1 (valid-v, clear-v .table-long, inconsistent-three);
+      passed = status-rows startV .accepted .1 clear-v;
+      row-14 = receive-rows-as-worded automatonV t startV 2 .row-14 .1 (clear-v, omega arith);
+      row-15 =
+          receive-rows-as-worded automatonW tableW (configuration (at 0 (2 ∷ 2 ∷ []))) 2 .row-15 .1
+          (clear-w, (omega arith, refl, omega arith));
+      row-16 = run-rows (9 ∷ []) .row-16 .1 (clear-v, omega arith);
+      only-14 = λ p e. event-rows-as-worded over-w automatonW p e .row-14 .0;
+      only-15 = λ p h. event-rows-as-worded over-w automatonW p 2 .row-15 .0 h .2;
+      only-0 = λ p h. either (event-rows-as-worded over-w automatonW p 2 .accepted .0 h .1) (λ c. absurd (c refl)) (λ l. l);
+      event-14 = λ p. event-rows-as-worded over-w automatonW p 4 .row-14 .1 (omega arith);
+      event-0 = event-rows-as-worded over-w automatonW (at 0 []) 2 .accepted .1 (omega arith, inr (omega arith));
+      receive-11 = receive-rows-as-worded wideV t startV 0 .first-rows .row-11 .1 invalid-wide;
+      receive-0 = receive-rows-as-worded automatonV t startV 1 .accepted .1 (clear-v, (omega arith, inr (omega arith)));
+      receive-only-0 = λ e h. receive-rows-as-worded automatonW tableW (configuration (at 0 (2 ∷ 2 ∷ []))) e .accepted .0 h .1;
+      run-11 = run-rows-as-worded wideV t startV (0 ∷ 1 ∷ []) (9 ∷ []) .first-rows .row-11 .1 invalid-wide;
+      run-0 = run-rows (9 ∷ 9 ∷ []) .accepted .1 (clear-v, omega arith);
+      run-only-0 = λ out h. run-rows out .accepted .0 h .1;
+      lacks = room-as-worded 1 (0 ∷ 1 ∷ []) 0 .lacks .1 (omega arith);
+      enough = λ size h. room-as-worded size (0 ∷ 1 ∷ []) 0 .enough .0 h;
+      valid-words = λ h. valid-as-worded wideV .0 h .states-high;
+      short-words = λ l h. let k = short-as-worded automatonW l .0 h in omega (arith, buffers-w);
+      consistent-words = λ c l h. consistent-as-worded automatonV c valid-v l .0 h .state-below;
+      flag-one = flag-one automatonV 2 .1 refl;
+      only-16 = λ out h. run-rows out .row-16 .0 h .1;
+    }
+
+-- what computes calls over W's table, and their accepted events
+unfoldable calling : ℕ
+unfolding computing handedBack reply effectAt within broughtBy broughtAll moments winningAfter
+calling = 0
+
+-- what computes the published function
+unfoldable publishing : ℕ
+unfolding
+    computing acceptingSet admits stays refine settle settled setsOf emptySets into setsFor accepts bySets
+    stateOf added moved store storeAll lacksRoom feed feedAll refusedOf acceptedOf acceptedBy acceptedAll
+    fedBy configurationAt since expected expectedAll
+publishing = 0
+
+-- W's longest release
+longest-w : (q : ℕ) (w : List ℕ)
+    → let k = release (bySets automatonW) automatonW q w in Longest (Winning automatonW) automatonW q w (take k w) (drop k w)
+unfolding bySets
+longest-w = releases-longest (bySets automatonW) automatonW
+
+both-go : release (bySets automatonW) automatonW 1 (2 ∷ 3 ∷ []) ≡ 2
+unfolding publishing
+both-go = refl
+
+page-stays : release (bySets automatonW) automatonW 1 (2 ∷ []) ≡ 0
+unfolding publishing
+page-stays = refl
+
+none-goes : release (bySets automatonW) automatonW 3 (2 ∷ []) ≡ 0
+unfolding publishing
+none-goes = refl
+
+-- where an output leads W
+abbrev leads-w : List ℕ → ℕ
+leads-w output = reached automatonW (automatonW .initial) output
+
+signed : leads-w (0 ∷ []) ≡ 1
+unfolding computing
+signed = refl
+
+-- the function after a release is settled by what the longest one is
+settles : (output w v r : List ℕ) (z : Store)
+    → Releases automatonW output w z → Longest (Winning automatonW) automatonW (leads-w output) w v r → z ≡ storeOf (output ++ v) r
+settles output w v r z g l =
+    let o = only-longest (Winning automatonW) automatonW (leads-w output) w (g .front) (z .buffer) v r (g .longest) l in
+    λ i. record { output = (g .put-out ∙ ap (λ x. output ++ x) (o .0)) i; buffer = o .1 i }
+
+pub releasing : Releasing
+unfolding automatonW pad storeAll refusedOf
+releasing =
+    let go = rw both-go at (longest-w 1 (2 ∷ 3 ∷ [])) in
+    let stay = rw page-stays at (longest-w 1 (2 ∷ [])) in
+    let ready = follows-published automatonW (storeOf [] (2 ∷ 3 ∷ [])) in
+    let after-sign = follows-published automatonW (storeOf (0 ∷ []) []) in
+    let full = follows-published automatonW twoHeld in
+    let third : Full automatonW 2 2 = (omega arith, refl, omega arith) in
+    record {
+      released = go;
+      only = λ v r l. only-longest (Winning automatonW) automatonW 1 (2 ∷ 3 ∷ []) v r (2 ∷ 3 ∷ []) [] l go;
+      none = rw none-goes at (longest-w 3 (2 ∷ []));
+      passes = settles (0 ∷ []) (2 ∷ 3 ∷ []) (2 ∷ 3 ∷ []) [] _ (ready .passes 0 (omega arith) (λ c. omega arith)) (rw signed go);
+      holds = settles (0 ∷ []) (2 ∷ []) [] (2 ∷ []) _ (after-sign .holds 2 (omega arith) refl (omega arith)) (rw signed stay);
+      full = full .refuses 2 (inr third);
+      unknown = full .refuses 4 (inl (omega arith));
+      run-short = full .run-short (0 ∷ []) 2 (omega arith);
+      run-fed = full .run-fed (0 ∷ []) 3 (omega arith);
+      event-fed = full .event-fed 0;
+      one-by-one = full .first-fed 4 (0 ∷ []) ∙ follows-published automatonW _ .first-fed 0 [] ∙ follows-published automatonW _ .none-fed;
+      run-accepted = full .run-row (0 ∷ []) (9 ∷ 9 ∷ 9 ∷ []) .accepted .1 (omega arith);
+      counts =
+          full .counted 2 (4 ∷ 1 ∷ []) (inr third) ∙
+          ap suc (full .counted 4 (1 ∷ []) (inl (omega arith))) ∙
+          ap (λ n. suc (suc n)) (full .not-counted 1 [] (omega arith, inl λ c. omega arith));
+      event-row = full .event-row 2 .row-15 .1 third;
+      run-row = full .run-row (0 ∷ []) (9 ∷ 9 ∷ []) .row-16 .1 (omega arith);
+    }
+
+-- the accepted events of the calls, as they are met
+met : moments automatonW tableW (initialOf automatonW) calls ≡ page ∷ sign ∷ withdraw ∷ []
+unfolding calling
+met = refl
+
+begins-winning : isWinning automatonW tableW (initialOf automatonW) ≡ true
+unfolding calling
+begins-winning = refl
+
+stays-winning : winningAfter automatonW tableW page ≡ true
+unfolding calling
+stays-winning = refl
+
+-- after Sign we let nothing go, and an eager one the Page
+longer : length (ourRelease automatonW tableW sign) < length (strategyRelease automatonW eager sign)
+unfolding calling arrivalAt ourRelease strategyRelease
+longer = omega arith
+
+-- what is claimed of Withdraw and of Sign, by their values
+abbrev Fine : Moment → List ℕ → Type 0
+Fine m output = (winningAfter automatonW tableW m ≡ true) × (accepts automatonW (leads-w output) ≡ true)
+
+fine-w : Fine withdraw (outputAfter automatonW tableW withdraw) → Fine withdraw (0 ∷ 1 ∷ [])
+unfolding calling outputAfter
+fine-w h = h
+
+lost-w : LongerIsLost automatonW tableW sign → Lost automatonW 0 eager (2 ∷ 0 ∷ []) (0 ∷ 2 ∷ []) [] 2
+unfolding calling arrivalAt strategyRelease strategyOutput strategyBuffer lostBound accepts
+lost-w h = h eager longer
+
+-- the published function: its answers, what it is after the calls, and after what it accepts alone
+abbrev last : Store
+last = storeOf (0 ∷ 1 ∷ []) (2 ∷ [])
+
+expected-w : expectedAll automatonW empty calls ≡ answers
+unfolding publishing
+expected-w = refl
+
+fed-w : feedAll automatonW empty (map fedBy calls) ≡ last
+unfolding publishing
+fed-w = refl
+
+accepted-w : acceptedAll automatonW empty (map fedBy calls) ≡ 2 ∷ 0 ∷ 1 ∷ []
+unfolding publishing
+accepted-w = refl
+
+alone-w : storeAll automatonW empty (2 ∷ 0 ∷ 1 ∷ []) ≡ last
+unfolding publishing
+alone-w = refl
+
+last-w : configurationAt automatonW last ≡ configuration (at 0 (2 ∷ []))
+unfolding publishing
+last-w = refl
+
+-- demand 3 at W
+enforced : (xs : List Call) → Enforced automatonW tableW xs
+enforced = demand3 automatonW tableW valid-w solved-w
+
+pub fields : Fields
+unfolding automatonW
+fields =
+    let whole = enforced calls in
+    let said = whole .enforces in
+    let account = whole .accounted in
+    let accepted = account .events ∙ accepted-w in
+    let put-out = said .all-emitted ∙ ap (λ s. s .output) fed-w in
+    let afresh = ap (storeAll automatonW empty) accepted ∙ alone-w in
+    let lost = lost-w (rw met at (whole .strategies) .1 .0) in
+    record {
+      each-reply = said .each-reply ∙ expected-w;
+      all-emitted = put-out;
+      last-configuration = said .last-configuration ∙ ap (configurationAt automatonW) fed-w ∙ last-w;
+      last-consistent = said .last-consistent;
+      alone-emitted = whole .alone-emitted ∙ ap (λ s. s .output) afresh;
+      alone-configuration = whole .alone-configuration ∙ ap (configurationAt automatonW) afresh ∙ last-w;
+      events = accepted;
+      emitted = rw met at (account .emitted) ∙ put-out;
+      history = account .history (page ∷ sign ∷ []) withdraw [] met;
+      leads = rw met at (account .leads) .1 .1 .0;
+      fed = rw met at (account .fed) .1 .1 .0;
+      initially = fine-w (rw met at (whole .once-winning .initially begins-winning) .1 .1 .0);
+      later = fine-w (whole .once-winning .later [] page (sign ∷ withdraw ∷ []) met stays-winning .1 .1 .0);
+      strategies = (lost .list, lost .uncontrollable, lost .short, lost .outside);
+    }
+
+-- the same of the long day
+abbrev lastLong : Store
+lastLong = storeOf (0 ∷ 2 ∷ 3 ∷ 1 ∷ 1 ∷ 0 ∷ []) (2 ∷ 2 ∷ [])
+
+expected-long : expectedAll automatonW empty longCalls ≡ longAnswers
+unfolding publishing
+expected-long = refl
+
+fed-long : feedAll automatonW empty (map fedBy longCalls) ≡ lastLong
+unfolding publishing
+fed-long = refl
+
+last-long : configurationAt automatonW lastLong ≡ configuration (at 1 (2 ∷ 2 ∷ []))
+unfolding publishing
+last-long = refl
+
+pub day : Day
+day =
+    let said = enforced longCalls .enforces in
+    record {
+      each-reply = said .each-reply ∙ expected-long;
+      all-emitted = said .all-emitted ∙ ap (λ s. s .output) fed-long;
+      last-configuration = said .last-configuration ∙ ap (configurationAt automatonW) fed-long ∙ last-long;
+    }
+
+-- S of the empty list has W's states 0 and 1, not 2
+outside-w : has (setsFor automatonW [] .winning) 2 ≡ false
+unfolding publishing
+outside-w = refl
+
+leads-to-two : leads-w (0 ∷ 2 ∷ []) ≡ 2
+unfolding computing
+leads-to-two = refl
+
+says-winning : status automatonW tableW (initialOf automatonW) .winning ≡ true
+unfolding computing
+says-winning = refl
+
+accepts-sign : received automatonW tableW (initialOf automatonW) 0 .refusal ≡ 0
+unfolding computing
+accepts-sign = refl
+
+-- a longer table has the same bits
+same-w : SameBits automatonW tableW (tableW ++ 9 ∷ [])
+same-w w b q h =
+    let l : 2 * index automatonW w < length tableW = omega (arith, numbered automatonW valid-w w b, buffers-w) in
+    ap (λ x. has x q) (sym (List·getD-append tableW (9 ∷ []) 0 (2 * index automatonW w) l))
+
+both-long : short automatonW tableW ≡ short automatonW (tableW ++ 9 ∷ [])
+unfolding short
+both-long = rw buffers-w refl
+
+pub enforcing : Enforcing
+unfolding automatonW
+enforcing =
+    let start = initialOf automatonW in
+    record {
+      demand3 = demand3 automatonV (table automatonV) valid-v solved-v;
+      table-exists = table-exists automatonW valid-w;
+      demand3-solved = demand3-solved automatonW (filled 16 9) solves-w;
+      driven-out = driven-out automatonW valid-w [] 2 (omega arith) outside-w 0 eager (0 ∷ 2 ∷ []) (0 ∷ 2 ∷ []) leads-to-two;
+      flag-is-status = flag-is-status automatonW tableW start 0 accepts-sign;
+      flag-stays = flag-stays automatonW tableW solved-w start says-winning;
+      once-winning-said =
+          once-winning-said automatonW tableW valid-w solved-w calls [] page (sign ∷ withdraw ∷ []) met stays-winning;
+      others-ignored = others-ignored automatonW tableW (tableW ++ 9 ∷ []) both-long same-w start;
+    }

@@ -1,1 +1,0 @@
-// Theorems only: each claim of the other crates at sheet V or W, so that its hypotheses are seen to be met.

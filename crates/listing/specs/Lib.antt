@@ -1,3 +1,0 @@
-pub mod Unpacking
-pub mod Parts
-pub mod Claims

@@ -1,0 +1,55 @@
+-- What a call that no row refuses comes to.
+use Prim.Native.Nat.{ℕ, _≤_}
+use mathlib.Core.Path.{_≡_, sym, _∙_}
+use mathlib.Core.Bool.{Bool}
+use mathlib.Core.List.{List, _++_}
+use native.Mathlib.Omega.{arith}
+use lib.Dec.{eqb}
+use borrow.Author.Tests.{eqb-true, eqb-false}
+use Rattle.base.specs.Rows.{first}
+use Rattle.base.proofs.Bools.{by}
+use Rattle.automaton.specs.declared.Automaton.{Automaton}
+use Rattle.configuration.specs.declared.Configuration.{Configuration}
+use Rattle.configuration.specs.Configuration.{heldEvents, positionOf}
+use Rattle.configuration.proofs.Facts.{held-buffer}
+use Rattle.monitor_rule.specs.Step.{byTable, eventRows, eventRefusal}
+use Rattle.monitor_rule.proofs.Effects.{OccursAt, effect-length}
+use Rattle.monitor_answers.specs.Answers.{callRows, callRefusal, receiveRefusal, received, runRefusal}
+use Rattle.monitor_answers.proofs.Refusals.{Clear, clear, place, rows-pass, rows-stand}
+
+module _ (a : Automaton) (t : List ℕ) (c : Configuration) where
+  -- where no row stands, none of the first rows does
+  pub rows-clear : (rows : List (ℕ × Bool)) → first (callRows a t c ++ rows) ≡ 0 → Clear a t c
+  rows-clear rows h =
+      by (eqb (callRefusal a t c) 0)
+      (λ z. clear a t c (eqb-true (callRefusal a t c) 0 z))
+      (λ z. let n = eqb-false (callRefusal a t c) 0 z in absurd (n (sym (rows-stand a t c rows n) ∙ h)))
+
+  pub clear-occurs : Clear a t c → OccursAt a (positionOf c)
+  clear-occurs k = record { state-below = place a t c k .state-below; buffer = held-buffer a c (place a t c k) }
+
+  -- an accepted event
+  pub receive-clear : (e : ℕ) → receiveRefusal a t c e ≡ 0 → Clear a t c
+  unfolding receiveRefusal
+  receive-clear e h = rows-clear (eventRows (byTable a t) a (positionOf c) e) h
+
+  pub receive-event : (e : ℕ) → receiveRefusal a t c e ≡ 0 → eventRefusal (byTable a t) a (positionOf c) e ≡ 0
+  unfolding receiveRefusal eventRefusal
+  receive-event e h =
+      let rows = eventRows (byTable a t) a (positionOf c) e in
+      let k = rows-clear rows h in
+      sym (rows-pass a t c (k .record-valid) (k .table-long) (k .configuration-consistent) rows) ∙ h
+
+  pub run-clear : (es out : List ℕ) → runRefusal a t c es out ≡ 0 → Clear a t c
+  unfolding runRefusal
+  run-clear es out h = rows-clear _ h
+
+  -- an event emits at most seven symbols
+  pub received-few : (e : ℕ) → received a t c e .count ≤ 7
+  unfolding received
+  received-few e =
+      by (eqb (receiveRefusal a t c e) 0)
+      (λ h.
+      let f = place a t c (receive-clear e (eqb-true _ 0 h)) in
+      rw h (omega (arith, effect-length (byTable a t) a (c .state) (heldEvents c) e, f .held-length, f .held-small)))
+      (λ h. rw h (omega arith))

@@ -1,0 +1,67 @@
+-- The numbers of refusal of the monitor's calls, as document 01 words their rows: each is given
+-- exactly when its row holds and none before it does.
+use Prim.Native.Nat.{ℕ, _+_, _<_, _≤_}
+use mathlib.Core.Path.{_≡_}
+use mathlib.Core.Logic.{_↔_}
+use mathlib.Core.Bool.{true, false}
+use mathlib.Core.List.{List}
+use lib.ListN.{length}
+use Rattle.automaton.specs.declared.Automaton.{Automaton}
+use Rattle.automaton.specs.Automaton.{valid}
+use Rattle.solver_sets.specs.Table.{short}
+use Rattle.configuration.specs.declared.Configuration.{Configuration}
+use Rattle.configuration.specs.Configuration.{consistent}
+use Rattle.monitor_rule.specs.Claims.{Unknown, Full, Taken}
+use Rattle.monitor_answers.specs.Answers.{callRefusal, receiveRefusal, tooShort, runRefusal}
+
+-- rows 11 to 13, the same for each call; n is the number that it gives
+pub record CallRows (a : Automaton) (t : List ℕ) (c : Configuration) (n : ℕ) : Type 0 where
+  pub row-11 : (n ≡ 11) ↔ (valid a ≡ false)
+  pub row-12 : (n ≡ 12) ↔ ((valid a ≡ true) × (short a t ≡ true))
+  pub row-13 : (n ≡ 13) ↔ ((valid a ≡ true) × (short a t ≡ false) × (consistent a c ≡ false))
+
+-- none of them holds
+pub record Clear (a : Automaton) (t : List ℕ) (c : Configuration) : Type 0 where
+  pub record-valid : valid a ≡ true
+  pub table-long : short a t ≡ false
+  pub configuration-consistent : consistent a c ≡ true
+
+-- whether a configuration is winning
+pub record StatusRows (a : Automaton) (t : List ℕ) (c : Configuration) : Type 0 where
+  pub first-rows : CallRows a t c (callRefusal a t c)
+  pub accepted : (callRefusal a t c ≡ 0) ↔ Clear a t c
+
+abbrev pub StatusRowsAsWorded : Type 0
+StatusRowsAsWorded = (a : Automaton) (t : List ℕ) (c : Configuration) → StatusRows a t c
+
+-- one event
+pub record ReceiveRows (a : Automaton) (t : List ℕ) (c : Configuration) (e : ℕ) : Type 0 where
+  pub first-rows : CallRows a t c (receiveRefusal a t c e)
+  pub row-14 : (receiveRefusal a t c e ≡ 14) ↔ (Clear a t c × Unknown a e)
+  pub row-15 : (receiveRefusal a t c e ≡ 15) ↔ (Clear a t c × Full a (c .held) e)
+  pub accepted : (receiveRefusal a t c e ≡ 0) ↔ (Clear a t c × Taken a (c .held) e)
+
+abbrev pub ReceiveRowsAsWorded : Type 0
+ReceiveRowsAsWorded = (a : Automaton) (t : List ℕ) (c : Configuration) (e : ℕ) → ReceiveRows a t c e
+
+-- row 16, the published function's too: an output of this size is shorter than events plus held
+pub record RoomAsked (size : ℕ) (events : List ℕ) (held : ℕ) : Type 0 where
+  pub lacks : (tooShort size events held ≡ true) ↔ (size < length events + held)
+  pub enough : (tooShort size events held ≡ false) ↔ (length events + held ≤ size)
+
+abbrev pub RoomAsWorded : Type 0
+RoomAsWorded = (size : ℕ) (events : List ℕ) (held : ℕ) → RoomAsked size events held
+
+-- n is the number of refusal of a day by it
+pub record RowOfRun (size : ℕ) (events : List ℕ) (held n : ℕ) : Type 0 where
+  pub row-16 : (n ≡ 16) ↔ (size < length events + held)
+  pub accepted : (n ≡ 0) ↔ (length events + held ≤ size)
+
+-- a whole day
+pub record RunRows (a : Automaton) (t : List ℕ) (c : Configuration) (events out : List ℕ) : Type 0 where
+  pub first-rows : CallRows a t c (runRefusal a t c events out)
+  pub row-16 : (runRefusal a t c events out ≡ 16) ↔ (Clear a t c × (length out < length events + c .held))
+  pub accepted : (runRefusal a t c events out ≡ 0) ↔ (Clear a t c × (length events + c .held ≤ length out))
+
+abbrev pub RunRowsAsWorded : Type 0
+RunRowsAsWorded = (a : Automaton) (t : List ℕ) (c : Configuration) (events out : List ℕ) → RunRows a t c events out

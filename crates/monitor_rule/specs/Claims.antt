@@ -1,0 +1,55 @@
+-- What is proved of the rows of one event and of the release, in document 01's words ("One event"
+-- and "Numbers of refusal").
+use Prim.Native.Nat.{ℕ, _<_, _≤_}
+use mathlib.Core.Path.{_≡_}
+use mathlib.Core.Logic.{_⊎_, _↔_}
+use mathlib.Core.Bool.{true}
+use mathlib.Core.List.{List, [], _++_}
+use lib.ListN.{length, take, drop}
+use Rattle.automaton.specs.declared.Automaton.{Automaton}
+use Rattle.automaton.specs.Automaton.{class, reached}
+use Rattle.configuration.specs.Configuration.{Position}
+use Rattle.monitor_rule.specs.Step.{Rest, release, eventRefusal}
+
+-- row 14: the event is no symbol of the automaton
+abbrev pub Unknown : Automaton → ℕ → Type 0
+Unknown a e = a .symbols ≤ e
+
+-- row 15: it is a controllable one, and the capacity is already held
+abbrev pub Full : Automaton → ℕ → ℕ → Type 0
+Full a held e = (e < a .symbols) × (class a e ≡ 1) × (a .capacity ≤ held)
+
+-- neither
+abbrev pub Taken : Automaton → ℕ → ℕ → Type 0
+Taken a held e = (e < a .symbols) × ((class a e ≡ 1 → ⊥) ⊎ (held < a .capacity))
+
+-- n is the number of refusal of an event with so many held: a row's number exactly when it holds
+pub record RowsOfEvent (a : Automaton) (held e n : ℕ) : Type 0 where
+  pub row-14 : (n ≡ 14) ↔ Unknown a e
+  pub row-15 : (n ≡ 15) ↔ Full a held e
+  pub accepted : (n ≡ 0) ↔ Taken a held e
+
+abbrev pub EventRowsAsWorded : Type 0
+EventRowsAsWorded =
+    (rest : Rest) (a : Automaton) (p : Position) (e : ℕ) → RowsOfEvent a (length (p .buffer)) e (eventRefusal rest a p e)
+
+-- The longest release, where P says with what is left, and in which state, one may rest: the
+-- buffer w falls into v, which is released, and r, which is left.
+pub record Longest (P : List ℕ → ℕ → Type 0) (a : Automaton) (q : ℕ) (w v r : List ℕ) : Type 0 where
+  pub parts : v ++ r ≡ w
+  -- v leads q to where one may rest with r; or v is empty, and no front part leads so
+  pub leads : P r (reached a q v) ⊎ ((v ≡ []) × ((x y : List ℕ) → x ++ y ≡ w → P y (reached a q x) → ⊥))
+  -- no front part that leads so is longer
+  pub longest : (x y : List ℕ) → x ++ y ≡ w → P y (reached a q x) → length x ≤ length v
+
+-- what is released is that, over any rest test ..
+abbrev pub ReleasesLongest : Type 0
+ReleasesLongest =
+    (rest : Rest) (a : Automaton) (q : ℕ) (w : List ℕ)
+    → let k = release rest a q w in Longest (λ r p. rest r p ≡ true) a q w (take k w) (drop k w)
+
+-- .. and nothing else is
+abbrev pub OnlyLongest : Type 1
+OnlyLongest =
+    (P : List ℕ → ℕ → Type 0) (a : Automaton) (q : ℕ) (w v r x y : List ℕ)
+    → Longest P a q w v r → Longest P a q w x y → (v ≡ x) × (r ≡ y)

@@ -1,0 +1,62 @@
+-- What the release's functions hand back. They are lent arrays of the automaton instead of the
+-- whole of it.
+use Prim.Native.Nat.{ℕ, zero, suc, _+_, _*_, _^_, _<_, _≤_}
+use mathlib.Core.Bool.{cond}
+use mathlib.Core.List.{List, [], _∷_, _++_, map}
+use lib.ListN.{length, getD, take, drop}
+use lib.Dec.{eqb}
+use Rattle.base.specs.Masks.{has}
+use Rattle.base.specs.Pad.{pad}
+use Rattle.automaton.specs.declared.Automaton.{Automaton}
+use Rattle.automaton.specs.Automaton.{reached}
+use Rattle.automaton.specs.Arrays.{controllableAt, controllableIn}
+use Rattle.monitor_rule.specs.Step.{Rest, release}
+pub use Rattle.monitor_rule.specs.declared.Front.{Front}
+
+-- the number of a buffer, by ranks from 1: shorter buffers, then base k, in one sum
+unfoldable pub indexIn : List ℕ → ℕ → List ℕ → ℕ
+indexIn ranks k [] = 0
+indexIn ranks k (e ∷ w) = getD ranks e 0 * k ^ length w + indexIn ranks k w
+
+-- the numbers of a buffer and of all that is left of it after a front part, but the empty one
+unfoldable pub indicesOf : List ℕ → ℕ → List ℕ → List ℕ
+indicesOf ranks k [] = []
+indicesOf ranks k (e ∷ w) = indexIn ranks k (e ∷ w) ∷ indicesOf ranks k w
+
+-- may the monitor rest, by a table's bits at those numbers?
+unfoldable pub restIn : List ℕ → List ℕ → ℕ → Rest
+restIn t ranks k w q = has (getD t (2 * indexIn ranks k w) 0) q
+
+-- the class that a rank tells
+abbrev pub classBy : ℕ → ℕ
+classBy r = cond (eqb r 0) 0 1
+
+-- the automaton of which only the ranks and the next states are lent: a ranked symbol is
+-- controllable
+abbrev pub over : List ℕ → List ℕ → Automaton
+over ranks next =
+    record {
+      states = 0;
+      symbols = 0;
+      capacity = 0;
+      initial = 0;
+      classes = map classBy ranks;
+      accepting = [];
+      next = next;
+    }
+
+-- the longest front part that qualifies, and where it leads
+unfoldable pub front : Rest → Automaton → ℕ → List ℕ → Front
+front rest a q w =
+    let k = release rest a q w in
+    record { count = k; state = reached a q (take k w) }
+
+-- what the release asks of its arguments
+pub record ReleaseRequires (next ranks : List ℕ) (k : ℕ) (t : List ℕ) (q : ℕ) (buffer : List ℕ) (held : ℕ) : Type 0 where
+  pub few : held ≤ 6
+  pub radix : k ≤ 8
+  pub rank-high : (e : ℕ) → getD ranks e 0 ≤ 8
+  pub state-low : q < 32
+  pub next-low : (i : ℕ) → getD next i 0 < 32
+  pub symbol-low : (i : ℕ) → getD buffer i 0 < 16
+  pub long : (i : ℕ) → i ≤ held → 2 * indexIn ranks k (drop i (take held buffer)) < length t

@@ -1,0 +1,102 @@
+-- One event (document 01, "One event"), over any test of where the monitor may rest.
+use Prim.Native.Nat.{ℕ, suc, _+_, _*_}
+use mathlib.Core.Bool.{Bool, cond, not, _&&_}
+use mathlib.Core.List.{List, [], _∷_, _++_}
+use lib.ListN.{length, getD, take, drop}
+use lib.Dec.{eqb, leb, ltb}
+use Rattle.base.specs.Each.{those, lastOr}
+use Rattle.base.specs.Rows.{first}
+use Rattle.base.specs.Masks.{has}
+use Rattle.automaton.specs.declared.Automaton.{Automaton}
+use Rattle.automaton.specs.Automaton.{controllable, step, reached}
+use Rattle.solver_sets.specs.Sets.{setsFor}
+use Rattle.solver_sets.specs.Table.{index}
+use Rattle.configuration.specs.Configuration.{Position}
+
+-- may the monitor rest in a state with a buffer?
+abbrev pub Rest : Type 0
+Rest = List ℕ → ℕ → Bool
+
+-- by the sets, and by the bits of a lent table
+unfoldable pub bySets : Automaton → Rest
+bySets a w q = has (setsFor a w .winning) q
+
+unfoldable pub byTable : Automaton → List ℕ → Rest
+byTable a t w q = has (getD t (2 * index a w) 0) q
+
+-- the front part of k events qualifies: it brings the state to where the monitor may rest with
+-- what is left
+unfoldable pub qualifies : Rest → Automaton → ℕ → List ℕ → ℕ → Bool
+qualifies rest a q w k = rest (drop k w) (reached a q (take k w))
+
+-- the lengths of all front parts that qualify, from the empty one on
+unfoldable pub qualifying : Rest → Automaton → ℕ → List ℕ → List ℕ
+qualifying rest a q w = those (suc (length w)) (qualifies rest a q w)
+
+-- the longest of them; nothing where there is none
+unfoldable pub release : Rest → Automaton → ℕ → List ℕ → ℕ
+release rest a q w = lastOr 0 (qualifying rest a q w)
+
+-- what is emitted, and the state and buffer after it
+pub record Effect : Type 0 where
+  pub emitted : List ℕ
+  pub state : ℕ
+  pub buffer : List ℕ
+
+-- what the buffer is after an uncontrollable event passed
+unfoldable pub remaining : Automaton → ℕ → List ℕ → List ℕ
+remaining a e w = w
+
+-- an event has come and nothing is released yet: a controllable one is held at the end, any other
+-- is emitted and moves the state
+unfoldable pub arrival : Automaton → ℕ → List ℕ → ℕ → Effect
+arrival a q w e =
+    cond (controllable a e)
+    (record { emitted = []; state = q; buffer = w ++ e ∷ [] })
+    (record { emitted = e ∷ []; state = step a q e; buffer = remaining a e w })
+
+-- an accepted event: its arrival, then the release
+unfoldable pub effect : Rest → Automaton → ℕ → List ℕ → ℕ → Effect
+effect rest a q w e =
+    let x = arrival a q w e in
+    let k = release rest a (x .state) (x .buffer) in
+    record {
+      emitted = x .emitted ++ take k (x .buffer);
+      state = reached a (x .state) (take k (x .buffer));
+      buffer = drop k (x .buffer);
+    }
+
+-- the effect at a position, and the position after it
+abbrev pub effectFrom : Rest → Automaton → Position → ℕ → Effect
+effectFrom rest a p e = effect rest a (p .state) (p .buffer) e
+
+abbrev pub advance : Rest → Automaton → Position → ℕ → Position
+advance rest a p e = let f = effectFrom rest a p e in record { state = f .state; buffer = f .buffer }
+
+-- the rows of one event with so many held: 14, no symbol of the automaton; 15, controllable with
+-- the buffer full
+abbrev pub eventRowsIn : ℕ → ℕ → Bool → ℕ → ℕ → List (ℕ × Bool)
+eventRowsIn symbols capacity holds held e = (14, not (ltb e symbols)) ∷ (15, holds && leb capacity held) ∷ []
+
+-- at a position, over a rest test (which neither row reads)
+unfoldable pub eventRows : Rest → Automaton → Position → ℕ → List (ℕ × Bool)
+eventRows rest a p e = eventRowsIn (a .symbols) (a .capacity) (controllable a e) (length (p .buffer)) e
+
+unfoldable pub eventRefusal : Rest → Automaton → Position → ℕ → ℕ
+eventRefusal rest a p e = first (eventRows rest a p e)
+
+-- a list of events (document 01's whole day): what is emitted end to end, how many events were
+-- refused and passed over, and the position after it
+pub record Run : Type 0 where
+  pub emitted : List ℕ
+  pub refused : ℕ
+  pub last : Position
+
+unfoldable pub runOf : Rest → Automaton → Position → List ℕ → Run
+runOf rest a p [] = record { emitted = []; refused = 0; last = p }
+runOf rest a p (e ∷ es) =
+    let went = runOf rest a (advance rest a p e) es in
+    let passed = runOf rest a p es in
+    cond (eqb (eventRefusal rest a p e) 0)
+    (record { emitted = effectFrom rest a p e .emitted ++ went .emitted; refused = went .refused; last = went .last })
+    (record { emitted = passed .emitted; refused = passed .refused + 1; last = passed .last })

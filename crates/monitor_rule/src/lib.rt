@@ -1,0 +1,8 @@
+// One event and the release, as definitions and what holds of them; the crates `monitor_release`
+// and `monitor_step` have the code.
+
+// The front part of a buffer that is released: its length, and the state after it.
+pub struct Front {
+    pub count: usize,
+    pub state: usize,
+}

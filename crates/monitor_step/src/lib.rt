@@ -1,0 +1,144 @@
+// One event: the row that refuses it, and what an accepted one leaves. Both calls of the monitor,
+// one event and a whole day, are made of these.
+use base::as_u32;
+use base::as_usize;
+use base::copy;
+use monitor_release::release;
+ghost use mathlib.Core.Path.{_≡_};
+ghost use mathlib.Core.Bool.{false, cond};
+ghost use Prim.Native.Nat.{_+_, _*_, _≤_, _<_};
+ghost use lib.ListN.{length, getD, set, take, drop};
+ghost use lib.Seq.{sets};
+ghost use Rattle.base.specs.Pad.{pad};
+ghost use Rattle.monitor_rule.specs.Step.{effect};
+ghost use Rattle.monitor_rule.specs.Fronts.{restIn, over};
+ghost use Rattle.monitor_step.specs.Stepping.{eventRowBy, stepped, StepRequires};
+
+// What an accepted event leaves: the state, the buffer and how many it holds, and the place after
+// what was written.
+pub struct Stepped {
+    pub state: usize,
+    pub held: usize,
+    pub buffer: [u8; 6],
+    pub written: usize,
+}
+
+// The row that refuses an event with so many held: 14, no symbol; 15, controllable with the buffer
+// full; 0, none.
+pub fn event_row(ranks: &[u8; 16], symbols: u8, capacity: usize, held: usize, event: u32) -> u8
+    requires { ⌜ symbols ≤ 16 ⌝ }
+    ensures { λ r. ⌜ r ≡ eventRowBy (now (ranks .entry)) symbols capacity held event ⌝ }
+{
+    if as_u32(symbols) <= event {
+        return 14;
+    }
+    if ranks[event as usize] == 0 {
+        return 0;
+    }
+    if held < capacity {
+        return 0;
+    }
+    15
+}
+
+// The state after an event that passes; the same state where it is held.
+fn moved(next: &[u8; 512], passes: bool, q: usize, e: usize) -> usize
+    requires { ⌜ (q < 32) × (e < 16) ⌝ }
+    ensures { λ r. ⌜ r ≡ cond passes (getD (now (next .entry)) (q * 16 + e) 0) q ⌝ }
+{
+    if passes {
+        return as_usize(next[q * 16 + e]);
+    }
+    q
+}
+
+// The buffer with an event that is held at its end; the same buffer where it passes.
+fn held_with(buffer: [u8; 6], passes: bool, held: usize, e: u8) -> [u8; 6]
+    requires { ⌜ (passes ≡ false → held < 6) ⌝ }
+    ensures { λ r. ⌜ r ≡ cond passes buffer (set buffer held e) ⌝ }
+{
+    if passes {
+        return buffer;
+    }
+    let mut longer = buffer;
+    longer[held] = e;
+    longer
+}
+
+// Writes an event that passes.
+fn pass(passes: bool, e: u8, out: &mut [u8], at: usize)
+    requires { ⌜ at < length (now out) ⌝ }
+    ensures { λ _. ⌜ now (out .exit) ≡ cond passes (set (now (out .entry)) at e) (now (out .entry)) ⌝ }
+{
+    if passes {
+        out[at] = e;
+    }
+}
+
+fn one_if(passes: bool) -> usize
+    ensures { λ r. ⌜ r ≡ cond passes 1 0 ⌝ }
+{
+    if passes {
+        return 1;
+    }
+    0
+}
+
+// Writes the front part of the buffer that is released.
+fn emit(buffer: [u8; 6], count: usize, out: &mut [u8], at: usize)
+    requires { ⌜ (count ≤ 6) × (at + count ≤ length (now out)) ⌝ }
+    ensures { λ _. ⌜ now (out .exit) ≡ sets (now (out .entry)) at (take count buffer) ⌝ }
+{
+    if 0 < count {
+        copy(&buffer, 0, count, out, at);
+    }
+}
+
+// What is left of the buffer, moved to its front.
+fn left(buffer: [u8; 6], held: usize, count: usize) -> [u8; 6]
+    requires { ⌜ (held ≤ 6) × (count ≤ held) × (buffer ≡ pad 6 (take held buffer)) ⌝ }
+    ensures { λ r. ⌜ r ≡ pad 6 (drop count (take held buffer)) ⌝ }
+{
+    if count == 0 {
+        return buffer;
+    }
+    let mut kept = [0u8; 6];
+    copy(&buffer, count, held - count, &mut kept, 0);
+    kept
+}
+
+// An accepted event. An uncontrollable one is written and moves the state, a controllable one is
+// held at the end; then the release.
+pub fn step<'a>(
+    next: &'a [u8; 512],
+    ranks: &'a [u8; 16],
+    k: u32,
+    table: &[u32],
+    q: usize,
+    buffer: [u8; 6],
+    held: usize,
+    e: u8,
+    out: &mut [u8],
+    at: usize,
+) -> Stepped
+    requires { ⌜ StepRequires (now next) (now ranks) k (now table) q buffer held e (length (now out)) at ⌝ }
+    ensures { λ r. let rest = restIn (now (table .entry)) (now (ranks .entry)) k in
+        let a = over (now (ranks .entry)) (now (next .entry)) in
+        ⌜ (r ≡ stepped rest a q (take held buffer) e at)
+        × (now (out .exit) ≡ sets (now (out .entry)) at (effect rest a q (take held buffer) e .emitted)) ⌝ }
+{
+    let passes = ranks[as_usize(e)] == 0;
+    let p = moved(next, passes, q, as_usize(e));
+    let longer = held_with(buffer, passes, held, e);
+    pass(passes, e, out, at);
+    let n = one_if(passes);
+    let all = held + 1 - n;
+    let front = release(next, ranks, k, table, p, longer, all);
+    emit(longer, front.count, out, at + n);
+    Stepped {
+        state: front.state,
+        held: all - front.count,
+        buffer: left(longer, all, front.count),
+        written: at + n + front.count,
+    }
+}

@@ -1,0 +1,3 @@
+pub mod Unpacking
+pub mod Measures
+pub mod Claims

@@ -1,7 +1,0 @@
-// One event and the release, as definitions and what holds of them; the crates `searching` and `stepping` have the code.
-
-// The front part of a buffer that is released: its length, and the state after it.
-pub struct Front {
-    pub count: usize,
-    pub state: usize,
-}

@@ -1,8 +1,0 @@
-pub mod Runs
-pub mod Answers
-pub mod Events
-pub mod Continuing
-pub mod Phases
-pub mod Beginning
-pub mod Cases
-pub mod Bounds
