@@ -12,7 +12,7 @@ use borrow.Author.Tests.{lt-ltb, le-ltb, eq-eqb, ne-eqb}
 use Rattle.base.specs.Each.{each}
 use Rattle.base.proofs.Padding.{repeat-end}
 use Rattle.base.proofs.Ranges.{each-falls, each-keeps, count-adds, count-skips}
-use Rattle.automaton.specs.Arrays.{controllableAt, controllableIn, goes, belowFrom, rowBelow, rowsBelow}
+use Rattle.automaton.specs.Arrays.{controllableAt, controllableIn, goes, belowFrom, stateBelow, statesBelow}
 
 module _ (l : List ℕ) (from i limit : ℕ) (fine : Bool) (so-far : fine ≡ belowFrom l from i limit) where
   pub below-falls : limit ≤ getD l (from + i) 0 → false ≡ belowFrom l from (i + 1) limit
@@ -24,29 +24,29 @@ module _ (l : List ℕ) (from i limit : ℕ) (fine : Bool) (so-far : fine ≡ be
   below-keeps h = each-keeps (λ i. ltb (getD l (from + i) 0) limit) i fine so-far (lt-ltb (getD l (from + i) 0) limit h)
 
 module _ (next : List ℕ) (q e : ℕ) (limits : List ℕ) where
-  -- the first e symbols of a row
-  unfoldable pub rowBelowTo : Bool
-  rowBelowTo = each e (λ i. ltb (goes next q i) (getD limits i 0))
+  -- the first e symbols of a state
+  unfoldable pub stateBelowTo : Bool
+  stateBelowTo = each e (λ i. ltb (goes next q i) (getD limits i 0))
 
-module _ (next : List ℕ) (q e : ℕ) (limits : List ℕ) (fine : Bool) (so-far : fine ≡ rowBelowTo next q e limits) where
-  pub row-falls : getD limits e 0 ≤ goes next q e → false ≡ rowBelowTo next q (e + 1) limits
-  unfolding rowBelowTo
+module _ (next : List ℕ) (q e : ℕ) (limits : List ℕ) (fine : Bool) (so-far : fine ≡ stateBelowTo next q e limits) where
+  pub row-falls : getD limits e 0 ≤ goes next q e → false ≡ stateBelowTo next q (e + 1) limits
+  unfolding stateBelowTo
   row-falls h =
       each-falls (λ i. ltb (goes next q i) (getD limits i 0)) e fine so-far (le-ltb (goes next q e) (getD limits e 0) h)
 
-  pub row-keeps : goes next q e < getD limits e 0 → fine ≡ rowBelowTo next q (e + 1) limits
-  unfolding rowBelowTo
+  pub row-keeps : goes next q e < getD limits e 0 → fine ≡ stateBelowTo next q (e + 1) limits
+  unfolding stateBelowTo
   row-keeps h =
       each-keeps (λ i. ltb (goes next q i) (getD limits i 0)) e fine so-far (lt-ltb (goes next q e) (getD limits e 0) h)
 
-module _ (next : List ℕ) (q : ℕ) (limits : List ℕ) (fine : Bool) (so-far : fine ≡ rowsBelow next q limits) where
-  pub rows-fall : rowBelow next q limits ≡ false → false ≡ rowsBelow next (q + 1) limits
-  unfolding rowsBelow
-  rows-fall h = each-falls (λ q. rowBelow next q limits) q fine so-far h
+module _ (next : List ℕ) (q : ℕ) (limits : List ℕ) (fine : Bool) (so-far : fine ≡ statesBelow next q limits) where
+  pub rows-fall : stateBelow next q limits ≡ false → false ≡ statesBelow next (q + 1) limits
+  unfolding statesBelow
+  rows-fall h = each-falls (λ q. stateBelow next q limits) q fine so-far h
 
-  pub rows-keep : rowBelow next q limits ≡ true → fine ≡ rowsBelow next (q + 1) limits
-  unfolding rowsBelow
-  rows-keep h = each-keeps (λ q. rowBelow next q limits) q fine so-far h
+  pub rows-keep : stateBelow next q limits ≡ true → fine ≡ statesBelow next (q + 1) limits
+  unfolding statesBelow
+  rows-keep h = each-keeps (λ q. stateBelow next q limits) q fine so-far h
 
 -- one more class
 module _ (classes : List ℕ) (e n : ℕ) (so-far : n ≡ controllableIn classes e) where

@@ -87,7 +87,7 @@ module _ (n m : ℕ) (next : List ℕ) where
   next-used : nextStand n m next ≡ true → (q e : ℕ) → q < 32 → e < 16 → used q e ≡ true → goes next q e < n
   next-used h q e lq le u = stands-used (used q e) n (goes next q e) u (next-at h q e lq le)
 
-  -- past the last row too
+  -- past the last state too
   next-unused : nextStand n m next ≡ true → length next ≡ 512 → (q e : ℕ) → e < 16 → used q e ≡ false → goes next q e ≡ 0
   next-unused h long q e le u =
       by (ltb q 32)

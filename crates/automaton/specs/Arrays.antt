@@ -40,9 +40,9 @@ unfoldable pub limitsOf : ℕ → ℕ → List ℕ
 limitsOf n m = replicate m n ++ replicate (16 - m) 1
 
 -- state q's 16 places keep the limits
-unfoldable pub rowBelow : List ℕ → ℕ → List ℕ → Bool
-rowBelow next q limits = each 16 (λ e. ltb (goes next q e) (getD limits e 0))
+unfoldable pub stateBelow : List ℕ → ℕ → List ℕ → Bool
+stateBelow next q limits = each 16 (λ e. ltb (goes next q e) (getD limits e 0))
 
 -- .. and those of each of the first `k` states
-unfoldable pub rowsBelow : List ℕ → ℕ → List ℕ → Bool
-rowsBelow next k limits = each k (λ q. rowBelow next q limits)
+unfoldable pub statesBelow : List ℕ → ℕ → List ℕ → Bool
+statesBelow next k limits = each k (λ q. stateBelow next q limits)

@@ -6,7 +6,7 @@ ghost use mathlib.Core.Bool.{true};
 ghost use Prim.Native.Nat.{_+_, _≤_};
 ghost use lib.ListN.{length};
 ghost use Rattle.automaton.specs.Automaton.{shaped, ranged, nextStand, tablesStand, valid, assembled};
-ghost use Rattle.automaton.specs.Arrays.{placesStand, belowFrom, limitsOf, rowBelow, rowsBelow};
+ghost use Rattle.automaton.specs.Arrays.{placesStand, belowFrom, limitsOf, stateBelow, statesBelow};
 
 // Rows 3 to 6.
 fn ranged(states: u8, symbols: u8, capacity: u8, initial: u8) -> bool
@@ -61,9 +61,9 @@ fn limits_of(n: u8, m: usize) -> [u8; 16]
     limits
 }
 
-fn row_below<'a>(next: &'a [u8; 512], q: usize, limits: &'a [u8; 16]) -> bool
+fn state_below<'a>(next: &'a [u8; 512], q: usize, limits: &'a [u8; 16]) -> bool
     requires { ⌜ q + 1 ≤ 32 ⌝ }
-    ensures { λ r. ⌜ r ≡ rowBelow (now (next .entry)) q (now (limits .entry)) ⌝ }
+    ensures { λ r. ⌜ r ≡ stateBelow (now (next .entry)) q (now (limits .entry)) ⌝ }
 {
     let mut fine = true;
     let mut e: usize = 0;
@@ -76,14 +76,14 @@ fn row_below<'a>(next: &'a [u8; 512], q: usize, limits: &'a [u8; 16]) -> bool
     fine
 }
 
-fn rows_below<'a>(next: &'a [u8; 512], count: usize, limits: &'a [u8; 16]) -> bool
+fn states_below<'a>(next: &'a [u8; 512], count: usize, limits: &'a [u8; 16]) -> bool
     requires { ⌜ count ≤ 32 ⌝ }
-    ensures { λ r. ⌜ r ≡ rowsBelow (now (next .entry)) count (now (limits .entry)) ⌝ }
+    ensures { λ r. ⌜ r ≡ statesBelow (now (next .entry)) count (now (limits .entry)) ⌝ }
 {
     let mut fine = true;
     let mut q: usize = 0;
     while q < count {
-        if !row_below(next, q, limits) {
+        if !state_below(next, q, limits) {
             fine = false;
         }
         q = q + 1;
@@ -109,7 +109,7 @@ fn next_stand(n: u8, m: usize, next: &[u8; 512]) -> bool
 {
     let states = base::as_usize(n);
     let limits = limits_of(n, m);
-    if !rows_below(next, states, &limits) {
+    if !states_below(next, states, &limits) {
         return false;
     }
     let used = states * 16;

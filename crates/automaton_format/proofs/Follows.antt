@@ -48,7 +48,7 @@ module _ (check : ℕ → ℕ) (at : ℕ) (n : Number) where
       let p = passed check at n (checked check at n) refl (eqb-true _ 0 r) in
       go (sym (p .same) ∙ unrefused _ r) (ap (λ m. check (m .value)) (p .same) ∙ p .fits)
 
--- a number, and then the rest
+-- a number, and what follows it
 module _ (check : ℕ → ℕ) (at : ℕ) (n : Number) (go : ℕ → ℕ → Parsed) where
   pub after-number-done : (v next : ℕ) → n ≡ value v next → check v ≡ 0 → afterNumber (checked check at n) go ≡ go v next
   unfolding afterNumber
@@ -63,7 +63,7 @@ module _ (check : ℕ → ℕ) (at : ℕ) (n : Number) (go : ℕ → ℕ → Par
       (λ r. checked-read check at n r λ e c. use′ (m .value) (m .place) e c (rw r at h))
       (λ r. absurd (eqb-false (m .refusal) 0 r (ap (λ p. p .refusal) (rw r at h))))
 
--- numbers, and then the rest
+-- numbers, and what follows them
 module _ (ns : Numbers) (go : List ℕ → ℕ → Parsed) where
   pub after-numbers-done : (vs : List ℕ) (next : ℕ) → ns ≡ done vs next → afterNumbers ns go ≡ go vs next
   unfolding afterNumbers

@@ -1,4 +1,4 @@
--- The next states: read row by row and kept in 16 places for each state.
+-- The next states: read state by state and kept in 16 places for each state.
 use Prim.Native.Nat.{ℕ, zero, suc, _+_, _*_, _<_, _≤_}
 use mathlib.Core.Path.{_≡_, refl, sym, _∙_, ap, subst}
 use mathlib.Core.List.{List, [], _++_, append-assoc, append-nil}
@@ -15,7 +15,7 @@ use Rattle.automaton_format.specs.Reading.{Numbers, numbers, nextStates}
 use Rattle.automaton_format.specs.Writing.{nextNumbers}
 use Rattle.automaton_format.proofs.Follows.{done, Follows, Passes, all-unrefused, follows-append, follows-split, numbers-done, numbers-all}
 
--- the first row, and the rows after it
+-- the first state, and those after it
 pub next-first : (next : List ℕ) (m k : ℕ) → nextNumbers next m (suc k) ≡ take m next ++ nextNumbers (drop 16 next) m k
 unfolding nextNumbers
 next-first next m zero = sym (append-nil (take m next))
@@ -25,7 +25,7 @@ next-first next m (suc k) =
     (ap (λ l. l ++ take m (drop (k * 16) (drop 16 next))) (next-first next m k) ∙
     append-assoc (take m next) (nextNumbers (drop 16 next) m k) (take m (drop (k * 16) (drop 16 next))))
 
--- what stands after the rows does not matter
+-- what stands after the states does not matter
 pub next-prefix : (l later : List ℕ) (m k : ℕ) → m ≤ 16 → k * 16 ≤ length l → nextNumbers (l ++ later) m k ≡ nextNumbers l m k
 unfolding nextNumbers
 next-prefix l later m zero small h = refl
@@ -37,11 +37,11 @@ next-prefix l later m (suc k) small h =
       take-append-le m (drop (k * 16) l) later inside,
     )
 
--- of the places of a row the first m pass the check, and the others are 0
+-- of the places of a state the first m pass the check, and the others are 0
 abbrev pub Place : ℕ → (ℕ → ℕ) → ℕ → ℕ → Type 0
 Place m check e v = (e < m → check v ≡ 0) × (m ≤ e → v ≡ 0)
 
--- k rows of 16 places
+-- k states of 16 places
 pub record Rows (m : ℕ) (check : ℕ → ℕ) (k : ℕ) (l : List ℕ) : Type 0 where
   pub rows-length : length l ≡ k * 16
   pub place : (q e : ℕ) → q < k → e < 16 → Place m check e (getD l (q * 16 + e) 0)
@@ -75,7 +75,7 @@ module _ (m : ℕ) (check : ℕ → ℕ) (small : m ≤ 16) where
           place = cons-place;
         }
 
-  -- the first row
+  -- the first state
   module _ (k : ℕ) (l : List ℕ) (r : Rows m check (suc k) l) where
     row-place : (e : ℕ) → e < 16 → Place m check e (getD l e 0)
     row-place e h = let s : 0 * 16 + e ≡ e = omega arith in rw s at (r .place 0 e (omega arith) h)

@@ -82,7 +82,7 @@ module _ (n : Number) (go : ℕ → ℕ → Parsed) where
   unfolding afterNumber
   after-number-passes z = rw (eq-eqb (n .refusal) 0 z)
 
--- a row stored behind the rows before it
+-- a state's numbers stored behind those before it
 pub pad-more : (size : ℕ) (before row : List ℕ) (width : ℕ) → length row ≤ width → length before + width ≤ size
     → sets (pad size before) (length before) row ≡ pad size (before ++ pad width row)
 unfolding pad
@@ -95,7 +95,7 @@ pad-more size before row width h k =
     rw (take-append-seam before (zeros (size - length before)), drop-append-add before (zeros (size - length before)) (length row), drop-zeros (size - length before) (length row), f, e)
     (rw (← replicate-append-replicate {A = ℕ} (width - length row) (size - (length before + width)) 0) (simp append-assoc))
 
--- the loop over the rows
+-- the loop over the states
 pub record Rowing (s : List ℕ) (n m at : ℕ) (next : List ℕ) (place q : ℕ) : Type 0 where
   pub narrow : m ≤ 16
   pub few : n ≤ 32
@@ -128,7 +128,7 @@ module _ {s : List ℕ} {n m at : ℕ} {next : List ℕ} {place q : ℕ} (g : Ro
   ends : (ns : Numbers) (t : List ℕ) → all ≡ ns → t ≡ pad 512 (ns .values) → (outcome ns ≡ outcome all) × (t ≡ pad 512 (all .values))
   ends ns t e v = (ap outcome (sym e), v ∙ ap (λ (x : Numbers). pad 512 (x .values)) (sym e))
 
-  -- the row at hand
+  -- the state at hand
   module _ (r : Number) (e : r ≡ outcome (numbers (read s) (itemRow n 9 16) m [] place)) (h : q < n) where
     row : Numbers
     row = numbers (read s) (λ _. between 0 n 9) m [] place

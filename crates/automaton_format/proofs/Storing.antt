@@ -12,7 +12,7 @@ use Rattle.automaton_format.specs.Writing.{nextNumbers, recordNumbers}
 use Rattle.base.proofs.Stores.{sets-join}
 use Rattle.automaton.proofs.Facts.{Valid}
 
--- the rows of some states
+-- the numbers of some states
 module _ (next : List ℕ) (long : length next ≡ 512) (m : ℕ) (narrow : m ≤ 16) where
   row-length : (q : ℕ) → q < 32 → length (take m (drop (q * 16) next)) ≡ m
   row-length q h = length-take-le m (drop (q * 16) next) (rw (length-drop (q * 16) next) (omega arith))
@@ -25,7 +25,7 @@ module _ (next : List ℕ) (long : length next ≡ 512) (m : ℕ) (narrow : m �
       ap₂ _+_ (rows-length q (omega arith)) (row-length q (omega arith)) ∙
       omega (arith, suc-mul q m)
 
-  -- one more row stored
+  -- one more state stored
   pub row-more : (out : List ℕ) (at q : ℕ) → q < 32
       → sets (sets out at (nextNumbers next m q)) (at + q * m) (take m (drop (q * 16) next)) ≡ sets out at (nextNumbers next m (q + 1))
   unfolding nextNumbers
@@ -35,7 +35,7 @@ module _ (next : List ℕ) (long : length next ≡ 512) (m : ℕ) (narrow : m �
       sets-join out at (nextNumbers next m q) (take m (drop (q * 16) next)) ∙
       rw (add-one q)
 
--- a row of a state is within the rows of all
+-- the numbers of a state are within those of all
 pub row-within : (n m q : ℕ) → q < n → q * m + m ≤ n * m
 row-within n m q h =
     let s : suc q ≤ n = omega arith in

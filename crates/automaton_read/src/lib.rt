@@ -95,7 +95,7 @@ fn fill(
 
 // Fills the next states of n states, m numbers each and 16 places for each state, with numbers
 // below n; row 9 stands otherwise.
-fn fill_rows(s: &[u8], at: usize, next: &mut [u8], n: u32, m: usize) -> Number
+fn fill_states(s: &[u8], at: usize, next: &mut [u8], n: u32, m: usize) -> Number
     requires { ⌜ (n < 33) × (m < 17) × (now next ≡ replicate 512 0) ⌝ }
     ensures { λ r. ⌜ r ≡ outcome (nextStates (read (now (s .entry))) (between 0 n 9) m n [] at) ⌝ }
     ensures { λ r. ⌜ now (next .exit) ≡ pad 512 (nextStates (read (now (s .entry))) (between 0 n 9) m n [] at .values) ⌝ }
@@ -103,11 +103,11 @@ fn fill_rows(s: &[u8], at: usize, next: &mut [u8], n: u32, m: usize) -> Number
     let mut place = at;
     let mut q: usize = 0;
     while q < n as usize {
-        let row = fill(s, place, next, q * 16, m, n, 9, 16);
-        if row.refusal != 0 {
-            return varint::fault(row.refusal, row.place);
+        let filled = fill(s, place, next, q * 16, m, n, 9, 16);
+        if filled.refusal != 0 {
+            return varint::fault(filled.refusal, filled.place);
         }
-        place = row.place;
+        place = filled.place;
         q = q + 1;
     }
     Number {
@@ -142,7 +142,7 @@ fn read_tables(
         return refused(f.refusal, f.place);
     }
     let mut next = [0u8; 512];
-    let t = fill_rows(s, f.place, &mut next, states, m);
+    let t = fill_states(s, f.place, &mut next, states, m);
     if t.refusal != 0 {
         return refused(t.refusal, t.place);
     }

@@ -23,7 +23,7 @@ fn store_four(out: &mut [u8], n: u8, m: u8, b: u8, q: u8)
 }
 
 // Stores the next states of n states, m each, from a place of `out` on.
-fn store_rows(next: &[u8; 512], n: usize, m: usize, out: &mut [u8], at: usize)
+fn store_states(next: &[u8; 512], n: usize, m: usize, out: &mut [u8], at: usize)
     requires { ⌜ (n ≤ 32) × (m ≤ 16) × (at + n * m ≤ length (now out)) ⌝ }
     ensures { λ _. ⌜ now (out .exit) ≡ sets (now (out .entry)) at (nextNumbers (now (next .entry)) m n) ⌝ }
 {
@@ -35,7 +35,7 @@ fn store_rows(next: &[u8; 512], n: usize, m: usize, out: &mut [u8], at: usize)
 }
 
 // Stores the record's numbers at the front of `out`.
-fn store(a: Automaton, out: &mut [u8])
+fn store_numbers(a: Automaton, out: &mut [u8])
     requires { ⌜ (valid a ≡ true) × (length (recordNumbers a) ≤ length (now out)) ⌝ }
     ensures { λ _. ⌜ now (out .exit) ≡ sets (now (out .entry)) 0 (recordNumbers a) ⌝ }
 {
@@ -44,7 +44,7 @@ fn store(a: Automaton, out: &mut [u8])
     store_four(out, a.states, a.symbols, a.capacity, a.initial);
     base::copy(&a.classes, 0, m, out, 4);
     base::copy(&a.accepting, 0, n, out, 4 + m);
-    store_rows(&a.next, n, m, out, 4 + m + n);
+    store_states(&a.next, n, m, out, 4 + m + n);
 }
 
 pub fn write(a: Automaton, out: &mut [u8]) -> Written
@@ -65,6 +65,6 @@ pub fn write(a: Automaton, out: &mut [u8]) -> Written
             length: 0,
         };
     }
-    store(a, out);
+    store_numbers(a, out);
     Written { refusal: 0, length }
 }

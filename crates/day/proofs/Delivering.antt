@@ -13,7 +13,7 @@ use Rattle.day_transcript.specs.declared.Progress.{Progress}
 use Rattle.day_transcript.specs.Pieces.{toCome, Continued}
 use Rattle.day.specs.Delivery.{Delivered, complete, stopped}
 
--- so many bytes were handed over, whole pieces; the rest of the text is to come
+-- so many bytes were handed over, whole pieces; what is left of the text is to come
 pub record Delivering (text later : List ℕ) (count : ℕ) : Type 0 where
   pub fits : length text < 2 ^ 64
   pub before : List ℕ

@@ -15,8 +15,8 @@ use Rattle.enforcement.specs.Store.{Store, store, storeAll, event, event
 use Rattle.enforcement.specs.Calls.{receiveCall, runCall, refusalIn, expected}
 
 -- From an output and a buffer the function goes on to z: of the buffer's front parts that lead the
--- state, which is where the output leads, into S of the rest, the longest moves to the output's
--- end; if there is none, nothing moves.
+-- state, which is where the output leads, into S of what is left, the longest moves to the
+-- output's end; if there is none, nothing moves.
 pub record Releases (a : Automaton) (output buffer : List ℕ) (z : Store) : Type 0 where
   pub front : List ℕ
   pub put-out : z .output ≡ output ++ front

@@ -35,8 +35,8 @@ added a s e =
     (record { output = s .output; buffer = s .buffer ++ e ∷ [] })
     (record { output = s .output ++ e ∷ []; buffer = remaining a e (s .buffer) })
 
--- then the longest front part of the buffer that leads the state into S of the rest moves to the
--- output's end
+-- then the longest front part of the buffer that leads the state into S of what is left moves to
+-- the output's end
 unfoldable pub moved : Automaton → Store → Store
 moved a s =
     let k = release (bySets a) a (stateOf a s) (s .buffer) in

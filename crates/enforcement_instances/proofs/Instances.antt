@@ -16,6 +16,7 @@ use Rattle.varint.proofs.Trips.{reads-back, fewest}
 use Rattle.automaton.specs.Arrays.{controllableIn}
 use Rattle.automaton.specs.Automaton.{controllable, controllables, accepts, step, shaped}
 use Rattle.automaton_format.proofs.Trips.{written-reads-back, read-again}
+use Rattle.automaton_format.proofs.Faults.{refused-inside}
 use Rattle.solver_sets.specs.Sets.{acceptingSet, admits, stays, refine, settle, settled, setsOf, emptySets, into, setsFor}
 use Rattle.solver_sets.specs.Table.{index, rank, value, shorter, buffersCount}
 use Rattle.solver_sets.proofs.Numbering.{numbered, one-to-one, onto}
@@ -34,6 +35,7 @@ use Rattle.text.specs.Decimal.{ascii}
 use Rattle.notation.proofs.Laws.{never-longer, room-in-text, read-small, cases-read}
 use Rattle.notation_unpack.proofs.Trips.{line-reads-back, packs-shortest, line-bounded, packed-reads-back, cases-unpacked}
 use Rattle.day_transcript.proofs.Cases.{long-refused}
+use Rattle.day_transcript.proofs.Bounds.{transcript-bounded}
 use Rattle.enforcement_instances.proofs.Sheets.{valid-w, read-v, valid-v, solves-w, buffers-w, table-w, solved-w}
 use Rattle.enforcement_instances.proofs.Statements.{filled, paddedV, bytesPadded, tableW, onePage, Encodings, Solving, Judging, textV, Texts}
 
@@ -53,6 +55,7 @@ encodings =
       fewest = fewest (128 ∷ 0 ∷ []) 0 0 2 two-bytes read-zero;
       written-reads-back = written-reads-back automatonW valid-w;
       read-is-valid = valid-v;
+      refused-inside = refused-inside (3 ∷ 2 ∷ []);
       read-again = read-again paddedV automatonV read-v;
     }
 
@@ -158,4 +161,5 @@ texts =
       line-bounded = line-bounded bytesPadded (0 ∷ 7 ∷ []) are-bytes read;
       packed-reads-back = packed-reads-back textV bytesV said;
       long-refused = long-refused (filled 60001 0) zeros;
+      transcript-bounded = transcript-bounded (128 ∷ 0 ∷ []) two-bytes;
     }

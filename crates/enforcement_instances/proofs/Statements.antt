@@ -26,6 +26,7 @@ use Rattle.text.specs.Decimal.{ascii}
 use Rattle.notation.specs.Outcomes.{numbers}
 use Rattle.notation.specs.Packing.{reading, encoded, packed, done}
 use Rattle.notation_unpack.specs.Unpacking.{decoded, lineOf}
+use Rattle.day_transcript.specs.Transcript.{transcript}
 use Rattle.day_transcript.specs.Claims.{Prints}
 
 -- V with three of its numbers padded, as somebody else may write it
@@ -42,6 +43,7 @@ pub record Encodings : Type 0 where
   pub fewest : 0 + length (bytes 0) ≤ 2
   pub written-reads-back : parse (recordBytes automatonW) ≡ parsed automatonW
   pub read-is-valid : valid automatonV ≡ true
+  pub refused-inside : (parse (3 ∷ 2 ∷ []) .refusal ≤ 10) × (parse (3 ∷ 2 ∷ []) .place ≤ 2)
   pub read-again : (parse (recordBytes automatonV) ≡ parsed automatonV) × (length (recordBytes automatonV) ≤ length paddedV)
 
 -- what the solver leaves in a table of nines with two places more than W needs
@@ -100,3 +102,4 @@ pub record Texts : Type 0 where
   pub line-bounded : length (lineOf (0 ∷ 7 ∷ [])) ≤ 4 * length bytesPadded
   pub packed-reads-back : decoded (encoded bytesV) ≡ numbers bytesV
   pub long-refused : Prints (filled 60001 0) ("refused 18" ∷ [])
+  pub transcript-bounded : length (transcript (128 ∷ 0 ∷ [])) ≤ 96 * 60002

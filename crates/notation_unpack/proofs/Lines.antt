@@ -182,7 +182,7 @@ module _ {s out₀ out : List ℕ} {at place : ℕ} (g : Storing s out₀ out at
     after : decodedFrom (suc (steps-more (g .stands) n e storing-number .0)) s (n .place) ≡ numbers (next .0)
     after = ap (λ k. decodedFrom k s (n .place)) (sym (steps-more (g .stands) n e storing-number .1)) ∙ next .2
 
-    -- the line up to the number, the number, its mark, and the rest
+    -- the line up to the number, the number, its mark, and what follows
     parts : (g .written ++ (decimal (n .value) ++ (mark (next .0) ∷ []))) ++ lineOf (next .0) ≡ lineOf (g .values)
     unfolding lineOf
     parts =

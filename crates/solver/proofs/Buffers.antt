@@ -1,4 +1,4 @@
--- Row by row and length by length, the table comes to hold the sets of every buffer.
+-- Symbol by symbol and length by length, the table comes to hold the sets of every buffer.
 use Prim.Native.Nat.{ℕ, zero, suc, _+_, _*_, _^_, _<_, _≤_}
 use mathlib.Core.Path.{_≡_, refl, sym, _∙_, ap, ap₂}
 use mathlib.Core.List.{List, [], _∷_, _++_, map, map-map, map-append, append-nil, append-assoc}
@@ -20,7 +20,7 @@ use Rattle.solver_sets.proofs.Tables.{pairs-length, pairs-at}
 use Rattle.solver_rounds.specs.Rounds.{settledOn}
 use Rattle.automaton_symbols.specs.Symbols.{freeTo}
 use Rattle.solver_rounds.proofs.Agreeing.{settled-is, predecessors-is}
-use Rattle.solver_table.specs.Levels.{setsFrom, goalAt, rowOf, levelOf, stored}
+use Rattle.solver_table.specs.Levels.{setsFrom, goalAt, symbolSets, levelOf, stored}
 
 extended-append : (xs ys : List ℕ) (ws : List (List ℕ)) → extended (xs ++ ys) ws ≡ extended xs ws ++ extended ys ws
 unfolding extended
@@ -55,19 +55,19 @@ module _ (a : Automaton) where
     front-is e j l =
         ap₂ (λ s i. front e (bitOr s i)) (h j l .0) (h j l .1) ∙ sets-from-is e (getD ws j [])
 
-    row-to : (e j : ℕ) → j ≤ length ws → rowOf (front e) t from j ≡ map (λ w. setsFor a (e ∷ w)) (take j ws)
-    unfolding rowOf
+    row-to : (e j : ℕ) → j ≤ length ws → symbolSets (front e) t from j ≡ map (λ w. setsFor a (e ∷ w)) (take j ws)
+    unfolding symbolSets
     row-to e zero l = refl
     row-to e (suc j) l =
         let b : j < length ws = omega arith in
         ap₂ (λ r s. r ++ s ∷ []) (row-to e j (omega arith)) (front-is e j b) ∙
         rw (take-suc ws j [] b) (sym (map-append (λ w. setsFor a (e ∷ w)) (take j ws) (getD ws j [] ∷ [])))
 
-    row-is : (e : ℕ) → rowOf (front e) t from (length ws) ≡ map (setsFor a) (map (λ w. e ∷ w) ws)
+    row-is : (e : ℕ) → symbolSets (front e) t from (length ws) ≡ map (setsFor a) (map (λ w. e ∷ w) ws)
     row-is e =
         row-to e (length ws) (omega arith) ∙ ap (map (λ w. setsFor a (e ∷ w))) (take-length ws) ∙ sym (map-map (setsFor a) (λ w. e ∷ w) ws)
 
-    -- a row for each controllable symbol
+    -- the sets for each controllable symbol
     level-to : (c : ℕ) → levelOf front (a .classes) c t from (length ws) ≡ map (setsFor a) (extended (controllableTo a c) ws)
     unfolding levelOf those extended controllable
     level-to zero = refl

@@ -19,7 +19,7 @@ module _ (a : Automaton) where
   controllable-end [] e c l h = ((l, h), tt)
   controllable-end (d ∷ w) e c l h = (c .0, controllable-end w e (c .1) l h)
 
-  -- the rest after a front part
+  -- what is left after a front part
   pub buffer-drop : (k : ℕ) (w : List ℕ) → Buffer a w → Buffer a (drop k w)
   buffer-drop k w b = (controllable-drop k w (b .0), omega (arith, length-drop k w, b .1))
 

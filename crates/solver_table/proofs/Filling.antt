@@ -1,4 +1,4 @@
--- The rows of the table as a loop writes them.
+-- The sets of the buffers that begin with one symbol, as a loop writes them.
 use Prim.Native.Nat.{ℕ, zero, suc, _+_, _*_, _^_, _<_, _≤_}
 use mathlib.Core.Path.{_≡_, refl, sym, _∙_, ap, ap₂}
 use mathlib.Core.List.{List, [], _∷_, _++_}
@@ -15,7 +15,7 @@ use Rattle.solver_sets.specs.Table.{pairs, roundsSum}
 use Rattle.solver_sets.proofs.Tables.{pairs-length}
 use Rattle.solver_rounds.specs.Rounds.{settledOn, predecessors}
 use Rattle.solver_rounds.proofs.Scanning.{settled-few, predecessors-none}
-use Rattle.solver_table.specs.Levels.{setsFrom, goalAt, rowOf, stored}
+use Rattle.solver_table.specs.Levels.{setsFrom, goalAt, symbolSets, stored}
 
 -- the rounds of a buffer are few
 pub sets-few : (next free : List ℕ) (n u accepting : ℕ) → n ≤ 32 → accepting < 2 ^ n → (e goal : ℕ) → setsFrom next free n u accepting e goal .rounds ≤ 32
@@ -50,25 +50,25 @@ before-stores [] t at i h = refl
 before-stores (v ∷ vs) t at i h =
     before-stores vs (set t at v) (suc at) i (omega arith) ∙ getD-set-other t at i v 0 (λ e. omega arith)
 
--- a row
-pub row-length : (f : ℕ → Sets) (t : List ℕ) (from j : ℕ) → length (rowOf f t from j) ≡ j
-unfolding rowOf
+-- the sets of one symbol
+pub row-length : (f : ℕ → Sets) (t : List ℕ) (from j : ℕ) → length (symbolSets f t from j) ≡ j
+unfolding symbolSets
 row-length f t from zero = refl
 row-length f t from (suc j) =
-    length-append (rowOf f t from j) (f (goalAt t from j) ∷ []) ∙ omega (arith, row-length f t from j)
+    length-append (symbolSets f t from j) (f (goalAt t from j) ∷ []) ∙ omega (arith, row-length f t from j)
 
-pub row-same : (f : ℕ → Sets) (t v : List ℕ) (from j : ℕ) → ((i : ℕ) → i < from + 2 * j → getD t i 0 ≡ getD v i 0) → rowOf f t from j ≡ rowOf f v from j
-unfolding rowOf goalAt
+pub row-same : (f : ℕ → Sets) (t v : List ℕ) (from j : ℕ) → ((i : ℕ) → i < from + 2 * j → getD t i 0 ≡ getD v i 0) → symbolSets f t from j ≡ symbolSets f v from j
+unfolding symbolSets goalAt
 row-same f t v from zero h = refl
 row-same f t v from (suc j) h =
     ap₂ (λ l x. l ++ f x ∷ []) (row-same f t v from j (λ i l. h i (omega arith)))
     (ap₂ bitOr (h (from + 2 * j) (omega arith)) (h (from + 2 * j + 1) (omega arith)))
 
-pub row-few : (f : ℕ → Sets) → ((goal : ℕ) → f goal .rounds ≤ 32) → (t : List ℕ) (from j : ℕ) → roundsSum (rowOf f t from j) ≤ 32 * j
-unfolding rowOf roundsSum
+pub row-few : (f : ℕ → Sets) → ((goal : ℕ) → f goal .rounds ≤ 32) → (t : List ℕ) (from j : ℕ) → roundsSum (symbolSets f t from j) ≤ 32 * j
+unfolding symbolSets roundsSum
 row-few f few t from zero = omega arith
 row-few f few t from (suc j) =
-    rw (sum-append (rowOf f t from j) (f (goalAt t from j) ∷ [])) (omega (arith, row-few f few t from j, few (goalAt t from j)))
+    rw (sum-append (symbolSets f t from j) (f (goalAt t from j) ∷ [])) (omega (arith, row-few f few t from j, few (goalAt t from j)))
 
 -- the sets that a loop goes on with: new ones, or those that it remembered
 pub record Known (f : ℕ → Sets) (goal known : ℕ) (sets : Sets) : Type 0 where
@@ -81,15 +81,15 @@ known-new f goal known sets r h e g = record { is = h; made = e ∙ g ∙ ap f (
 pub known-old : (f : ℕ → Sets) (goal known k : ℕ) (sets s : Sets) → goal ≡ k → s ≡ f k → known ≡ k → sets ≡ s → Known f goal known sets
 known-old f goal known k sets s g r h e = record { is = h ∙ sym g; made = e ∙ r ∙ ap f (sym h) }
 
--- a loop that writes a row
+-- a loop that writes them
 pub record Filling (f : ℕ → Sets) (t₀ : List ℕ) (from to j : ℕ) (t : List ℕ) (known : ℕ) (last : Sets) (rounds : ℕ) : Type 0 where
   pub same : length t ≡ length t₀
-  pub written : t ≡ stored t₀ to (rowOf f t₀ from j)
+  pub written : t ≡ stored t₀ to (symbolSets f t₀ from j)
   pub remembered : last ≡ f known
-  pub summed : rounds ≡ roundsSum (rowOf f t₀ from j)
+  pub summed : rounds ≡ roundsSum (symbolSets f t₀ from j)
 
 pub fill-none : (f : ℕ → Sets) (t : List ℕ) (from to known : ℕ) (last : Sets) → last ≡ f known → Filling f t from to 0 t known last 0
-unfolding rowOf pairs roundsSum
+unfolding symbolSets pairs roundsSum
 fill-none f t from to known last h = record { same = refl; written = refl; remembered = h; summed = refl }
 
 module _ (f : ℕ → Sets) (t₀ : List ℕ) (from to j : ℕ) (t : List ℕ) (known : ℕ) (last : Sets) (rounds : ℕ) (s : Filling f t₀ from to j t known last rounds) where
@@ -98,14 +98,14 @@ module _ (f : ℕ → Sets) (t₀ : List ℕ) (from to j : ℕ) (t : List ℕ) (
   fill-goal h =
       rw (s .written)
       (ap₂ bitOr
-      (before-stores (pairs (rowOf f t₀ from j)) t₀ to (from + 2 * j) (omega arith))
-      (before-stores (pairs (rowOf f t₀ from j)) t₀ to (from + 2 * j + 1) (omega arith)))
+      (before-stores (pairs (symbolSets f t₀ from j)) t₀ to (from + 2 * j) (omega arith))
+      (before-stores (pairs (symbolSets f t₀ from j)) t₀ to (from + 2 * j + 1) (omega arith)))
 
   -- a buffer more
   module _ (h : from + 2 * j + 1 < to) (goal : ℕ) (sets : Sets) (k : Known f (bitOr (getD t (from + 2 * j) 0) (getD t (from + 2 * j + 1) 0)) goal sets) where
-    row-more : rowOf f t₀ from (j + 1) ≡ rowOf f t₀ from j ++ sets ∷ []
-    unfolding rowOf
-    row-more = rw (add-one j) (ap (λ x. rowOf f t₀ from j ++ x ∷ []) (sym (k .made ∙ ap f (k .is ∙ fill-goal h))))
+    row-more : symbolSets f t₀ from (j + 1) ≡ symbolSets f t₀ from j ++ sets ∷ []
+    unfolding symbolSets
+    row-more = rw (add-one j) (ap (λ x. symbolSets f t₀ from j ++ x ∷ []) (sym (k .made ∙ ap f (k .is ∙ fill-goal h))))
 
     pub fill-more : Filling f t₀ from to (j + 1) (set (set t (to + 2 * j) (sets .winning)) (to + 2 * j + 1) (sets .intermediate)) goal sets (rounds + sets .rounds)
     unfolding pairs roundsSum
@@ -113,9 +113,9 @@ module _ (f : ℕ → Sets) (t₀ : List ℕ) (from to j : ℕ) (t : List ℕ) (
       same = simp length-set (s .same);
       written =
           rw (row-more, s .written, add-one (to + 2 * j))
-          (rw (row-length f t₀ from j) at (stored-append t₀ to (rowOf f t₀ from j) (sets ∷ [])));
+          (rw (row-length f t₀ from j) at (stored-append t₀ to (symbolSets f t₀ from j) (sets ∷ [])));
       remembered = k .made;
-      summed = rw (row-more, sum-append (rowOf f t₀ from j) (sets ∷ [])) (omega (arith, s .summed));
+      summed = rw (row-more, sum-append (symbolSets f t₀ from j) (sets ∷ [])) (omega (arith, s .summed));
     }
 
     pub fill-fits : ((goal : ℕ) → f goal .rounds ≤ 32) → rounds + sets .rounds ≤ 32 * (j + 1)

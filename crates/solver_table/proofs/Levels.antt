@@ -11,7 +11,7 @@ use Rattle.base.proofs.Bools.{by}
 use Rattle.automaton.specs.Arrays.{controllableAt}
 use Rattle.solver_sets.specs.declared.Sets.{Sets}
 use Rattle.solver_sets.specs.Table.{pairs, roundsSum}
-use Rattle.solver_table.specs.Levels.{rowOf, levelOf, stored}
+use Rattle.solver_table.specs.Levels.{symbolSets, levelOf, stored}
 use Rattle.solver_table.proofs.Filling.{sum-append, stored-append, before-stores, row-length, row-same, row-few}
 
 module _ (f : ℕ → ℕ → Sets) (classes t : List ℕ) (from count : ℕ) where
@@ -19,7 +19,7 @@ module _ (f : ℕ → ℕ → Sets) (classes t : List ℕ) (from count : ℕ) wh
   level e = levelOf f classes e t from count
 
   abbrev row : ℕ → List Sets
-  row e = rowOf (f e) t from count
+  row e = symbolSets (f e) t from count
 
   -- a symbol more
   level-row : (e : ℕ) → getD classes e 0 ≡ 1 → level (suc e) ≡ level e ++ row e
@@ -77,16 +77,16 @@ module _ (f : ℕ → ℕ → Sets) (classes t₀ : List ℕ) (from count e : �
   })
 
   -- the row is that of the table before
-  row-is : rowOf (f e) t from count ≡ rowOf (f e) t₀ from count
+  row-is : symbolSets (f e) t from count ≡ symbolSets (f e) t₀ from count
   row-is =
       row-same (f e) t t₀ from count
       (λ i l. ap (λ x. getD x i 0) (s .written) ∙ before-stores (pairs (levelOf f classes e t₀ from count)) t₀ (from + 2 * count) i l)
 
-  module _ (h : getD classes e 0 ≡ 1) (t′ : List ℕ) (more : ℕ) (long : length t′ ≡ length t) (put : t′ ≡ stored t at (rowOf (f e) t from count)) (sum : more ≡ roundsSum (rowOf (f e) t from count)) where
+  module _ (h : getD classes e 0 ≡ 1) (t′ : List ℕ) (more : ℕ) (long : length t′ ≡ length t) (put : t′ ≡ stored t at (symbolSets (f e) t from count)) (sum : more ≡ roundsSum (symbolSets (f e) t from count)) where
     pub level-more : Levelling f classes t₀ from count (e + 1) t′ (at + 2 * count) (rounds + more)
     level-more =
         let l = levelOf f classes e t₀ from count in
-        let r = rowOf (f e) t₀ from count in
+        let r = symbolSets (f e) t₀ from count in
         let one = level-row f classes t₀ from count e h in
         rw (add-one e) (record {
           same = long ∙ s .same;

@@ -11,7 +11,8 @@ use Rattle.solver_sets.specs.declared.Sets.{Sets}
 use Rattle.solver_sets.specs.Table.{pairs, roundsSum}
 use Rattle.solver_rounds.specs.Rounds.{settledOn, predecessors}
 
--- the sets of a buffer that begins with e, where `goal` has the states of either set of the rest
+-- the sets of a buffer that begins with e, where `goal` has the states of either set of what
+-- follows e
 unfoldable pub setsFrom : List ℕ → List ℕ → ℕ → ℕ → ℕ → ℕ → ℕ → Sets
 setsFrom next free n u accepting e goal =
     let i = predecessors next n e goal in
@@ -23,15 +24,15 @@ unfoldable pub goalAt : List ℕ → ℕ → ℕ → ℕ
 goalAt t from j = bitOr (getD t (from + 2 * j) 0) (getD t (from + 2 * j + 1) 0)
 
 -- the sets that f makes of each of `count` buffers from a place on
-unfoldable pub rowOf : (ℕ → Sets) → List ℕ → ℕ → ℕ → List Sets
-rowOf f t from zero = []
-rowOf f t from (suc j) = rowOf f t from j ++ f (goalAt t from j) ∷ []
+unfoldable pub symbolSets : (ℕ → Sets) → List ℕ → ℕ → ℕ → List Sets
+symbolSets f t from zero = []
+symbolSets f t from (suc j) = symbolSets f t from j ++ f (goalAt t from j) ∷ []
 
 -- the same for each controllable symbol below m in turn
 unfoldable pub levelOf : (ℕ → ℕ → Sets) → List ℕ → ℕ → List ℕ → ℕ → ℕ → List Sets
 levelOf f classes zero t from count = []
 levelOf f classes (suc e) t from count =
-    levelOf f classes e t from count ++ cond (controllableAt classes e) (rowOf (f e) t from count) []
+    levelOf f classes e t from count ++ cond (controllableAt classes e) (symbolSets (f e) t from count) []
 
 -- a table with sets stored from a place on
 abbrev pub stored : List ℕ → ℕ → List Sets → List ℕ

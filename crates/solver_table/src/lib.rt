@@ -1,5 +1,5 @@
 // The table from one length of buffers to the next. The buffers of one length stand side by side,
-// two places each, and a symbol put in front of each of them gives a row of the next length.
+// two places each, and a symbol put in front of each of them gives buffers of the next length.
 // `next`, `free`, n and u are as in crate `solver_rounds`; `empty` is what the rounds of the empty
 // buffer gave; 262,144 is 8 to the power of 6, the most buffers of one length.
 use solver_rounds::predecessors;
@@ -10,7 +10,7 @@ ghost use mathlib.Core.Path.{_≡_};
 ghost use Prim.Native.Nat.{_+_, _*_, _^_, _<_, _≤_};
 ghost use lib.ListN.{length};
 ghost use Rattle.solver_rounds.specs.Rounds.{RefineRequires, settledOn};
-ghost use Rattle.solver_table.specs.Levels.{setsFrom, rowOf, levelOf, Filled};
+ghost use Rattle.solver_table.specs.Levels.{setsFrom, symbolSets, levelOf, Filled};
 
 // The sets of a buffer that begins with a symbol, where `goal` has the states of either set of the
 // rest.
@@ -38,7 +38,7 @@ fn sets_from<'a>(
 // Puts a symbol in front of the `count` buffers that stand from a place on, and writes their sets
 // from another place on. Neighbours often have the same goal, so the last one's sets are kept. At
 // first these are the sets of goal 0: nothing leads into it, so they are the empty buffer's.
-fn fill_row<'a>(
+fn fill_symbol<'a>(
     next: &'a [u8; 512],
     free: &'a [u8; 16],
     n: usize,
@@ -55,7 +55,7 @@ fn fill_row<'a>(
         × (empty ≡ settledOn (now next) (now free) n u 0 accepting)
         × (symbol < 16) × (from + 2 * count ≤ to) × (to + 2 * count ≤ length (now table)) × (count ≤ 262144) ⌝ }
     ensures { λ r. let f = setsFrom (now (next .entry)) (now (free .entry)) n u accepting in
-        ⌜ Filled (now (table .entry)) to (rowOf (f symbol) (now (table .entry)) from count) (now (table .exit)) r ⌝ }
+        ⌜ Filled (now (table .entry)) to (symbolSets (f symbol) (now (table .entry)) from count) (now (table .exit)) r ⌝ }
 {
     let mut known: u32 = 0;
     let mut last = Sets {
@@ -83,7 +83,7 @@ fn fill_row<'a>(
 }
 
 // Writes the sets of the buffers one longer than the `count` ones that stand from a place on,
-// behind these: a row for each controllable symbol.
+// behind these: for each controllable symbol in turn.
 pub fn fill_level<'a>(
     next: &'a [u8; 512],
     free: &'a [u8; 16],
@@ -111,7 +111,7 @@ pub fn fill_level<'a>(
     let mut e: usize = 0;
     while e < m {
         if classes[e] == 1 {
-            let more = fill_row(
+            let more = fill_symbol(
                 next,
                 free,
                 n,

@@ -13,7 +13,7 @@ use Rattle.varint.specs.Varint.{value, fault, groups, read, encode, byte
 use Rattle.varint.specs.Claims.{AreBytes, ReadsBack, Fewest}
 use Rattle.varint.proofs.Laws.{group-ended, group-last, group-more, same}
 
--- the bytes of a number: one, or a group and those of the rest
+-- the bytes of a number: one, or a group and those of what is left
 module _ (k v : ℕ) where
   encode-one : v < 128 → encode (suc k) v ≡ v ∷ []
   unfolding encode
@@ -23,7 +23,7 @@ module _ (k v : ℕ) where
   unfolding encode
   encode-more h = rw (le-ltb v 128 h)
 
--- the value of a group and of the rest
+-- the value of a group and of what is left
 weigh : (group later unit low : ℕ) → low + group * unit + later * (unit * 128) ≡ low + (group + later * 128) * unit
 weigh group later unit low =
     let e : later * (unit * 128) ≡ later * 128 * unit = rw (mul-comm unit 128) (sym (mul-assoc later 128 unit)) in

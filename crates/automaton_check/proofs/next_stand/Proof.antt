@@ -13,15 +13,15 @@ as-usize-requires c κs = search needs
 limits-of-requires : tie.Need-limits-of-requires
 limits-of-requires c κs = search needs
 
-rows-below-requires : tie.Need-rows-below-requires
-rows-below-requires c κs = search needs
+states-below-requires : tie.Need-states-below-requires
+states-below-requires c κs = search needs
 
 returns : tie.Need-returns
 returns c =
     let r = c .before in
     let l = r .before .before in
     next-falls _ _ _ (omega arith) (omega arith)
-    (rw (l .before .as-usize .ensures .0, l .limits-of .ensures) at (sym (r .rows-below .ensures) ∙ not-true _ (c .if1 .taken)))
+    (rw (l .before .as-usize .ensures .0, l .limits-of .ensures) at (sym (r .states-below .ensures) ∙ not-true _ (c .if1 .taken)))
 
 mul-used : tie.Need-mul-used
 mul-used c = search needs
@@ -39,7 +39,7 @@ returns-2 c =
     let l = r .before .before in
     (rw (l .before .as-usize .ensures .0) at (c .below-from .ensures)) ∙
     next-unused _ _ _ (omega arith) (omega arith)
-    (rw (l .before .as-usize .ensures .0, l .limits-of .ensures) at (sym (r .rows-below .ensures) ∙ not-false _ (e .if1 .left)))
+    (rw (l .before .as-usize .ensures .0, l .limits-of .ensures) at (sym (r .states-below .ensures) ∙ not-false _ (e .if1 .left)))
 
 pub next-stand-spec : {M : Type 1} → statement M
 next-stand-spec =
@@ -47,7 +47,7 @@ next-stand-spec =
     (tie.spec
     as-usize-requires
     limits-of-requires
-    rows-below-requires
+    states-below-requires
     returns
     mul-used
     sub-below-from

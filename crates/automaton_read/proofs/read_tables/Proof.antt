@@ -17,7 +17,7 @@ classes c = c .before .before .before
 abbrev flags : tie.Else2 → tie.After-fill2
 flags c = c .before .before .before
 
-abbrev rows : tie.Else3 → tie.After-fill-rows
+abbrev rows : tie.Else3 → tie.After-fill-states
 rows c = c .before .before .before
 
 abbrev sizes : tie.Else4 → tie.Start
@@ -53,11 +53,11 @@ returns-2 c =
     c .refused2 .ensures ∙ tables-flags _ _ _ _ _ _ (omega arith) (omega arith) _ (classes x .fill .ensures .0) (x .if1 .left) _
     (g .fill2 .ensures .0) (c .before .if2 .taken)
 
-slice-aggregate-fill-rows : tie.Need-slice-aggregate-fill-rows
-slice-aggregate-fill-rows c = search needs
+slice-aggregate-fill-states : tie.Need-slice-aggregate-fill-states
+slice-aggregate-fill-states c = search needs
 
-fill-rows-requires : tie.Need-fill-rows-requires
-fill-rows-requires c κs = search needs
+fill-states-requires : tie.Need-fill-states-requires
+fill-states-requires c κs = search needs
 
 refused-requires-3 : tie.Need-refused-requires-3
 refused-requires-3 c κs = search needs
@@ -71,7 +71,7 @@ returns-3 c =
     let f = classes x in
     let s = start f in
     c .refused3 .ensures ∙ tables-next _ _ _ _ _ _ (omega (arith, s .pre .1)) (omega (arith, s .pre .0)) _ (f .fill .ensures .0)
-    (x .if1 .left) _ (g .fill2 .ensures .0) (y .if2 .left) _ (r .fill-rows .ensures .0) (c .before .if3 .taken)
+    (x .if1 .left) _ (g .fill2 .ensures .0) (y .if2 .left) _ (r .fill-states .ensures .0) (c .before .if3 .taken)
 
 refused-requires-4 : tie.Need-refused-requires-4
 refused-requires-4 c κs = search needs
@@ -86,7 +86,7 @@ returns-4 c =
     let f = classes x in
     let s = start f in
     c .refused4 .ensures ∙ tables-extra _ _ _ _ _ _ (omega (arith, s .pre .1)) (omega (arith, s .pre .0)) _ (f .fill .ensures .0)
-    (x .if1 .left) _ (g .fill2 .ensures .0) (y .if2 .left) _ (r .fill-rows .ensures .0) (z .if3 .left) (c .before .if4 .taken)
+    (x .if1 .left) _ (g .fill2 .ensures .0) (y .if2 .left) _ (r .fill-states .ensures .0) (z .if3 .left) (c .before .if4 .taken)
 
 cast-t23 : tie.Need-cast-t23
 cast-t23 c = omega (arith, sizes c .pre .0)
@@ -112,8 +112,8 @@ returns-5 c =
     let f = classes x in
     let s = start f in
     tables-done _ _ _ _ _ _ (omega (arith, s .pre .1)) (omega (arith, s .pre .0)) _ (f .fill .ensures .0) (x .if1 .left) _
-    (g .fill2 .ensures .0) (y .if2 .left) _ (r .fill-rows .ensures .0) (z .if3 .left) (c .if4 .left) _ _ _ (f .fill .ensures .1)
-    (g .fill2 .ensures .1) (r .fill-rows .ensures .1)
+    (g .fill2 .ensures .0) (y .if2 .left) _ (r .fill-states .ensures .0) (z .if3 .left) (c .if4 .left) _ _ _ (f .fill .ensures .1)
+    (g .fill2 .ensures .1) (r .fill-states .ensures .1)
 
 pub read-tables-spec : {M : Type 1} → statement M
 read-tables-spec =
@@ -127,8 +127,8 @@ read-tables-spec =
     fill-requires-2
     refused-requires-2
     returns-2
-    slice-aggregate-fill-rows
-    fill-rows-requires
+    slice-aggregate-fill-states
+    fill-states-requires
     refused-requires-3
     returns-3
     refused-requires-4

@@ -65,8 +65,8 @@ returns-2 c =
     let z = c .before in
     write-short _ _ (stands (z .before .before)) (rw (z .before .as-usize .ensures .0, z .as-usize2 .ensures .0) at (c .if2 .taken))
 
-store-requires : tie.Need-store-requires
-store-requires c κs =
+store-numbers-requires : tie.Need-store-numbers-requires
+store-numbers-requires c κs =
     let e = c .before in
     let o = e .before .before .before in
     let a = start o .args .a in
@@ -83,7 +83,7 @@ returns-3 c =
     let o = z .before .before in
     let a = o .before .before .before .args in
     let p = write-fits (a .a) (a .out .now) (stands o) (fits e) in
-    (rw (z .before .as-usize .ensures .0, z .as-usize2 .ensures .0) (p .0), w .store .ensures ∙ p .1)
+    (rw (z .before .as-usize .ensures .0, z .as-usize2 .ensures .0) (p .0), w .store-numbers .ensures ∙ p .1)
 
 pub write-spec : {M : Type 1} → statement M
 write-spec =
@@ -98,6 +98,6 @@ write-spec =
     mul-length
     add-length-3
     returns-2
-    store-requires
+    store-numbers-requires
     same-length
     returns-3)

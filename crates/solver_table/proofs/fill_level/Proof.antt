@@ -1,4 +1,4 @@
--- A level: a row for each controllable symbol, behind the level before.
+-- A level: the sets for each controllable symbol in turn, behind the level before.
 use Rattle.solver_table.proofs.Levels.{Levelling, level-none, level-room, level-same, level-more, level-fits}
 use Rattle.solver_table.proofs.Filling.{sets-few, row-few}
 use Rattle.solver_table.specs.Levels.{setsFrom, levelOf}
@@ -28,7 +28,7 @@ start c = c .before .before
 abbrev turn : tie.Then1 Inv-loop μ-loop → tie.At-loop Inv-loop μ-loop
 turn c = c .before .before .before
 
-abbrev row : tie.After-slice-known2 Inv-loop μ-loop → tie.After-fill-row Inv-loop μ-loop
+abbrev row : tie.After-slice-known2 Inv-loop μ-loop → tie.After-fill-symbol Inv-loop μ-loop
 row c = c .before .before
 
 abbrev f : tie.Start Inv-loop μ-loop → ℕ → ℕ → Sets
@@ -40,7 +40,7 @@ few s = sets-few (s .args .next .now) (s .args .free .now) (s .args .n) (s .args
 abbrev level : tie.Start Inv-loop μ-loop → ℕ → List Sets
 level s e = levelOf (f s) (s .args .classes .now) e (s .args .table .now) (s .args .from) (s .args .count)
 
--- a row more has room in the level
+-- those of one symbol more have room in the level
 room : (c : tie.Then1 Inv-loop μ-loop) → let s = start (turn c) in
     length (level s (turn c .loop .e)) + s .args .count ≤ length (level s (s .args .m))
 room c =
@@ -59,8 +59,8 @@ loop-holds c = (omega arith, level-none _ _ _ _ _)
 element-copy-out-if1 : tie.Need-element-copy-out-if1 Inv-loop μ-loop
 element-copy-out-if1 c = search needs
 
-fill-row-requires : tie.Need-fill-row-requires Inv-loop μ-loop
-fill-row-requires c κs =
+fill-symbol-requires : tie.Need-fill-symbol-requires Inv-loop μ-loop
+fill-symbol-requires c κs =
     let o = turn (c .before) in
     let p = start o .pre in
     let v = o .loop .inv .1 in
@@ -72,7 +72,7 @@ add-rounds c =
     let s = start o in
     let e = o .loop .e in
     let more = row-few (f s e) (few s e) (o .loop .table) (s .args .from) (s .args .count) in
-    omega (arith, level-fits _ _ _ _ _ _ _ _ _ (o .loop .inv .1) (few s) (omega arith), row c .fill-row .ensures .1)
+    omega (arith, level-fits _ _ _ _ _ _ _ _ _ (o .loop .inv .1) (few s) (omega arith), row c .fill-symbol .ensures .1)
 
 mul-at-2 : tie.Need-mul-at-2 Inv-loop μ-loop
 mul-at-2 c = search needs
@@ -115,7 +115,7 @@ fill-level-spec =
     add-at
     loop-holds
     element-copy-out-if1
-    fill-row-requires
+    fill-symbol-requires
     add-rounds
     mul-at-2
     add-at-2

@@ -1,7 +1,7 @@
--- `reader::moved` meets its contract: a walk of its MIR, by hand. A reader is made anew of the
--- slice that the one passed holds, and the place passed. The struct is Copy: what it owns is had
--- twice, one copy is kept whole for the exit, and the other, with the facts of the place passed
--- instead of those of the old one, is what the result owns. Assumes nothing.
+-- `varint_reader::moved` meets its contract: a walk of its MIR, by hand. A reader is made anew of
+-- the slice that the one passed holds, and the place passed. The struct is Copy: what it owns is
+-- had twice, one copy is kept whole for the exit, and the other, with the facts of the place
+-- passed instead of those of the old one, is what the result owns. Assumes nothing.
 use mathlib.Core.Path.{refl}
 use Prim.Native.Nat.{ℕ, _<_, _^_}
 use mathlib.Core.List.{[], _∷_}

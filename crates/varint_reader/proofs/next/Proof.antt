@@ -1,8 +1,8 @@
--- `reader::next` meets its contract: a walk of its MIR, by hand. The struct is taken apart, and
--- `varint::read` is called on the slice and the place. All that the proof knows of `varint::read`
--- is that it meets its contract. The struct is Copy: what it owns is had twice, one copy is kept
--- whole for the exit, and of the other what bytes owns goes to the callee, beside the lifetime's
--- token, which comes back. Assumes nothing.
+-- `varint_reader::next` meets its contract: a walk of its MIR, by hand. The struct is taken apart,
+-- and `varint::read` is called on the slice and the place. All that the proof knows of
+-- `varint::read` is that it meets its contract. The struct is Copy: what it owns is had twice, one
+-- copy is kept whole for the exit, and of the other what bytes owns goes to the callee, beside the
+-- lifetime's token, which comes back. Assumes nothing.
 use mathlib.Core.Path.{_≡_, refl}
 use Prim.Native.Nat.{_<_, _^_}
 use mathlib.Core.List.{[], _∷_}

@@ -1,10 +1,10 @@
--- `reader::take_at` meets its contract: a walk of its MIR, by hand. One reader takes the number
--- and is then moved behind it, and the place where it stands is read. All that the proof knows of
--- `new`, `next` and `moved` is that each meets its contract. A reader is Copy: what it owns is had
--- twice, once for `next` and once for `moved`. A number, and what was taken, are plain data: what
--- they own is made anew of their fields' facts. In a local of a body MIR erases the lifetime of
--- the reader's type, so each machine value is shown to have the type at `erased`: what a reader
--- owns does not say the lifetime's name. Assumes nothing.
+-- `varint_reader::take_at` meets its contract: a walk of its MIR, by hand. One reader takes the
+-- number and is then moved behind it, and the place where it stands is read. All that the proof
+-- knows of `new`, `next` and `moved` is that each meets its contract. A reader is Copy: what it
+-- owns is had twice, once for `next` and once for `moved`. A number, and what was taken, are plain
+-- data: what they own is made anew of their fields' facts. In a local of a body MIR erases the
+-- lifetime of the reader's type, so each machine value is shown to have the type at `erased`: what
+-- a reader owns does not say the lifetime's name. Assumes nothing.
 use mathlib.Core.Path.{_≡_, refl, ap, _∙_}
 use Prim.Native.Nat.{ℕ, _<_, _^_}
 use mathlib.Core.List.{List, [], _∷_}

@@ -1,28 +1,28 @@
--- Next states in range, row by row.
+-- Next states in range, state by state.
 use mathlib.Core.Logic.{⊎-elim}
 use mathlib.Core.Path.{_≡_, refl, _∙_, sym}
 use Prim.Native.Nat.{_≤_, _-_}
 use borrow.Author.Tests.{not-true, not-false}
 use Rattle.base.specs.Each.{each}
 use Rattle.automaton.proofs.Checks.{rows-fall, rows-keep}
-use Rattle.automaton.specs.Arrays.{rowsBelow}
+use Rattle.automaton.specs.Arrays.{statesBelow}
 use native.Mathlib.Omega.{arith}
 use borrow.Author.Needs.{needs}
-use Rattle.automaton_check.proofs.rows_below.Statement.{statement}
-use Rattle.automaton_check.proofs.rows_below.Tie as tie
+use Rattle.automaton_check.proofs.states_below.Statement.{statement}
+use Rattle.automaton_check.proofs.states_below.Tie as tie
 
 abbrev Inv-loop : tie.InvT-loop
-Inv-loop next count limits fine₀ q₀ fine q = (q ≤ count) × (fine ≡ rowsBelow next q limits)
+Inv-loop next count limits fine₀ q₀ fine q = (q ≤ count) × (fine ≡ statesBelow next q limits)
 
 abbrev μ-loop : tie.MeasureT-loop
 μ-loop next count limits fine₀ q₀ fine q = count - q
 
 loop-holds : tie.Need-loop-holds Inv-loop μ-loop
-unfolding rowsBelow each
+unfolding statesBelow each
 loop-holds c = (omega arith, refl)
 
-row-below-requires : tie.Need-row-below-requires Inv-loop μ-loop
-row-below-requires c κs = search needs
+state-below-requires : tie.Need-state-below-requires Inv-loop μ-loop
+state-below-requires c κs = search needs
 
 add-q : tie.Need-add-q Inv-loop μ-loop
 add-q c = search needs
@@ -35,21 +35,21 @@ loop-again c =
     let r = c .before in
     let g = r .before .before .loop .inv .1 in (
       omega arith,
-      ⊎-elim (λ w. w .1 ∙ rows-fall _ _ _ _ g (sym (r .row-below .ensures) ∙ not-true _ (w .0 .taken)))
-          (λ w. w .1 ∙ rows-keep _ _ _ _ g (sym (r .row-below .ensures) ∙ not-false _ (w .0 .left))) (c .if1 .came),
+      ⊎-elim (λ w. w .1 ∙ rows-fall _ _ _ _ g (sym (r .state-below .ensures) ∙ not-true _ (w .0 .taken)))
+          (λ w. w .1 ∙ rows-keep _ _ _ _ g (sym (r .state-below .ensures) ∙ not-false _ (w .0 .left))) (c .if1 .came),
     )
 
 returns : tie.Need-returns Inv-loop μ-loop
 returns c = let e : c .before .loop .q ≡ c .before .before .args .count = omega arith in rw e at (c .before .loop .inv .1)
 
-pub rows-below-spec : {M : Type 1} → statement M
-rows-below-spec =
+pub states-below-spec : {M : Type 1} → statement M
+states-below-spec =
     tie.close
     (tie.spec
     Inv-loop
     μ-loop
     loop-holds
-    row-below-requires
+    state-below-requires
     add-q
     loop-less
     loop-again

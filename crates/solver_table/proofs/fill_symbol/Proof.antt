@@ -1,4 +1,5 @@
--- A row: each buffer's sets are new ones, or those of the goal before.
+-- The buffers that begin with one symbol: each buffer's sets are new ones, or those of the goal
+-- before.
 use Rattle.solver_table.proofs.Filling.{sets-few, sets-none, Known, known-new, known-old, Filling, fill-none, fill-more, fill-fits}
 use Rattle.solver_table.specs.Levels.{setsFrom}
 use lib.Bits.{bitOr}
@@ -8,8 +9,8 @@ use mathlib.Core.Path.{_≡_}
 use mathlib.Core.Logic.{⊎-elim}
 use native.Mathlib.Omega.{arith}
 use borrow.Author.Needs.{needs}
-use Rattle.solver_table.proofs.fill_row.Statement.{statement}
-use Rattle.solver_table.proofs.fill_row.Tie as tie
+use Rattle.solver_table.proofs.fill_symbol.Statement.{statement}
+use Rattle.solver_table.proofs.fill_symbol.Tie as tie
 
 abbrev Inv-loop : tie.InvT-loop
 Inv-loop next free n u accepting symbol table₀ from to count known₀ last₀ rounds₀ j₀ table known last rounds j =
@@ -107,8 +108,8 @@ returns c =
     let e : o .j ≡ start (c .before) .args .count = omega arith in
     (rw e at (o .inv .1 .written), rw e at (o .inv .1 .summed))
 
-pub fill-row-spec : {M : Type 1} → statement M
-fill-row-spec =
+pub fill-symbol-spec : {M : Type 1} → statement M
+fill-symbol-spec =
     tie.close
     (tie.spec
     Inv-loop

@@ -2,21 +2,21 @@ use mathlib.Core.Logic.{⊎-elim}
 use mathlib.Core.Path.{_≡_, refl, _∙_}
 use Prim.Native.Nat.{_≤_, _-_}
 use Rattle.base.specs.Each.{each}
-use Rattle.automaton.proofs.Checks.{rowBelowTo, row-falls, row-keeps}
-use Rattle.automaton.specs.Arrays.{rowBelow}
+use Rattle.automaton.proofs.Checks.{stateBelowTo, row-falls, row-keeps}
+use Rattle.automaton.specs.Arrays.{stateBelow}
 use native.Mathlib.Omega.{arith}
 use borrow.Author.Needs.{needs}
-use Rattle.automaton_check.proofs.row_below.Statement.{statement}
-use Rattle.automaton_check.proofs.row_below.Tie as tie
+use Rattle.automaton_check.proofs.state_below.Statement.{statement}
+use Rattle.automaton_check.proofs.state_below.Tie as tie
 
 abbrev Inv-loop : tie.InvT-loop
-Inv-loop next q limits fine₀ e₀ fine e = (e ≤ 16) × (fine ≡ rowBelowTo next q e limits)
+Inv-loop next q limits fine₀ e₀ fine e = (e ≤ 16) × (fine ≡ stateBelowTo next q e limits)
 
 abbrev μ-loop : tie.MeasureT-loop
 μ-loop next q limits fine₀ e₀ fine e = 16 - e
 
 loop-holds : tie.Need-loop-holds Inv-loop μ-loop
-unfolding rowBelowTo each
+unfolding stateBelowTo each
 loop-holds c = (omega arith, refl)
 
 element-copy-out-if1 : tie.Need-element-copy-out-if1 Inv-loop μ-loop
@@ -41,11 +41,11 @@ loop-again : tie.Need-loop-again Inv-loop μ-loop
 loop-again c = (omega arith, ⊎-elim (λ w. w .1 ∙ row-falls _ _ _ _ _ (c .before .before .before .before .loop .inv .1) (w .0 .taken)) (λ w. w .1 ∙ row-keeps _ _ _ _ _ (c .before .before .before .before .loop .inv .1) (w .0 .left)) (c .if1 .came))
 
 returns : tie.Need-returns Inv-loop μ-loop
-unfolding rowBelow rowBelowTo
+unfolding stateBelow stateBelowTo
 returns c = let e : c .before .loop .e ≡ 16 = omega arith in rw e at (c .before .loop .inv .1)
 
-pub row-below-spec : {M : Type 1} → statement M
-row-below-spec =
+pub state-below-spec : {M : Type 1} → statement M
+state-below-spec =
     tie.close
     (tie.spec
     Inv-loop

@@ -6,8 +6,8 @@ use Rattle.automaton.proofs.Facts.{Valid, valid-facts}
 use Rattle.automaton_format.proofs.Storing.{numbers-length, parts-join}
 use native.Mathlib.Omega.{arith}
 use borrow.Author.Needs.{needs}
-use Rattle.automaton_write.proofs.store.Statement.{statement}
-use Rattle.automaton_write.proofs.store.Tie as tie
+use Rattle.automaton_write.proofs.store_numbers.Statement.{statement}
+use Rattle.automaton_write.proofs.store_numbers.Tie as tie
 
 -- The places that later needs look back to, and what is known there.
 
@@ -61,14 +61,14 @@ copy-requires-2 c κs =
     omega (arith, room (start f), z, y, f .store-four .kept .0, p .copy .kept .1 .1 .1 .0) in
     (omega (arith, y, v .accepting-length, v .states-high), l)
 
-add-store-rows : tie.Need-add-store-rows
-add-store-rows c = search needs
+add-store-states : tie.Need-add-store-states
+add-store-states c = search needs
 
-add-store-rows-2 : tie.Need-add-store-rows-2
-add-store-rows-2 c = search needs
+add-store-states-2 : tie.Need-add-store-states-2
+add-store-states-2 c = search needs
 
-store-rows-requires : tie.Need-store-rows-requires
-store-rows-requires c κs =
+store-states-requires : tie.Need-store-states-requires
+store-states-requires c κs =
     let g = c .before .before .before .before .before in
     let p = g .before .before .before .before .before .before .before in
     let f = p .before .before .before .before .before .before .before in
@@ -91,12 +91,12 @@ returns c =
     let f = p .before .before .before .before .before .before .before in
     let m = f .before .before in
     let a = m .before .before .before .args in
-    r .store-rows .ensures ∙
+    r .store-states .ensures ∙
     rw (g .copy2 .ensures, p .copy .ensures, f .store-four .ensures, m .before .as-usize .ensures .0, m .as-usize2 .ensures .0)
     (parts-join (a .t1) (stands (start f)) (a .out .now))
 
-pub store-spec : {M : Type 1} → statement M
-store-spec =
+pub store-numbers-spec : {M : Type 1} → statement M
+store-numbers-spec =
     tie.close
     (tie.spec
     as-usize-requires
@@ -105,8 +105,8 @@ store-spec =
     copy-requires
     add-copy
     copy-requires-2
-    add-store-rows
-    add-store-rows-2
-    store-rows-requires
+    add-store-states
+    add-store-states-2
+    store-states-requires
     same-length
     returns)

@@ -1,4 +1,4 @@
--- The next states, row by row.
+-- The next states, state by state.
 use mathlib.Core.Path.{_∙_, sym, ap}
 use Rattle.automaton_format.proofs.Sections.{Rowing, rowing-begins, rowing-refused, rowing-goes-on, rowing-done}
 use Prim.Native.Nat.{_-_}
@@ -6,8 +6,8 @@ use lib.ListN.{length}
 use mathlib.Core.Path.{_∙_, ap}
 use native.Mathlib.Omega.{arith}
 use borrow.Author.Needs.{needs}
-use Rattle.automaton_read.proofs.fill_rows.Statement.{statement}
-use Rattle.automaton_read.proofs.fill_rows.Tie as tie
+use Rattle.automaton_read.proofs.fill_states.Statement.{statement}
+use Rattle.automaton_read.proofs.fill_states.Tie as tie
 
 abbrev Inv-loop : tie.InvT-loop
 Inv-loop s at next₀ n m place₀ q₀ next place q = Rowing s n m at next place q
@@ -71,8 +71,8 @@ same-length-2 c =
 returns-2 : tie.Need-returns-2 Inv-loop μ-loop
 returns-2 c = rowing-done (c .before .loop .inv) (omega arith)
 
-pub fill-rows-spec : {M : Type 1} → statement M
-fill-rows-spec =
+pub fill-states-spec : {M : Type 1} → statement M
+fill-states-spec =
     tie.close
     (tie.spec
     Inv-loop

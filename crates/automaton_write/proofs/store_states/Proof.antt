@@ -1,4 +1,4 @@
--- The next states, row by row.
+-- The next states, state by state.
 use Prim.Native.Nat.{_*_}
 use Rattle.automaton_format.specs.Writing.{nextNumbers}
 use lib.Seq.{sets}
@@ -8,8 +8,8 @@ use Prim.Native.Nat.{_≤_, _-_, _+_}
 use Rattle.automaton_format.proofs.Storing.{row-more, row-within, rows-small}
 use native.Mathlib.Omega.{arith}
 use borrow.Author.Needs.{needs}
-use Rattle.automaton_write.proofs.store_rows.Statement.{statement}
-use Rattle.automaton_write.proofs.store_rows.Tie as tie
+use Rattle.automaton_write.proofs.store_states.Statement.{statement}
+use Rattle.automaton_write.proofs.store_states.Tie as tie
 
 abbrev Inv-loop : tie.InvT-loop
 Inv-loop next n m out₀ at q₀ out q = (q ≤ n) × (length out ≡ length out₀) × (out ≡ sets out₀ at (nextNumbers next m q))
@@ -67,8 +67,8 @@ same-length c = search needs
 returns : tie.Need-returns Inv-loop μ-loop
 returns c = let e : c .before .loop .q ≡ c .before .before .before .args .n = omega arith in rw e at (c .before .loop .inv .2)
 
-pub store-rows-spec : {M : Type 1} → statement M
-store-rows-spec =
+pub store-states-spec : {M : Type 1} → statement M
+store-states-spec =
     tie.close
     (tie.spec
     Inv-loop
