@@ -29,24 +29,24 @@ module _ (next : List ℕ) (q e : ℕ) (limits : List ℕ) where
   stateBelowTo = each e (λ i. ltb (goes next q i) (getD limits i 0))
 
 module _ (next : List ℕ) (q e : ℕ) (limits : List ℕ) (fine : Bool) (so-far : fine ≡ stateBelowTo next q e limits) where
-  pub row-falls : getD limits e 0 ≤ goes next q e → false ≡ stateBelowTo next q (e + 1) limits
+  pub state-falls : getD limits e 0 ≤ goes next q e → false ≡ stateBelowTo next q (e + 1) limits
   unfolding stateBelowTo
-  row-falls h =
+  state-falls h =
       each-falls (λ i. ltb (goes next q i) (getD limits i 0)) e fine so-far (le-ltb (goes next q e) (getD limits e 0) h)
 
-  pub row-keeps : goes next q e < getD limits e 0 → fine ≡ stateBelowTo next q (e + 1) limits
+  pub state-keeps : goes next q e < getD limits e 0 → fine ≡ stateBelowTo next q (e + 1) limits
   unfolding stateBelowTo
-  row-keeps h =
+  state-keeps h =
       each-keeps (λ i. ltb (goes next q i) (getD limits i 0)) e fine so-far (lt-ltb (goes next q e) (getD limits e 0) h)
 
 module _ (next : List ℕ) (q : ℕ) (limits : List ℕ) (fine : Bool) (so-far : fine ≡ statesBelow next q limits) where
-  pub rows-fall : stateBelow next q limits ≡ false → false ≡ statesBelow next (q + 1) limits
+  pub states-fall : stateBelow next q limits ≡ false → false ≡ statesBelow next (q + 1) limits
   unfolding statesBelow
-  rows-fall h = each-falls (λ q. stateBelow next q limits) q fine so-far h
+  states-fall h = each-falls (λ q. stateBelow next q limits) q fine so-far h
 
-  pub rows-keep : stateBelow next q limits ≡ true → fine ≡ statesBelow next (q + 1) limits
+  pub states-keep : stateBelow next q limits ≡ true → fine ≡ statesBelow next (q + 1) limits
   unfolding statesBelow
-  rows-keep h = each-keeps (λ q. stateBelow next q limits) q fine so-far h
+  states-keep h = each-keeps (λ q. stateBelow next q limits) q fine so-far h
 
 -- one more class
 module _ (classes : List ℕ) (e n : ℕ) (so-far : n ≡ controllableIn classes e) where

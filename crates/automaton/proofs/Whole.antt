@@ -11,8 +11,8 @@ use lib.Dec.{leb, ltb}
 use borrow.Author.Tests.{lt-ltb, le-ltb, le-leb, lt-leb, eq-eqb, leb-true, ltb-true, ltb-false}
 use Rattle.base.specs.Each.{each}
 use Rattle.base.proofs.Bools.{by, and-left, and-right, and-both}
-use Rattle.base.proofs.Ranges.{each-split, each-same, each-rows}
-use Rattle.automaton.specs.Arrays.{controllableIn, goes, stands, placesStand, belowFrom, limitsOf, stateBelow, statesBelow}
+use Rattle.base.proofs.Ranges.{each-split, each-same, each-pairs}
+use Rattle.automaton.specs.Arrays.{controllableIn, goes, stands, placesStand, belowFrom, nextLimits, stateBelow, statesBelow}
 use Rattle.automaton.specs.Automaton.{Automaton, shaped, ranged, classesStand, flagsStand, nextStand, maxClass, tablesStand, valid}
 
 -- the used places, then the others
@@ -37,14 +37,14 @@ module _ (l : List ℕ) (used limit : ℕ) (h : used ≤ length l) where
   places-unused b = sym (places-are l used limit h ∙ rw b)
 
 -- the limits of a state's places
-limits-used : (n m e : ℕ) → e < m → m ≤ 16 → getD (limitsOf n m) e 0 ≡ n
-unfolding limitsOf
+limits-used : (n m e : ℕ) → e < m → m ≤ 16 → getD (nextLimits n m) e 0 ≡ n
+unfolding nextLimits
 limits-used n m e h k =
     let g : e < length (replicate m n) = rw (length-replicate m n) h in
     List·getD-append (replicate m n) (replicate (16 - m) 1) 0 e g ∙ getD-replicate m e n 0 h
 
-limits-unused : (n m e : ℕ) → m ≤ e → e < 16 → getD (limitsOf n m) e 0 ≡ 1
-unfolding limitsOf
+limits-unused : (n m e : ℕ) → m ≤ e → e < 16 → getD (nextLimits n m) e 0 ≡ 1
+unfolding nextLimits
 limits-unused n m e h k =
     let a : e ≡ length (replicate m n) + (e - m) = rw (length-replicate m n) (omega arith) in
     ap (λ i. getD (replicate m n ++ replicate (16 - m) 1) i 0) a ∙
@@ -52,11 +52,11 @@ limits-unused n m e h k =
     getD-replicate (16 - m) (e - m) 1 0 (omega arith)
 
 -- the places of a used state
-row-used : (next : List ℕ) (n m q : ℕ) → m ≤ 16 → q < n
-    → each 16 (λ e. stands (ltb q n && ltb e m) n (goes next q e)) ≡ stateBelow next q (limitsOf n m)
+state-used : (next : List ℕ) (n m q : ℕ) → m ≤ 16 → q < n
+    → each 16 (λ e. stands (ltb q n && ltb e m) n (goes next q e)) ≡ stateBelow next q (nextLimits n m)
 unfolding stateBelow stands
-row-used next n m q h k =
-    each-same 16 (λ e. ltb (goes next q e) (cond (ltb q n && ltb e m) n 1)) (λ e. ltb (goes next q e) (getD (limitsOf n m) e 0))
+state-used next n m q h k =
+    each-same 16 (λ e. ltb (goes next q e) (cond (ltb q n && ltb e m) n 1)) (λ e. ltb (goes next q e) (getD (nextLimits n m) e 0))
     (λ e l. ap (λ x. ltb (goes next q e) x) (rw (lt-ltb q n k)
     (by (ltb e m)
     (λ t. rw t (sym (limits-used n m e (ltb-true e m t) h)))
@@ -71,10 +71,10 @@ place-unused next n m q e =
     rw (le-ltb (n + q) n h, i)
 
 -- the places of the states, then the others
-rows-are : (next : List ℕ) (n m : ℕ) → n ≤ 32 → m ≤ 16
-    → nextStand n m next ≡ (statesBelow next n (limitsOf n m) && belowFrom next (n * 16) (512 - n * 16) 1)
+states-are : (next : List ℕ) (n m : ℕ) → n ≤ 32 → m ≤ 16
+    → nextStand n m next ≡ (statesBelow next n (nextLimits n m) && belowFrom next (n * 16) (512 - n * 16) 1)
 unfolding nextStand statesBelow belowFrom
-rows-are next n m h k =
+states-are next n m h k =
     let e : 32 ≡ n + (32 - n) = omega arith in
     let places : (32 - n) * 16 ≡ 512 - n * 16 = omega arith in
     let p : ℕ → Bool = λ q. each 16 (λ e. stands (ltb q n && ltb e m) n (goes next q e)) in
@@ -82,18 +82,18 @@ rows-are next n m h k =
     ap (λ x. each x p) e ∙
     each-split n (32 - n) p ∙
     ap₂ _&&_
-    (each-same n p (λ q. stateBelow next q (limitsOf n m)) (λ q l. row-used next n m q k l))
+    (each-same n p (λ q. stateBelow next q (nextLimits n m)) (λ q l. state-used next n m q k l))
     (each-same (32 - n) (λ q. p (n + q)) (λ q. each 16 (λ e. zeros (q * 16 + e)))
     (λ q l. each-same 16 (λ e. stands (ltb (n + q) n && ltb e m) n (goes next (n + q) e)) (λ e. zeros (q * 16 + e)) (λ e _. place-unused next n m q e)) ∙
-    each-rows 16 (32 - n) zeros ∙
+    each-pairs 16 (32 - n) zeros ∙
     ap (λ c. each c zeros) places)
 
 module _ (n m : ℕ) (next : List ℕ) (h : n ≤ 32) (k : m ≤ 16) where
-  pub next-falls : statesBelow next n (limitsOf n m) ≡ false → false ≡ nextStand n m next
-  next-falls b = sym (rows-are next n m h k ∙ rw b)
+  pub next-falls : statesBelow next n (nextLimits n m) ≡ false → false ≡ nextStand n m next
+  next-falls b = sym (states-are next n m h k ∙ rw b)
 
-  pub next-unused : statesBelow next n (limitsOf n m) ≡ true → belowFrom next (n * 16) (512 - n * 16) 1 ≡ nextStand n m next
-  next-unused b = sym (rows-are next n m h k ∙ rw b)
+  pub next-unused : statesBelow next n (nextLimits n m) ≡ true → belowFrom next (n * 16) (512 - n * 16) 1 ≡ nextStand n m next
+  next-unused b = sym (states-are next n m h k ∙ rw b)
 
 -- rows 7 to 9, in their order
 module _ (n m : ℕ) (classes flags next : List ℕ) where

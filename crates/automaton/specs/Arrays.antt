@@ -36,8 +36,8 @@ unfoldable pub belowFrom : List ℕ → ℕ → ℕ → ℕ → Bool
 belowFrom l from k limit = each k (λ i. ltb (getD l (from + i) 0) limit)
 
 -- the 16 limits of a state's next states: n for the m symbols, 1 for unused places
-unfoldable pub limitsOf : ℕ → ℕ → List ℕ
-limitsOf n m = replicate m n ++ replicate (16 - m) 1
+unfoldable pub nextLimits : ℕ → ℕ → List ℕ
+nextLimits n m = replicate m n ++ replicate (16 - m) 1
 
 -- state q's 16 places keep the limits
 unfoldable pub stateBelow : List ℕ → ℕ → List ℕ → Bool

@@ -6,7 +6,7 @@ ghost use mathlib.Core.Bool.{true};
 ghost use Prim.Native.Nat.{_+_, _≤_};
 ghost use lib.ListN.{length};
 ghost use Rattle.automaton.specs.Automaton.{shaped, ranged, nextStand, tablesStand, valid, assembled};
-ghost use Rattle.automaton.specs.Arrays.{placesStand, belowFrom, limitsOf, stateBelow, statesBelow};
+ghost use Rattle.automaton.specs.Arrays.{placesStand, belowFrom, nextLimits, stateBelow, statesBelow};
 
 // Rows 3 to 6.
 fn ranged(states: u8, symbols: u8, capacity: u8, initial: u8) -> bool
@@ -48,9 +48,9 @@ fn below_from(list: &[u8], from: usize, count: usize, limit: u8) -> bool
     fine
 }
 
-fn limits_of(n: u8, m: usize) -> [u8; 16]
+fn next_limits(n: u8, m: usize) -> [u8; 16]
     requires { ⌜ m ≤ 16 ⌝ }
-    ensures { λ r. ⌜ r ≡ limitsOf n m ⌝ }
+    ensures { λ r. ⌜ r ≡ nextLimits n m ⌝ }
 {
     let mut limits = [1u8; 16];
     let mut e: usize = 0;
@@ -108,7 +108,7 @@ fn next_stand(n: u8, m: usize, next: &[u8; 512]) -> bool
     ensures { λ r. ⌜ r ≡ nextStand n m (now (next .entry)) ⌝ }
 {
     let states = base::as_usize(n);
-    let limits = limits_of(n, m);
+    let limits = next_limits(n, m);
     if !states_below(next, states, &limits) {
         return false;
     }

@@ -76,9 +76,9 @@ module _ (from : ℕ → Number) (end : ℕ) where
     unfolding nextStates
     next-states-inside check c m zero before at h = (omega arith, h)
     next-states-inside check c m (suc k) before at h =
-        let row = numbers from (λ _. check) m [] at in
+        let block = numbers from (λ _. check) m [] at in
         let i = numbers-inside (λ _. check) (λ _. c) m [] at h in
-        by (eqb (row .refusal) 0) (λ e. rw e (next-states-inside check c m k (before ++ pad 16 (row .values)) (row .place) (i .1))) (λ e. rw e i)
+        by (eqb (block .refusal) 0) (λ e. rw e (next-states-inside check c m k (before ++ pad 16 (block .values)) (block .place) (i .1))) (λ e. rw e i)
 
     -- and on after them
     abbrev Fine : Parsed → Type 0

@@ -19,7 +19,7 @@ use Rattle.automaton_format.specs.Writing.{nextNumbers, recordNumbers}
 use Rattle.automaton.proofs.Facts.{Valid}
 use Rattle.automaton_format.proofs.Items.{inside, range-of}
 use Rattle.automaton_format.proofs.Follows.{done, Follows, Passes, after-number-done, after-number-read, after-numbers-done, after-numbers-read, follows-append, follows-split, numbers-done, numbers-all}
-use Rattle.automaton_format.proofs.NextStates.{Rows, next-prefix, next-states-done, next-states-all}
+use Rattle.automaton_format.proofs.NextStates.{StatesPass, next-prefix, next-states-done, next-states-all}
 use Rattle.automaton_format.proofs.Tally.{tally-count}
 use Rattle.automaton_format.proofs.Classes.{class-passed, classes-pass, classes-tally}
 
@@ -68,11 +68,11 @@ module _ (a : Automaton) (v : Valid a) where
       rw (getD-take (a .states) (a .accepting) i 0 (omega (arith, flags-length)))
       (inside 0 2 7 (flag a i) (omega arith) (omega (arith, v .flag-high i)))
 
-  states-rows : Rows (a .symbols) (between 0 (a .states) 9) (a .states) states
+  states-pass : StatesPass (a .symbols) (between 0 (a .states) 9) (a .states) states
   unfolding step
-  states-rows =
+  states-pass =
       record {
-        rows-length = states-length;
+        states-long = states-length;
         place = λ q e lq le.
             rw (getD-take (a .states * 16) (a .next) (q * 16 + e) 0 (omega arith))
             (λ u. inside 0 (a .states) 9 (step a q e) (omega arith) (v .step-below q e lq u), λ u. v .step-no-symbol q e u le);
@@ -91,7 +91,7 @@ module _ (a : Automaton) (v : Valid a) where
         let e : nextNumbers (a .next) (a .symbols) (a .states) ≡ nextNumbers states (a .symbols) (a .states)
         = ap (λ l. nextNumbers l (a .symbols) (a .states)) (sym (take-append-drop (a .states * 16) (a .next))) ∙
         next-prefix states (drop (a .states * 16) (a .next)) (a .symbols) (a .states) (v .symbols-high) (omega (arith, states-length)) in
-        next-states-done (a .symbols) (between 0 (a .states) 9) (v .symbols-high) from (a .states) states [] at stop states-rows (rw e at f)
+        next-states-done (a .symbols) (between 0 (a .states) 9) (v .symbols-high) from (a .states) states [] at stop states-pass (rw e at f)
 
     pub parsed-of : (end stop : ℕ) → Follows from (recordNumbers a) 0 stop → end ≤ stop → automatonFrom from 1 end ≡ parsed a
     unfolding automatonFrom tables recordNumbers
@@ -121,7 +121,7 @@ module _ (n m b q : ℕ) (cs fs vs : List ℕ) where
 
   module _ (hn : (1 ≤ n) × (n < 33)) (hm : (1 ≤ m) × (m < 17)) (hb : (1 ≤ b) × (b < 7)) (hq : q < n)
       (lc : length cs ≡ m) (pc : Passes (classRow maxClass) [] cs) (lf : length fs ≡ n) (pf : Passes (λ _. between 0 2 7) [] fs)
-      (r : Rows m (between 0 n 9) n vs) where
+      (r : StatesPass m (between 0 n 9) n vs) where
     made-count : controllables made ≤ 8
     unfolding controllables
     made-count =
@@ -130,10 +130,10 @@ module _ (n m b q : ℕ) (cs fs vs : List ℕ) where
         rw (← tally-count m (pad 16 cs) (omega arith), t) (classes-tally 1 cs (omega arith) pc)
 
     made-next : (i : ℕ) → i < n * 16 → getD (pad 512 vs) i 0 ≡ getD vs i 0
-    made-next i h = pad-inside 512 vs i (omega (arith, r .rows-length))
+    made-next i h = pad-inside 512 vs i (omega (arith, r .states-long))
 
     made-after : (i : ℕ) → n * 16 ≤ i → getD (pad 512 vs) i 0 ≡ 0
-    made-after i h = pad-outside 512 vs i (omega (arith, r .rows-length))
+    made-after i h = pad-outside 512 vs i (omega (arith, r .states-long))
 
     made-valid : Valid made
     unfolding step
@@ -141,7 +141,7 @@ module _ (n m b q : ℕ) (cs fs vs : List ℕ) where
         record {
           classes-length = pad-length 16 cs (omega arith);
           accepting-length = pad-length 32 fs (omega arith);
-          next-length = pad-length 512 vs (omega (arith, r .rows-length));
+          next-length = pad-length 512 vs (omega (arith, r .states-long));
           states-low = hn .0;
           states-high = omega arith;
           symbols-low = hm .0;
@@ -167,7 +167,7 @@ module _ (n m b q : ℕ) (cs fs vs : List ℕ) where
     made-numbers =
         let c : take m (pad 16 cs) ≡ cs = rw (← lc) (take-pad 16 cs) in
         let f : take n (pad 32 fs) ≡ fs = rw (← lf) (take-pad 32 fs) in
-        let s : nextNumbers (pad 512 vs) m n ≡ nextNumbers vs m n = next-prefix vs (replicate (512 - length vs) 0) m n (omega arith) (omega (arith, r .rows-length)) in
+        let s : nextNumbers (pad 512 vs) m n ≡ nextNumbers vs m n = next-prefix vs (replicate (512 - length vs) 0) m n (omega arith) (omega (arith, r .states-long)) in
         rw (c, f, s)
 
     made-standing : (from : ℕ → Number) (end stop : ℕ) → Follows from (n ∷ m ∷ b ∷ q ∷ (cs ++ (fs ++ nextNumbers vs m n))) 0 stop → end ≤ stop

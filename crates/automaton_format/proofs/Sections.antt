@@ -83,20 +83,20 @@ module _ (n : Number) (go : ℕ → ℕ → Parsed) where
   after-number-passes z = rw (eq-eqb (n .refusal) 0 z)
 
 -- a state's numbers stored behind those before it
-pub pad-more : (size : ℕ) (before row : List ℕ) (width : ℕ) → length row ≤ width → length before + width ≤ size
-    → sets (pad size before) (length before) row ≡ pad size (before ++ pad width row)
+pub pad-more : (size : ℕ) (before block : List ℕ) (width : ℕ) → length block ≤ width → length before + width ≤ size
+    → sets (pad size before) (length before) block ≡ pad size (before ++ pad width block)
 unfolding pad
-pad-more size before row width h k =
+pad-more size before block width h k =
     let zeros : ℕ → List ℕ = λ i. replicate i 0 in
-    let a : length before + length row ≤ length (before ++ zeros (size - length before)) = simp (length-append, length-replicate) (omega arith) in
-    let e : size - length before - length row ≡ (width - length row) + (size - (length before + width)) = omega arith in
-    let f : length (before ++ (row ++ zeros (width - length row))) ≡ length before + width = simp (length-append, length-replicate) (omega arith) in
-    sets-eq row (before ++ zeros (size - length before)) (length before) a ∙
-    rw (take-append-seam before (zeros (size - length before)), drop-append-add before (zeros (size - length before)) (length row), drop-zeros (size - length before) (length row), f, e)
-    (rw (← replicate-append-replicate {A = ℕ} (width - length row) (size - (length before + width)) 0) (simp append-assoc))
+    let a : length before + length block ≤ length (before ++ zeros (size - length before)) = simp (length-append, length-replicate) (omega arith) in
+    let e : size - length before - length block ≡ (width - length block) + (size - (length before + width)) = omega arith in
+    let f : length (before ++ (block ++ zeros (width - length block))) ≡ length before + width = simp (length-append, length-replicate) (omega arith) in
+    sets-eq block (before ++ zeros (size - length before)) (length before) a ∙
+    rw (take-append-seam before (zeros (size - length before)), drop-append-add before (zeros (size - length before)) (length block), drop-zeros (size - length before) (length block), f, e)
+    (rw (← replicate-append-replicate {A = ℕ} (width - length block) (size - (length before + width)) 0) (simp append-assoc))
 
 -- the loop over the states
-pub record Rowing (s : List ℕ) (n m at : ℕ) (next : List ℕ) (place q : ℕ) : Type 0 where
+pub record StatesFilled (s : List ℕ) (n m at : ℕ) (next : List ℕ) (place q : ℕ) : Type 0 where
   pub narrow : m ≤ 16
   pub few : n ≤ 32
   pub before : List ℕ
@@ -106,9 +106,9 @@ pub record Rowing (s : List ℕ) (n m at : ℕ) (next : List ℕ) (place q : ℕ
   pub size : length next ≡ 512
   pub whole : nextStates (read s) (between 0 n 9) m n [] at ≡ nextStates (read s) (between 0 n 9) m (n - q) before place
 
-pub rowing-begins : (s : List ℕ) (n m at : ℕ) (next : List ℕ) → m ≤ 16 → n ≤ 32 → next ≡ replicate 512 0 → Rowing s n m at next at 0
+pub filled-begins : (s : List ℕ) (n m at : ℕ) (next : List ℕ) → m ≤ 16 → n ≤ 32 → next ≡ replicate 512 0 → StatesFilled s n m at next at 0
 unfolding pad
-rowing-begins s n m at next narrow few zeros =
+filled-begins s n m at next narrow few zeros =
     let e : n ≡ n - 0 = omega arith in
     record {
       narrow = narrow;
@@ -121,7 +121,7 @@ rowing-begins s n m at next narrow few zeros =
       whole = ap (λ k. nextStates (read s) (between 0 n 9) m k [] at) e;
     }
 
-module _ {s : List ℕ} {n m at : ℕ} {next : List ℕ} {place q : ℕ} (g : Rowing s n m at next place q) where
+module _ {s : List ℕ} {n m at : ℕ} {next : List ℕ} {place q : ℕ} (g : StatesFilled s n m at next place q) where
   all : Numbers
   all = nextStates (read s) (between 0 n 9) m n [] at
 
@@ -130,68 +130,68 @@ module _ {s : List ℕ} {n m at : ℕ} {next : List ℕ} {place q : ℕ} (g : Ro
 
   -- the state at hand
   module _ (r : Number) (e : r ≡ outcome (numbers (read s) (itemRow n 9 16) m [] place)) (h : q < n) where
-    row : Numbers
-    row = numbers (read s) (λ _. between 0 n 9) m [] place
+    block : Numbers
+    block = numbers (read s) (λ _. between 0 n 9) m [] place
 
-    row-is : row ≡ numbers (read s) (itemRow n 9 16) m [] place
-    unfolding row
-    row-is = items-are (read s) n 9 16 m place (g .narrow)
+    block-is : block ≡ numbers (read s) (itemRow n 9 16) m [] place
+    unfolding block
+    block-is = items-are (read s) n 9 16 m place (g .narrow)
 
-    refusal-is : row .refusal ≡ r .refusal
+    refusal-is : block .refusal ≡ r .refusal
     unfolding outcome
-    refusal-is = ap (λ (x : Numbers). x .refusal) row-is ∙ ap (λ (x : Number). x .refusal) (sym e)
+    refusal-is = ap (λ (x : Numbers). x .refusal) block-is ∙ ap (λ (x : Number). x .refusal) (sym e)
 
-    place-is : row .place ≡ r .place
+    place-is : block .place ≡ r .place
     unfolding outcome
-    place-is = ap (λ (x : Numbers). x .place) row-is ∙ ap (λ (x : Number). x .place) (sym e)
+    place-is = ap (λ (x : Numbers). x .place) block-is ∙ ap (λ (x : Number). x .place) (sym e)
 
-    row-short : length (row .values) ≤ m
-    unfolding row
-    row-short = omega (arith, numbers-most (read s) (λ _. between 0 n 9) m [] place)
+    state-short : length (block .values) ≤ m
+    unfolding block
+    state-short = omega (arith, numbers-most (read s) (λ _. between 0 n 9) m [] place)
 
     -- what stands after it
     then : List ℕ
     then = sets next (q * 16) (numbers (read s) (itemRow n 9 16) m [] place .values)
 
-    then-is : then ≡ sets (pad 512 (g .before)) (length (g .before)) (row .values)
+    then-is : then ≡ sets (pad 512 (g .before)) (length (g .before)) (block .values)
     unfolding then
     then-is =
         ap (λ x. sets x (q * 16) (numbers (read s) (itemRow n 9 16) m [] place .values)) (g .stored) ∙
-        ap₂ (λ i x. sets (pad 512 (g .before)) i x) (sym (g .long)) (ap (λ (x : Numbers). x .values) (sym row-is))
+        ap₂ (λ i x. sets (pad 512 (g .before)) i x) (sym (g .long)) (ap (λ (x : Numbers). x .values) (sym block-is))
 
-    now-row : all ≡ nextStates (read s) (between 0 n 9) m (suc (n - suc q)) (g .before) place
+    now-state : all ≡ nextStates (read s) (between 0 n 9) m (suc (n - suc q)) (g .before) place
     unfolding all
-    now-row = let k : n - q ≡ suc (n - suc q) = omega arith in g .whole ∙ ap (λ k. nextStates (read s) (between 0 n 9) m k (g .before) place) k
+    now-state = let k : n - q ≡ suc (n - suc q) = omega arith in g .whole ∙ ap (λ k. nextStates (read s) (between 0 n 9) m k (g .before) place) k
 
-    pub rowing-refused : (r .refusal ≡ 0 → ⊥)
+    pub filled-refused : (r .refusal ≡ 0 → ⊥)
         → (fault (r .refusal) (r .place) ≡ outcome (nextStates (read s) (between 0 n 9) m n [] at))
         × (sets next (q * 16) (numbers (read s) (itemRow n 9 16) m [] place .values) ≡ pad 512 (nextStates (read s) (between 0 n 9) m n [] at .values))
-    unfolding outcome all nextStates row then
-    rowing-refused z =
-        ends (record { refusal = r .refusal; place = r .place; values = g .before ++ row .values }) then
-        (now-row ∙ rw (refusal-is, place-is, ne-eqb (r .refusal) 0 z))
-        (then-is ∙ pad-sets 512 (g .before) (row .values) (omega (arith, g .long, g .few, row-short, g .narrow)))
+    unfolding outcome all nextStates block then
+    filled-refused z =
+        ends (record { refusal = r .refusal; place = r .place; values = g .before ++ block .values }) then
+        (now-state ∙ rw (refusal-is, place-is, ne-eqb (r .refusal) 0 z))
+        (then-is ∙ pad-sets 512 (g .before) (block .values) (omega (arith, g .long, g .few, state-short, g .narrow)))
 
-    pub rowing-goes-on : r .refusal ≡ 0
-        → Rowing s n m at (sets next (q * 16) (numbers (read s) (itemRow n 9 16) m [] place .values)) (r .place) (q + 1)
-    unfolding all nextStates row then
-    rowing-goes-on z =
+    pub filled-goes-on : r .refusal ≡ 0
+        → StatesFilled s n m at (sets next (q * 16) (numbers (read s) (itemRow n 9 16) m [] place .values)) (r .place) (q + 1)
+    unfolding all nextStates block then
+    filled-goes-on z =
         record {
           narrow = g .narrow;
           few = g .few;
           size = length-sets next (q * 16) (numbers (read s) (itemRow n 9 16) m [] place .values) ∙ g .size;
-          before = g .before ++ pad 16 (row .values);
-          long = length-append (g .before) (pad 16 (row .values)) ∙ ap₂ _+_ (g .long) (pad-length 16 (row .values) (omega (arith, row-short, g .narrow))) ∙ omega arith;
+          before = g .before ++ pad 16 (block .values);
+          long = length-append (g .before) (pad 16 (block .values)) ∙ ap₂ _+_ (g .long) (pad-length 16 (block .values) (omega (arith, state-short, g .narrow))) ∙ omega arith;
           within = omega arith;
-          stored = then-is ∙ pad-more 512 (g .before) (row .values) 16 (omega (arith, row-short, g .narrow)) (omega (arith, g .long, g .few));
-          whole = rw (add-one q) (now-row ∙ rw (refusal-is, place-is, eq-eqb (r .refusal) 0 z));
+          stored = then-is ∙ pad-more 512 (g .before) (block .values) 16 (omega (arith, state-short, g .narrow)) (omega (arith, g .long, g .few));
+          whole = rw (add-one q) (now-state ∙ rw (refusal-is, place-is, eq-eqb (r .refusal) 0 z));
         }
 
-  pub rowing-done : n ≤ q
+  pub filled-done : n ≤ q
       → (record { refusal = 0; value = 0; place = place } ≡ outcome (nextStates (read s) (between 0 n 9) m n [] at))
       × (next ≡ pad 512 (nextStates (read s) (between 0 n 9) m n [] at .values))
   unfolding outcome all nextStates
-  rowing-done h =
+  filled-done h =
       let e : n - q ≡ 0 = omega arith in
       ends (record { refusal = 0; place = place; values = g .before }) next
       (g .whole ∙ ap (λ k. nextStates (read s) (between 0 n 9) m k (g .before) place) e)

@@ -14,36 +14,36 @@ use Rattle.automaton.proofs.Facts.{Valid}
 
 -- the numbers of some states
 module _ (next : List ℕ) (long : length next ≡ 512) (m : ℕ) (narrow : m ≤ 16) where
-  row-length : (q : ℕ) → q < 32 → length (take m (drop (q * 16) next)) ≡ m
-  row-length q h = length-take-le m (drop (q * 16) next) (rw (length-drop (q * 16) next) (omega arith))
+  state-length : (q : ℕ) → q < 32 → length (take m (drop (q * 16) next)) ≡ m
+  state-length q h = length-take-le m (drop (q * 16) next) (rw (length-drop (q * 16) next) (omega arith))
 
-  pub rows-length : (q : ℕ) → q ≤ 32 → length (nextNumbers next m q) ≡ q * m
+  pub states-long : (q : ℕ) → q ≤ 32 → length (nextNumbers next m q) ≡ q * m
   unfolding nextNumbers
-  rows-length zero h = omega arith
-  rows-length (suc q) h =
+  states-long zero h = omega arith
+  states-long (suc q) h =
       length-append (nextNumbers next m q) (take m (drop (q * 16) next)) ∙
-      ap₂ _+_ (rows-length q (omega arith)) (row-length q (omega arith)) ∙
+      ap₂ _+_ (states-long q (omega arith)) (state-length q (omega arith)) ∙
       omega (arith, suc-mul q m)
 
   -- one more state stored
-  pub row-more : (out : List ℕ) (at q : ℕ) → q < 32
+  pub state-more : (out : List ℕ) (at q : ℕ) → q < 32
       → sets (sets out at (nextNumbers next m q)) (at + q * m) (take m (drop (q * 16) next)) ≡ sets out at (nextNumbers next m (q + 1))
   unfolding nextNumbers
-  row-more out at q h =
-      let e : at + q * m ≡ at + length (nextNumbers next m q) = ap (λ k. at + k) (sym (rows-length q (omega arith))) in
+  state-more out at q h =
+      let e : at + q * m ≡ at + length (nextNumbers next m q) = ap (λ k. at + k) (sym (states-long q (omega arith))) in
       ap (λ i. sets (sets out at (nextNumbers next m q)) i (take m (drop (q * 16) next))) e ∙
       sets-join out at (nextNumbers next m q) (take m (drop (q * 16) next)) ∙
       rw (add-one q)
 
 -- the numbers of a state are within those of all
-pub row-within : (n m q : ℕ) → q < n → q * m + m ≤ n * m
-row-within n m q h =
+pub state-within : (n m q : ℕ) → q < n → q * m + m ≤ n * m
+state-within n m q h =
     let s : suc q ≤ n = omega arith in
     let r : m ≤ m = omega arith in
     omega (arith, mul-le-mul s r, suc-mul q m)
 
-pub rows-small : (n m : ℕ) → n ≤ 32 → m ≤ 16 → n * m ≤ 512
-rows-small n m h k = let p : n * m ≤ 32 * 16 = mul-le-mul h k in omega (arith, p)
+pub states-small : (n m : ℕ) → n ≤ 32 → m ≤ 16 → n * m ≤ 512
+states-small n m h k = let p : n * m ≤ 32 * 16 = mul-le-mul h k in omega (arith, p)
 
 -- the parts of a valid record, one behind the other
 module _ (a : Automaton) (v : Valid a) where
@@ -57,7 +57,7 @@ module _ (a : Automaton) (v : Valid a) where
   unfolding recordNumbers
   numbers-length =
       simp length-append
-      (omega (arith, classes-length, flags-length, rows-length (a .next) (v .next-length) (a .symbols) (v .symbols-high) (a .states) (v .states-high)))
+      (omega (arith, classes-length, flags-length, states-long (a .next) (v .next-length) (a .symbols) (v .symbols-high) (a .states) (v .states-high)))
 
   pub parts-join : (out : List ℕ)
       → sets

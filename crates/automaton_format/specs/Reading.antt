@@ -55,10 +55,10 @@ numbers from check (suc k) before at =
 unfoldable pub nextStates : (ℕ → Number) → (ℕ → ℕ) → ℕ → ℕ → List ℕ → ℕ → Numbers
 nextStates from check m zero before at = record { refusal = 0; place = at; values = before }
 nextStates from check m (suc k) before at =
-    let row = numbers from (λ _. check) m [] at in
-    cond (eqb (row .refusal) 0)
-    (nextStates from check m k (before ++ pad 16 (row .values)) (row .place))
-    (record { refusal = row .refusal; place = row .place; values = before ++ row .values })
+    let block = numbers from (λ _. check) m [] at in
+    cond (eqb (block .refusal) 0)
+    (nextStates from check m k (before ++ pad 16 (block .values)) (block .place))
+    (record { refusal = block .refusal; place = block .place; values = before ++ block .values })
 
 abbrev pub parsed : Automaton → Parsed
 parsed a = record { refusal = 0; place = 0; automaton = a }

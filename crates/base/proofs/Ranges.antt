@@ -62,12 +62,12 @@ each-split n zero p = rw (add-zero n) (sym (and-true (each n p)))
 each-split n (suc m) p =
     rw (add-suc n m) (ap (λ b. b && p (n + m)) (each-split n m p) ∙ and-assoc (each n p) (each m (λ k. p (n + k))) (p (n + m)))
 
--- rows of equal width, as one
-pub each-rows : (w k : ℕ) (p : ℕ → Bool) → each k (λ q. each w (λ e. p (q * w + e))) ≡ each (k * w) p
+-- blocks of equal width, as one
+pub each-pairs : (w k : ℕ) (p : ℕ → Bool) → each k (λ q. each w (λ e. p (q * w + e))) ≡ each (k * w) p
 unfolding each
-each-rows w zero p = rw (zero-mul w)
-each-rows w (suc k) p =
-    ap (λ b. b && each w (λ e. p (k * w + e))) (each-rows w k p) ∙ sym (each-split (k * w) w p) ∙ ap (λ n. each n p) (sym (suc-mul k w))
+each-pairs w zero p = rw (zero-mul w)
+each-pairs w (suc k) p =
+    ap (λ b. b && each w (λ e. p (k * w + e))) (each-pairs w k p) ∙ sym (each-split (k * w) w p) ∙ ap (λ n. each n p) (sym (suc-mul k w))
 
 pub count-more : (n : ℕ) (p : ℕ → Bool) → count (n + 1) p ≡ count n p + cond (p n) 1 0
 unfolding count

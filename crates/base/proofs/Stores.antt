@@ -1,4 +1,4 @@
--- Runs of stores into a list.
+-- Lists stored into a list.
 use Prim.Native.Nat.{ℕ, suc, _+_, _-_, _<_}
 use mathlib.Core.Path.{_≡_, _∙_}
 use mathlib.Core.List.{List, [], _∷_, _++_}

@@ -11,7 +11,7 @@ use Rattle.automaton.specs.declared.Automaton.{Automaton}
 use Rattle.automaton.specs.Arrays.{controllableAt}
 use Rattle.automaton.specs.Automaton.{valid}
 pub use Rattle.configuration.specs.declared.Configuration.{Configuration}
-pub use Rattle.configuration.specs.declared.Start.{Start}
+pub use Rattle.configuration.specs.declared.FirstConfiguration.{FirstConfiguration}
 
 -- the held events, first in first
 unfoldable pub heldEvents : Configuration → List ℕ
@@ -26,8 +26,8 @@ abbrev pub positionOf : Configuration → Position
 positionOf c = record { state = c .state; buffer = heldEvents c }
 
 -- a state with nothing held
-abbrev pub begun : ℕ → Position
-begun q = record { state = q; buffer = [] }
+abbrev pub emptyAt : ℕ → Position
+emptyAt q = record { state = q; buffer = [] }
 
 -- the configuration of a position
 abbrev pub configuration : Position → Configuration
@@ -59,11 +59,11 @@ consistent a = consistentIn (a .states) (a .symbols) (a .capacity) (a .classes)
 
 -- the initial configuration (document 01's fresh): the automaton's initial state and nothing held
 unfoldable pub initialOf : Automaton → Configuration
-initialOf a = configuration (begun (a .initial))
+initialOf a = configuration (emptyAt (a .initial))
 
 -- asked of a record: row 11, with zeros
-unfoldable pub initialAnswer : Automaton → Start
+unfoldable pub initialAnswer : Automaton → FirstConfiguration
 initialAnswer a =
     cond (valid a)
     (record { refusal = 0; configuration = initialOf a })
-    (record { refusal = 11; configuration = configuration (begun 0) })
+    (record { refusal = 11; configuration = configuration (emptyAt 0) })

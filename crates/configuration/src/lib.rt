@@ -2,7 +2,7 @@
 // `configuration_check` checks row 13.)
 use automaton::Automaton;
 ghost use mathlib.Core.Path.{_≡_};
-ghost use Rattle.configuration.specs.Configuration.{begun, configuration, initialAnswer};
+ghost use Rattle.configuration.specs.Configuration.{emptyAt, configuration, initialAnswer};
 
 // Document 01's carried state: a state, how many events are held, and those events in order;
 // unused places are 0.
@@ -13,14 +13,14 @@ pub struct Configuration {
 }
 
 // What `initial` gives: the initial configuration (refusal 0), or the refusing row with zeros.
-pub struct Start {
+pub struct FirstConfiguration {
     pub refusal: u8,
     pub configuration: Configuration,
 }
 
 // A state with nothing held.
 pub fn empty(state: u8) -> Configuration
-    ensures { λ r. ⌜ r ≡ configuration (begun state) ⌝ }
+    ensures { λ r. ⌜ r ≡ configuration (emptyAt state) ⌝ }
 {
     Configuration {
         state,
@@ -29,16 +29,16 @@ pub fn empty(state: u8) -> Configuration
     }
 }
 
-pub fn initial(a: Automaton) -> Start
+pub fn initial(a: Automaton) -> FirstConfiguration
     ensures { λ r. ⌜ r ≡ initialAnswer a ⌝ }
 {
     if automaton_check::valid(a) {
-        return Start {
+        return FirstConfiguration {
             refusal: 0,
             configuration: empty(a.initial),
         };
     }
-    Start {
+    FirstConfiguration {
         refusal: 11,
         configuration: empty(0),
     }

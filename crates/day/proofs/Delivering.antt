@@ -6,7 +6,7 @@ use mathlib.Core.List.{List, [], _++_, append-assoc, append-nil}
 use native.Mathlib.Omega.{arith}
 use lib.ListN.{length, take, length-append}
 use borrow.Author.Tests.{eqb-true, eqb-false}
-use Rattle.streams.specs.declared.Written.{Written}
+use Rattle.streams.specs.declared.WriteResult.{WriteResult}
 use Rattle.streams.specs.Streams.{Handed}
 use Rattle.text.proofs.Appending.{front-is, front-length}
 use Rattle.day_transcript.specs.declared.Progress.{Progress}
@@ -29,7 +29,7 @@ ends {text} {later} {count} g e out =
     rw (g .counted, all) complete
 
 module _ {text t s : List ℕ} {p : Progress} {count : ℕ} (g : Delivering text (toCome t s p) count)
-    {out out′ : List ℕ} {after : Progress} {n : ℕ} (x : Continued t s p out 0 out′ after n) {w : Written} (h : Handed (take n out′) w) where
+    {out out′ : List ℕ} {after : Progress} {n : ℕ} (x : Continued t s p out 0 out′ after n) {w : WriteResult} (h : Handed (take n out′) w) where
   whole : g .before ++ (x .written ++ toCome t s after) ≡ text
   whole = ap (λ l. g .before ++ l) (x .whole) ∙ g .whole
 

@@ -1,5 +1,5 @@
 // The day program: reads standard input and writes its transcript.
-use streams::Written;
+use streams::WriteResult;
 ghost use mathlib.Core.Path.{_≡_};
 ghost use Prim.Native.Nat.{_≤_};
 ghost use lib.ListN.{length};
@@ -10,7 +10,7 @@ ghost use Rattle.day.specs.Delivery.{Delivered};
 
 // Writes the transcript of an input piece by piece to standard output, until a piece cannot be
 // written whole.
-fn write(input: &[u8], table: &mut [u32; 16384], out: &mut [u8]) -> Written
+fn write(input: &[u8], table: &mut [u32; 16384], out: &mut [u8]) -> WriteResult
     requires { ⌜ lineRoom ≤ length (now out) ⌝ }
     ensures { λ r. ⌜ Delivered (transcript (now (input .entry))) (now (out .exit)) (r .count) (r .done) ⌝ }
     ensures { λ _. ⌜ now (table .exit) ≡ tableAfter (now (input .entry)) (now (table .entry)) ⌝ }
@@ -21,14 +21,14 @@ fn write(input: &[u8], table: &mut [u32; 16384], out: &mut [u8]) -> Written
         let piece = day_pieces::next_piece(progress, input, table, out);
         let length = piece.length;
         if length == 0 {
-            break Written { count, done: true };
+            break WriteResult { count, done: true };
         }
         let written = streams::write_all(streams::STANDARD_OUTPUT, &out[..length]);
         let taken = written.count;
         let whole = written.done;
         count = count + taken;
         if !whole {
-            break Written { count, done: false };
+            break WriteResult { count, done: false };
         }
         let later = piece.progress;
         progress = later;

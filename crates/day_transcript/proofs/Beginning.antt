@@ -20,7 +20,7 @@ use Rattle.solver_sets.specs.Table.{buffersCount, short, table, Solved}
 use Rattle.solver_sets.proofs.Tables.{table-is-solved}
 use Rattle.solver_answers.specs.declared.Solution.{Solution}
 use Rattle.solver_answers.specs.Solving.{solveRefusal, solution, solvedTable}
-use Rattle.configuration.specs.declared.Start.{Start}
+use Rattle.configuration.specs.declared.FirstConfiguration.{FirstConfiguration}
 use Rattle.configuration.specs.Configuration.{initialAnswer}
 use Rattle.text_lines.specs.Lines.{refusalLine}
 use Rattle.day_transcript.specs.Transcript.{automatonAt, opening, sessionFrom, sessionLines, tooLong, overPlaces, transcript}
@@ -52,7 +52,7 @@ module _ (a : Automaton) (v : valid a ≡ true) (t : List ℕ) (long : length t 
     open-refused z =
         by (overPlaces a) (λ l. rw l) (λ l. absurd (z (solution-refusal r e ∙ rw l)))
 
-    pub open-solved : r .refusal ≡ 0 → (start : Start) → start ≡ initialAnswer a
+    pub open-solved : r .refusal ≡ 0 → (start : FirstConfiguration) → start ≡ initialAnswer a
         → at Opening (record { automaton = a; configuration = start .configuration; place = place; accepted = 0; refused = 0 }) ≡ opened a place
     unfolding opened sessionFrom initialAnswer
     open-solved z start f =

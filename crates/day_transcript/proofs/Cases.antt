@@ -12,7 +12,7 @@ use Rattle.automaton.specs.Arrays.{controllableIn, stands, placesStand}
 use Rattle.automaton.specs.Automaton.{controllable, controllables, accepts, step, reached, shaped, ranged, classesStand, flagsStand, nextStand, valid}
 use Rattle.automaton_format.specs.Reading.{checked, between, itemRow, numbers, nextStates, afterNumber, afterNumbers, tables, automatonFrom, parse}
 use Rattle.solver_sets.specs.Sets.{acceptingSet, admits, stays, refine, settle, settled, setsOf, emptySets, into, setsFor}
-use Rattle.solver_sets.specs.Table.{rank, value, shorter, index, buffersCount, short, extended, buffersAt, buffersTo, pairs, table}
+use Rattle.solver_sets.specs.Table.{rank, inBaseK, shorter, index, buffersCount, short, extended, buffersAt, buffersTo, pairs, table}
 use Rattle.configuration.specs.Configuration.{heldEvents, controllableSymbol, placeStands, bufferStands, consistentIn, initialOf}
 use Rattle.monitor_rule.specs.Step.{byTable, qualifies, qualifying, release, remaining, arrival, effect, eventRows}
 use Rattle.monitor_answers.specs.Answers.{tableRows, configurationRows, callRows, isWinning, callRefusal, status, receiveRefusal, received}
@@ -26,7 +26,7 @@ use Rattle.day_transcript.specs.Claims.{v, large, lines, CasesPrinted, L
 unfoldable all : ℕ
 unfolding each count those lastOr has mask pad first groups read controllableIn stands placesStand controllable controllables
     accepts step reached shaped ranged classesStand flagsStand nextStand valid checked between itemRow numbers nextStates afterNumber afterNumbers tables
-    automatonFrom parse acceptingSet admits stays refine settle settled setsOf emptySets into setsFor rank value shorter index
+    automatonFrom parse acceptingSet admits stays refine settle settled setsOf emptySets into setsFor rank inBaseK shorter index
     buffersCount short extended buffersAt buffersTo pairs table heldEvents controllableSymbol placeStands bufferStands
     consistentIn initialOf byTable qualifies qualifying release remaining arrival effect eventRows tableRows configurationRows
     callRows isWinning

@@ -93,7 +93,7 @@ module _ (a : Automaton) (t : Total a) where
       (λ r q u l. back w releases r q u)
       q l h start rule events output led)
 
-  -- every rest of a buffer
+  -- whatever is left of a buffer
   driven : (w : List ℕ) (k : ℕ) → Driven (drop k w)
   driven [] k = rw (drop-nil {A = ℕ} k) (level [] (λ j q l h. inl (take-nil j, drop-nil j)))
   driven (e ∷ w) zero = level (e ∷ w) (releasing e w (driven w))

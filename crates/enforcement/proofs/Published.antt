@@ -12,17 +12,17 @@ use Rattle.automaton.specs.declared.Automaton.{Automaton}
 use Rattle.automaton.specs.Automaton.{class, controllable}
 use Rattle.automaton.proofs.Classes.{class-one}
 use Rattle.monitor_rule.specs.Step.{bySets, remaining}
-use Rattle.monitor_rule.specs.Claims.{Unknown, Full, Taken}
+use Rattle.monitor_rule.specs.Claims.{Unknown, Full, Admitted}
 use Rattle.monitor_rule.proofs.Worded.{event-rows-as-worded, releases-longest}
 use Rattle.monitor_answers.specs.Claims.{RowOfRun}
 use Rattle.monitor_answers.proofs.Worded.{room-as-worded, row-of-run}
-use Rattle.enforcement.specs.Store.{Store, stateOf, positionAt, refusalAt, added, moved, store, storeAll, events, lacksRoom, feed, refusedOf}
+use Rattle.enforcement.specs.Store.{Store, stateOf, positionAt, refusalAt, added, released, store, storeAll, events, lacksRoom, feed, refusedOf}
 use Rattle.enforcement.specs.Calls.{runCall, refusalIn, expected}
 use Rattle.enforcement.specs.Published.{Releases, FollowsPublished}
 
 -- the release, from any output and buffer
-moved-releases : (a : Automaton) (s : Store) → Releases a (s .output) (s .buffer) (moved a s)
-unfolding moved stateOf bySets
+moved-releases : (a : Automaton) (s : Store) → Releases a (s .output) (s .buffer) (released a s)
+unfolding released stateOf bySets
 moved-releases a s = record { front = _; put-out = refl; longest = releases-longest (bySets a) a (stateOf a s) (s .buffer) }
 
 module _ (a : Automaton) (s : Store) where
@@ -31,7 +31,7 @@ module _ (a : Automaton) (s : Store) where
 
   -- one event
   module _ (e : ℕ) where
-    stored : Taken a held e → store a s e ≡ moved a (added a s e)
+    stored : Admitted a held e → store a s e ≡ released a (added a s e)
     unfolding store
     stored h = rw (event-rows-as-worded (bySets a) a (positionAt a s) e .accepted .1 h)
 
@@ -60,7 +60,7 @@ module _ (a : Automaton) (s : Store) where
     unfolding refusedOf
     counted es h = rw (refuses h, not-taken h) (omega arith)
 
-    not-counted : (es : List ℕ) → Taken a held e → refusedOf a s (e ∷ es) ≡ refusedOf a (store a s e) es
+    not-counted : (es : List ℕ) → Admitted a held e → refusedOf a s (e ∷ es) ≡ refusedOf a (store a s e) es
     unfolding refusedOf
     not-counted es h = rw (event-rows-as-worded (bySets a) a (positionAt a s) e .accepted .1 h) (omega arith)
 

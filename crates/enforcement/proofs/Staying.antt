@@ -12,7 +12,7 @@ use Rattle.solver_sets.specs.Table.{Solved}
 use Rattle.solver_sets.specs.Claims.{Winning}
 use Rattle.solver_sets.proofs.Total.{total}
 use Rattle.solver_sets.proofs.Largest.{sets-are}
-use Rattle.configuration.specs.Configuration.{Position, begun, heldEvents, initialOf}
+use Rattle.configuration.specs.Configuration.{Position, emptyAt, heldEvents, initialOf}
 use Rattle.monitor_rule.specs.Step.{bySets, byTable}
 use Rattle.monitor_answers.specs.Answers.{isWinning}
 use Rattle.monitor_rule.proofs.Effects.{initial-occurs, accepted-facts, effect-agrees}
@@ -60,7 +60,7 @@ module _ (a : Automaton) (t : List ℕ) (v : valid a ≡ true) (sv : Solved a t)
       (positionAfter a t m) (position-met a t (total a v) m k) (output-leads a t m k) wins in
       (fine m k wins, all-of Fine (following a t m es) later)
 
-  initial-wins : isWinning a t (initialOf a) ≡ true → Wins (begun (a .initial))
+  initial-wins : isWinning a t (initialOf a) ≡ true → Wins (emptyAt (a .initial))
   unfolding isWinning initialOf heldEvents pad bySets
   initial-wins h = sym (solved-agree a t sv [] (a .initial) (initial-occurs a v)) ∙ h
 

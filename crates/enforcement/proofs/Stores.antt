@@ -17,7 +17,7 @@ use Rattle.configuration.specs.Configuration.{initialOf}
 use Rattle.monitor_rule.specs.Step.{bySets, Effect, arrival, effect, effectFrom, Run, runOf}
 use Rattle.monitor_rule.proofs.Effects.{OccursAt, initial-occurs, arrival-leads, effect-leads}
 use Rattle.monitor_rule.proofs.Runs.{after, run-accepts, run-refuses, run-occurs, run-leads}
-use Rattle.enforcement.specs.Store.{Store, empty, stateOf, positionAt, refusalAt, added, moved, store, storeAll, refusedOf}
+use Rattle.enforcement.specs.Store.{Store, empty, stateOf, positionAt, refusalAt, added, released, store, storeAll, refusedOf}
 use Rattle.enforcement.specs.Calls.{configurationAt, since}
 
 -- the position of the function can occur
@@ -70,7 +70,7 @@ module _ (a : Automaton) where
     added-state = grown-state s (x .emitted) (x .buffer) ∙ arrival-leads a (stateOf a s) (s .buffer) e
 
     pub store-accepts : refusalAt a s e ≡ 0 → store a s e ≡ grown s (byStore s e .emitted) (byStore s e .buffer)
-    unfolding store moved effect
+    unfolding store released effect
     store-accepts h =
         rw (eq-eqb (refusalAt a s e) 0 h, added-is, added-state)
         (ap (λ out. record { output = out; buffer = byStore s e .buffer }) (append-assoc (s .output) (x .emitted) _))

@@ -9,7 +9,7 @@ use lib.ListN.{length}
 use Rattle.automaton.specs.declared.Automaton.{Automaton}
 use Rattle.automaton.specs.Automaton.{class, reached}
 use Rattle.solver_sets.specs.Claims.{Winning}
-use Rattle.monitor_rule.specs.Claims.{Unknown, Full, Taken, RowsOfEvent, Longest}
+use Rattle.monitor_rule.specs.Claims.{Unknown, Full, Admitted, RowsOfEvent, Longest}
 use Rattle.monitor_answers.specs.Claims.{RowOfRun}
 use Rattle.enforcement.specs.Store.{Store, store, storeAll, event, events, feed, refusedOf}
 use Rattle.enforcement.specs.Calls.{receiveCall, runCall, refusalIn, expected}
@@ -41,7 +41,7 @@ pub record AsPublished (a : Automaton) (s : Store) : Type 0 where
   pub none-counted : refusedOf a s [] ≡ 0
   pub counted : (e : ℕ) (es : List ℕ) → Unknown a e ⊎ Full a (length (s .buffer)) e
       → refusedOf a s (e ∷ es) ≡ suc (refusedOf a s es)
-  pub not-counted : (e : ℕ) (es : List ℕ) → Taken a (length (s .buffer)) e → refusedOf a s (e ∷ es) ≡ refusedOf a (store a s e) es
+  pub not-counted : (e : ℕ) (es : List ℕ) → Admitted a (length (s .buffer)) e → refusedOf a s (e ∷ es) ≡ refusedOf a (store a s e) es
   -- its replies give the number of the row that refuses, and else 0
   pub event-row : (e : ℕ) → RowsOfEvent a (length (s .buffer)) e (refusalIn (expected a s (receiveCall e)))
   pub run-row : (es out : List ℕ) → RowOfRun (length out) es (length (s .buffer)) (refusalIn (expected a s (runCall es out)))

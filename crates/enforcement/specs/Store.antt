@@ -37,8 +37,8 @@ added a s e =
 
 -- then the longest front part of the buffer that leads the state into S of what is left moves to
 -- the output's end
-unfoldable pub moved : Automaton → Store → Store
-moved a s =
+unfoldable pub released : Automaton → Store → Store
+released a s =
     let k = release (bySets a) a (stateOf a s) (s .buffer) in
     record { output = s .output ++ take k (s .buffer); buffer = drop k (s .buffer) }
 
@@ -48,7 +48,7 @@ refusalAt a s e = eventRefusal (bySets a) a (positionAt a s) e
 
 -- an event that a row refuses changes nothing
 unfoldable pub store : Automaton → Store → ℕ → Store
-store a s e = cond (eqb (refusalAt a s e) 0) (moved a (added a s e)) s
+store a s e = cond (eqb (refusalAt a s e) 0) (released a (added a s e)) s
 
 unfoldable pub storeAll : Automaton → Store → List ℕ → Store
 storeAll a s [] = s

@@ -9,7 +9,7 @@ use Rattle.automaton.specs.Arrays.{controllableIn, stands, placesStand}
 use Rattle.automaton.specs.Automaton.{controllable, controllables, accepts, step, reached, shaped, ranged, classesStand, flagsStand, nextStand, valid}
 use Rattle.automaton_format.specs.Reading.{checked, between, itemRow, numbers, nextStates, afterNumber, afterNumbers, tables, automatonFrom, parse}
 use Rattle.solver_sets.specs.Sets.{acceptingSet, admits, stays, refine, settle, settled, setsOf, emptySets, into, setsFor}
-use Rattle.solver_sets.specs.Table.{rank, value, shorter, index, buffersCount, short, extended, buffersAt, buffersTo, pairs, roundsSum, table, rounds}
+use Rattle.solver_sets.specs.Table.{rank, inBaseK, shorter, index, buffersCount, short, extended, buffersAt, buffersTo, pairs, roundsSum, table, rounds}
 use Rattle.configuration.specs.Configuration.{heldEvents, controllableSymbol, placeStands, bufferStands, consistentIn, initialOf}
 use Rattle.solver_answers.specs.Solving.{countAnswer}
 use Rattle.monitor_rule.specs.Step.{byTable, qualifies, qualifying, release, remaining, arrival, effect, eventRows}
@@ -24,7 +24,7 @@ unfolding
     controllableIn stands placesStand controllable controllables accepts step reached shaped ranged classesStand flagsStand nextStand valid
     checked between itemRow numbers nextStates afterNumber afterNumbers tables automatonFrom parse
     acceptingSet admits stays refine settle settled setsOf emptySets into setsFor
-    rank value shorter index buffersCount short extended buffersAt buffersTo pairs roundsSum table rounds
+    rank inBaseK shorter index buffersCount short extended buffersAt buffersTo pairs roundsSum table rounds
     heldEvents controllableSymbol placeStands bufferStands consistentIn initialOf countAnswer
     byTable qualifies qualifying release remaining arrival effect eventRows
     tableRows configurationRows callRows isWinning callRefusal status receiveRefusal received handedBack reply replies

@@ -18,7 +18,7 @@ use Rattle.automaton.specs.Automaton.{controllable, controllables, accepts, ste
 use Rattle.automaton_format.proofs.Trips.{written-reads-back, read-again}
 use Rattle.automaton_format.proofs.Faults.{refused-inside}
 use Rattle.solver_sets.specs.Sets.{acceptingSet, admits, stays, refine, settle, settled, setsOf, emptySets, into, setsFor}
-use Rattle.solver_sets.specs.Table.{index, rank, value, shorter, buffersCount}
+use Rattle.solver_sets.specs.Table.{index, rank, inBaseK, shorter, buffersCount}
 use Rattle.solver_sets.proofs.Numbering.{numbered, one-to-one, onto}
 use Rattle.solver_sets.proofs.Growth.{union-adds-nothing}
 use Rattle.solver_sets.proofs.Tables.{table-is-solved}
@@ -90,11 +90,11 @@ unfolding each count has mask acceptingSet admits stays refine settle settled se
 inside-w = refl
 
 in-table : has (getD (solvedTable automatonW (filled 16 9)) (2 * index automatonW (2 ∷ 3 ∷ [])) 0) 0 ≡ true
-unfolding has index value rank shorter controllables controllableIn controllable count automatonW pad
+unfolding has index inBaseK rank shorter controllables controllableIn controllable count automatonW pad
 in-table = rw table-w refl
 
 not-in-table : has (getD (solvedTable automatonW (filled 16 9)) (2 * index automatonW (2 ∷ 3 ∷ [])) 0) 2 ≡ false
-unfolding has index value rank shorter controllables controllableIn controllable count automatonW pad
+unfolding has index inBaseK rank shorter controllables controllableIn controllable count automatonW pad
 not-in-table = rw table-w refl
 
 pub solving : Solving

@@ -26,7 +26,7 @@ use Rattle.monitor_answers.specs.Answers.{isWinning, status, received}
 use Rattle.monitor_answers.specs.Claims.{Clear}
 use Rattle.configuration.proofs.Facts.{consistent-as-worded}
 use Rattle.monitor_answers.proofs.Worded.{status-rows-as-worded, receive-rows-as-worded, run-rows-as-worded, room-as-worded}
-use Rattle.enforcement.specs.Store.{Store, empty, stateOf, added, moved, store, storeAll, lacksRoom, feed, feedAll, refusedOf}
+use Rattle.enforcement.specs.Store.{Store, empty, stateOf, added, released, store, storeAll, lacksRoom, feed, feedAll, refusedOf}
 use Rattle.enforcement.specs.Store.{acceptedOf, acceptedBy, acceptedAll}
 use Rattle.enforcement.specs.Calls.{Call, handedBack, reply, fedBy, configurationAt, since, expected, expectedAll}
 use Rattle.enforcement.specs.Moments.{Moment, effectAt, within, broughtBy, broughtAll, moments}
@@ -122,7 +122,7 @@ calling = 0
 unfoldable publishing : ℕ
 unfolding
     computing acceptingSet admits stays refine settle settled setsOf emptySets into setsFor accepts bySets
-    stateOf added moved store storeAll lacksRoom feed feedAll refusedOf acceptedOf acceptedBy acceptedAll
+    stateOf added released store storeAll lacksRoom feed feedAll refusedOf acceptedOf acceptedBy acceptedAll
     fedBy configurationAt since expected expectedAll
 publishing = 0
 

@@ -13,7 +13,7 @@ use Rattle.configuration.specs.declared.Configuration.{Configuration}
 use Rattle.configuration.specs.Configuration.{Position, configuration, consistent, initialOf}
 use Rattle.solver_answers.specs.Solving.{solvedTable}
 use Rattle.monitor_rule.specs.Step.{byTable, eventRefusal}
-use Rattle.monitor_rule.specs.Claims.{Taken, Longest}
+use Rattle.monitor_rule.specs.Claims.{Admitted, Longest}
 use Rattle.monitor_answers.specs.Answers.{tooShort, callRefusal, status, receiveRefusal, received, refusedRun, runRefusal}
 use Rattle.enforcement.specs.Store.{Store, empty, positionAt, store, storeAll, event, events, feed, refusedOf}
 use Rattle.enforcement.specs.Calls.{Call, receiveCall, runCall, Reply, receive, refusalIn, replies, configurationAfter, emittedAll, expected}
@@ -58,7 +58,7 @@ pub record Rows : Type 0 where
   pub event-0 : rowW (at 0 []) 2 ≡ 0
   pub receive-11 : receiveRefusal wideV (table automatonV) startV 0 ≡ 11
   pub receive-0 : receiveRefusal automatonV (table automatonV) startV 1 ≡ 0
-  pub receive-only-0 : (e : ℕ) → receiveRefusal automatonW tableW (configuration (at 0 (2 ∷ 2 ∷ []))) e ≡ 0 → Taken automatonW 2 e
+  pub receive-only-0 : (e : ℕ) → receiveRefusal automatonW tableW (configuration (at 0 (2 ∷ 2 ∷ []))) e ≡ 0 → Admitted automatonW 2 e
   pub run-11 : runRefusal wideV (table automatonV) startV (0 ∷ 1 ∷ []) (9 ∷ []) ≡ 11
   pub run-0 : runRefusal automatonV (table automatonV) startV (0 ∷ 1 ∷ []) (9 ∷ 9 ∷ []) ≡ 0
   pub run-only-0 : (out : List ℕ) → runRefusal automatonV (table automatonV) startV (0 ∷ 1 ∷ []) out ≡ 0 → 2 ≤ length out

@@ -13,7 +13,7 @@ use Rattle.automaton.specs.Automaton.{controllable, controllables, step, reache
 use Rattle.automaton.specs.Automaton.{shaped, ranged, classesStand, flagsStand, nextStand, valid}
 use Rattle.automaton_format.specs.Reading.{checked, between, itemRow, numbers, nextStates, afterNumber, afterNumbers, tables, automatonFrom, parse, parsed}
 use Rattle.automaton_format.proofs.Trips.{read-is-valid}
-use Rattle.solver_sets.specs.Table.{index, rank, value, shorter, buffersCount, short, table, Solved}
+use Rattle.solver_sets.specs.Table.{index, rank, inBaseK, shorter, buffersCount, short, table, Solved}
 use Rattle.solver_sets.proofs.Tables.{table-is-solved}
 use Rattle.solver_answers.specs.Solving.{solveRefusal, solvedTable}
 use Rattle.solver_answers.proofs.Answers.{leaves-solved}
@@ -64,7 +64,7 @@ unfolding
     each count those lastOr first pad has mask step reached controllable controllables controllableIn
     stands placesStand shaped ranged classesStand flagsStand nextStand valid
     heldEvents controllableSymbol placeStands bufferStands consistentIn initialOf
-    shorter rank value index buffersCount short
+    shorter rank inBaseK index buffersCount short
     byTable qualifies qualifying release remaining arrival effect eventRows eventRefusal
     tableRows configurationRows callRows callRefusal isWinning status receiveRefusal received room runRefusal runOf ran automatonW
 computing = 0

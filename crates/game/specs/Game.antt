@@ -1,5 +1,5 @@
--- The game (document 01, "Where it may rest": the second judge): two questions that put each
--- other.
+-- The game (document 01, "Where it may rest, where it must release": the second judge): two
+-- questions that put each other.
 use Prim.Native.Nat.{ℕ, zero, suc}
 use mathlib.Core.Bool.{Bool, false, cond, not, _&&_, _||_}
 use mathlib.Core.List.{List, [], _∷_}

@@ -11,7 +11,7 @@ use Rattle.automaton.specs.Automaton.{valid}
 use Rattle.solver_sets.specs.Table.{short}
 use Rattle.configuration.specs.declared.Configuration.{Configuration}
 use Rattle.configuration.specs.Configuration.{consistent}
-use Rattle.monitor_rule.specs.Claims.{Unknown, Full, Taken}
+use Rattle.monitor_rule.specs.Claims.{Unknown, Full, Admitted}
 use Rattle.monitor_answers.specs.Answers.{callRefusal, receiveRefusal, tooShort, runRefusal}
 
 -- rows 11 to 13, the same for each call; n is the number that it gives
@@ -39,7 +39,7 @@ pub record ReceiveRows (a : Automaton) (t : List ℕ) (c : Configuration) (e : �
   pub first-rows : CallRows a t c (receiveRefusal a t c e)
   pub row-14 : (receiveRefusal a t c e ≡ 14) ↔ (Clear a t c × Unknown a e)
   pub row-15 : (receiveRefusal a t c e ≡ 15) ↔ (Clear a t c × Full a (c .held) e)
-  pub accepted : (receiveRefusal a t c e ≡ 0) ↔ (Clear a t c × Taken a (c .held) e)
+  pub accepted : (receiveRefusal a t c e ≡ 0) ↔ (Clear a t c × Admitted a (c .held) e)
 
 abbrev pub ReceiveRowsAsWorded : Type 0
 ReceiveRowsAsWorded = (a : Automaton) (t : List ℕ) (c : Configuration) (e : ℕ) → ReceiveRows a t c e

@@ -15,7 +15,7 @@ use Rattle.automaton.proofs.Reached.{reached-append}
 use Rattle.solver_sets.specs.Table.{Buffer}
 use Rattle.solver_sets.proofs.Total.{Total, reached-below}
 use Rattle.solver_sets.proofs.Buffers.{buffer-drop, buffer-end}
-use Rattle.configuration.specs.Configuration.{Position, begun}
+use Rattle.configuration.specs.Configuration.{Position, emptyAt}
 use Rattle.monitor_rule.specs.Step.{Rest, release, Effect, remaining, arrival, effect, effectFrom, advance, eventRows, eventRefusal}
 use Rattle.monitor_rule.proofs.Longest.{release-le, release-same}
 use Rattle.monitor_rule.proofs.Worded.{event-rows-as-worded}
@@ -29,7 +29,7 @@ pub record Occurs (a : Automaton) (q : ℕ) (w : List ℕ) : Type 0 where
 abbrev pub OccursAt : Automaton → Position → Type 0
 OccursAt a p = Occurs a (p .state) (p .buffer)
 
-pub initial-occurs : (a : Automaton) → valid a ≡ true → OccursAt a (begun (a .initial))
+pub initial-occurs : (a : Automaton) → valid a ≡ true → OccursAt a (emptyAt (a .initial))
 initial-occurs a v = record { state-below = valid-facts a v .initial-below; buffer = (tt, omega arith) }
 
 -- two rest tests that answer alike wherever they may be asked

@@ -113,7 +113,7 @@ index-at ranks k w i h =
     let e : i ≡ length w = omega (arith, ltb-false i (length w) t) in
     pad-outside 8 (indicesOf ranks k w) i (omega (arith, indices-length ranks k w, ltb-false i (length w) t)) ∙ sym (rw (e, drop-length w)))
 
--- the first of the places is that of the whole buffer
+-- the first of the numbers is that of the whole buffer
 pub first-index : (ranks : List ℕ) (k : ℕ) (w indices : List ℕ) → indices ≡ pad 8 (indicesOf ranks k w) → getD indices 0 0 ≡ indexIn ranks k w
 first-index ranks k w indices e = ap (λ x. getD x 0 0) e ∙ index-at ranks k w 0 (omega arith)
 

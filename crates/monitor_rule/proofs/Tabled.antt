@@ -19,7 +19,7 @@ use Rattle.automaton.specs.declared.Automaton.{Automaton}
 use Rattle.automaton.specs.Automaton.{class, controllable, controllables, step, reached}
 use Rattle.automaton.specs.Arrays.{controllableIn}
 use Rattle.automaton.proofs.Facts.{Valid, valid-of, step-high}
-use Rattle.solver_sets.specs.Table.{rank, value, shorter, index, buffersCount, short, Controllable, Buffer}
+use Rattle.solver_sets.specs.Table.{rank, inBaseK, shorter, index, buffersCount, short, Controllable, Buffer}
 use Rattle.solver_sets.proofs.Buffers.{buffer-drop}
 use Rattle.solver_sets.proofs.Numbering.{numbered}
 use Rattle.base.specs.Each.{lastOr}
@@ -80,7 +80,7 @@ module _ (a : Automaton) (v : Valid a) where
 
   -- the number of a buffer
   pub index-in-is : (w : List ℕ) → Controllable a w → indexIn ranks radix w ≡ index a w
-  unfolding indexIn index value shorter rankingOf controllableIn controllables controllable
+  unfolding indexIn index inBaseK shorter rankingOf controllableIn controllables controllable
   index-in-is [] c = refl
   index-in-is (e ∷ w) c =
       let i = index-in-is w (c .1) in

@@ -16,14 +16,14 @@ use Rattle.automaton.specs.Automaton.{class, controllable, reached}
 use Rattle.automaton.proofs.Classes.{class-one}
 use Rattle.configuration.specs.Configuration.{Position}
 use Rattle.monitor_rule.specs.Step.{Rest, qualifies, qualifying, release, eventRows, eventRefusal}
-use Rattle.monitor_rule.specs.Claims.{Unknown, Full, Taken, EventRowsAsWorded, Longest, ReleasesLongest, OnlyLongest}
+use Rattle.monitor_rule.specs.Claims.{Unknown, Full, Admitted, EventRowsAsWorded, Longest, ReleasesLongest, OnlyLongest}
 
 module _ (rest : Rest) (a : Automaton) (p : Position) (e : ℕ) where
   abbrev w : List ℕ
   w = p .buffer
 
   -- row 14 holds, or row 15, or neither
-  cases : {R : Type 0} → (Unknown a e → R) → (Full a (length w) e → R) → (Taken a (length w) e → R) → R
+  cases : {R : Type 0} → (Unknown a e → R) → (Full a (length w) e → R) → (Admitted a (length w) e → R) → R
   cases unknown full taken =
       by (ltb e (a .symbols))
       (λ h.
@@ -44,7 +44,7 @@ module _ (rest : Rest) (a : Automaton) (p : Position) (e : ℕ) where
   unfolding eventRefusal eventRows first
   full-15 (l, c, h) = rw (lt-ltb e (a .symbols) l, class-one a e .1 c, le-leb (a .capacity) (length w) h)
 
-  taken-0 : Taken a (length w) e → eventRefusal rest a p e ≡ 0
+  taken-0 : Admitted a (length w) e → eventRefusal rest a p e ≡ 0
   unfolding eventRefusal eventRows first
   taken-0 (l, f) =
       either f
@@ -63,7 +63,7 @@ module _ (rest : Rest) (a : Automaton) (p : Position) (e : ℕ) where
   given-15 : eventRefusal rest a p e ≡ 15 → Full a (length w) e
   given-15 n = cases (λ u. absurd (omega (arith, unknown-14 u))) (λ f. f) (λ f. absurd (omega (arith, taken-0 f)))
 
-  given-0 : eventRefusal rest a p e ≡ 0 → Taken a (length w) e
+  given-0 : eventRefusal rest a p e ≡ 0 → Admitted a (length w) e
   given-0 n = cases (λ u. absurd (omega (arith, unknown-14 u))) (λ f. absurd (omega (arith, full-15 f))) (λ f. f)
 
 pub event-rows-as-worded : EventRowsAsWorded

@@ -20,14 +20,14 @@ abbrev pub Full : Automaton → ℕ → ℕ → Type 0
 Full a held e = (e < a .symbols) × (class a e ≡ 1) × (a .capacity ≤ held)
 
 -- neither
-abbrev pub Taken : Automaton → ℕ → ℕ → Type 0
-Taken a held e = (e < a .symbols) × ((class a e ≡ 1 → ⊥) ⊎ (held < a .capacity))
+abbrev pub Admitted : Automaton → ℕ → ℕ → Type 0
+Admitted a held e = (e < a .symbols) × ((class a e ≡ 1 → ⊥) ⊎ (held < a .capacity))
 
 -- n is the number of refusal of an event with so many held: a row's number exactly when it holds
 pub record RowsOfEvent (a : Automaton) (held e n : ℕ) : Type 0 where
   pub row-14 : (n ≡ 14) ↔ Unknown a e
   pub row-15 : (n ≡ 15) ↔ Full a held e
-  pub accepted : (n ≡ 0) ↔ Taken a held e
+  pub accepted : (n ≡ 0) ↔ Admitted a held e
 
 abbrev pub EventRowsAsWorded : Type 0
 EventRowsAsWorded =

@@ -12,7 +12,7 @@ use Rattle.base.proofs.Bools.{by, and-left, and-right}
 use Rattle.varint.specs.Varint.{bytes}
 use Rattle.varint.proofs.Laws.{bytes-one, bytes-two, bytes-three}
 use Rattle.notation.specs.Tokens.{tokenAt, bytesOf}
-use Rattle.notation.specs.Words.{largest, isDigit, allDigits, valueFrom, wordFrom, wordOf}
+use Rattle.notation.specs.Words.{maxNumber, isDigit, allDigits, valueFrom, wordFrom, wordOf}
 use Rattle.notation.specs.Outcomes.{numbers, faulty, before}
 use Rattle.notation.specs.Packing.{sound, readingFrom}
 use Rattle.notation.specs.Items.{Item, itemAt}
@@ -39,9 +39,9 @@ pub word-small : (w : List ℕ) → wordOf w .value < 2097152
 unfolding wordOf wordFrom
 word-small w =
     by (allDigits w)
-    (λ e. rw e (by (ltb largest (valueFrom 0 w))
+    (λ e. rw e (by (ltb maxNumber (valueFrom 0 w))
     (λ f. rw f (omega arith))
-    (λ f. rw f (omega (arith, ltb-false largest (valueFrom 0 w) f)))))
+    (λ f. rw f (omega (arith, ltb-false maxNumber (valueFrom 0 w) f)))))
     (λ e. rw e (omega arith))
 
 -- its value is that of its digits, or 0
@@ -49,7 +49,7 @@ word-value : (w : List ℕ) (P : ℕ → Type 0) → P 0 → (allDigits w ≡ tr
 unfolding wordOf wordFrom
 word-value w P z f =
     by (allDigits w)
-    (λ e. rw e (by (ltb largest (valueFrom 0 w)) (λ g. rw g z) (λ g. rw g (f e))))
+    (λ e. rw e (by (ltb maxNumber (valueFrom 0 w)) (λ g. rw g z) (λ g. rw g (f e))))
     (λ e. rw e z)
 
 -- a digit is worth 9 at most

@@ -8,7 +8,7 @@ use lib.ListN.{length, getD, drop, drop-of-length-le}
 use lib.Dec.{ltb, leb}
 use borrow.Author.Tests.{lt-ltb, le-ltb, le-leb, lt-leb, ltb-true, leb-true}
 use Rattle.base.proofs.Bools.{by, and-left, and-right, and-both, and-left-false, and-right-false}
-use Rattle.notation.specs.Words.{largest, isDigit, allDigits, valueFrom, number, wrong, wordFrom, wordOf}
+use Rattle.notation.specs.Words.{maxNumber, isDigit, allDigits, valueFrom, number, wrong, wordFrom, wordOf}
 use Rattle.notation.specs.Items.{capped}
 use Rattle.notation.specs.declared.Fault.the-variants.{NotNumber, TooLarge}
 use Rattle.notation.proofs.Finding.{next-byte}
@@ -43,13 +43,13 @@ value-grows v (b ∷ w) = omega (arith, value-grows (v * 10 + (b - 48)) w)
 
 -- bytes after digits of value v
 module _ (v : ℕ) where
-  word-number : v ≤ largest → number v ≡ wordFrom v []
+  word-number : v ≤ maxNumber → number v ≡ wordFrom v []
   unfolding wordFrom allDigits valueFrom
-  word-number h = rw (le-ltb largest v h)
+  word-number h = rw (le-ltb maxNumber v h)
 
-  word-large : largest < v → wrong TooLarge ≡ wordFrom v []
+  word-large : maxNumber < v → wrong TooLarge ≡ wordFrom v []
   unfolding wordFrom allDigits valueFrom
-  word-large h = rw (lt-ltb largest v h)
+  word-large h = rw (lt-ltb maxNumber v h)
 
   module _ (b : ℕ) (w : List ℕ) where
     word-wrong : isDigit b ≡ false → wrong NotNumber ≡ wordFrom v (b ∷ w)
@@ -64,11 +64,11 @@ module _ (v : ℕ) where
   word-capped : (w : List ℕ) → wordFrom (capped v) w ≡ wordFrom v w
   unfolding wordFrom capped
   word-capped w =
-      by (ltb largest v)
+      by (ltb maxNumber v)
       (λ e.
-      let l : largest < valueFrom v w = omega (arith, ltb-true largest v e, value-grows v w) in
-      let k : largest < valueFrom 2097152 w = omega (arith, value-grows 2097152 w) in
-      rw (e, lt-ltb largest (valueFrom v w) l, lt-ltb largest (valueFrom 2097152 w) k))
+      let l : maxNumber < valueFrom v w = omega (arith, ltb-true maxNumber v e, value-grows v w) in
+      let k : maxNumber < valueFrom 2097152 w = omega (arith, value-grows 2097152 w) in
+      rw (e, lt-ltb maxNumber (valueFrom v w) l, lt-ltb maxNumber (valueFrom 2097152 w) k))
       (λ e. rw e)
 
 -- the loop over the bytes
@@ -102,8 +102,8 @@ module _ {w : List ℕ} {v i : ℕ} (g : Reads w v i) where
     ended : wordFrom v [] ≡ wordOf w
     ended = rw (drop-of-length-le w h) at (g .so-far)
 
-    pub reads-large : largest < v → wrong TooLarge ≡ wordOf w
+    pub reads-large : maxNumber < v → wrong TooLarge ≡ wordOf w
     reads-large l = word-large v l ∙ ended
 
-    pub reads-number : v ≤ largest → number v ≡ wordOf w
+    pub reads-number : v ≤ maxNumber → number v ≡ wordOf w
     reads-number l = word-number v l ∙ ended

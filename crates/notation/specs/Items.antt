@@ -6,14 +6,14 @@ use mathlib.Core.List.{List}
 use lib.ListN.{length}
 use lib.Dec.{ltb}
 use Rattle.notation.specs.Tokens.{tokenAt, bytesOf}
-use Rattle.notation.specs.Words.{largest, wordOf}
+use Rattle.notation.specs.Words.{maxNumber, wordOf}
 use Rattle.notation.specs.Outcomes.{numbers, faulty}
 use Rattle.notation.specs.Packing.{Packed, Reading, reading, encoded, done, refused}
 pub use Rattle.notation.specs.declared.Item.{Item}
 
 -- a number, and one more than the largest for all above it
 unfoldable pub capped : ℕ → ℕ
-capped v = cond (ltb largest v) 2097152 v
+capped v = cond (ltb maxNumber v) 2097152 v
 
 -- the next token and what its bytes are
 unfoldable pub itemAt : List ℕ → ℕ → ℕ → Item

@@ -9,8 +9,8 @@ pub use Rattle.notation.specs.declared.Word.{Word}
 use Rattle.notation.specs.declared.Fault.the-variants.{None, NotNumber, TooLarge}
 
 -- the largest number of three groups of seven bits
-abbrev pub largest : ℕ
-largest = 2097151
+abbrev pub maxNumber : ℕ
+maxNumber = 2097151
 
 unfoldable pub isDigit : ℕ → Bool
 isDigit b = leb (code "0") b && leb b (code "9")
@@ -37,7 +37,7 @@ wrong f = record { fault = f; value = 0 }
 unfoldable pub wordFrom : ℕ → List ℕ → Word
 wordFrom v w =
     cond (allDigits w)
-    (cond (ltb largest (valueFrom v w)) (wrong TooLarge) (number (valueFrom v w)))
+    (cond (ltb maxNumber (valueFrom v w)) (wrong TooLarge) (number (valueFrom v w)))
     (wrong NotNumber)
 
 -- what a token's bytes are

@@ -114,7 +114,7 @@ pub fn next_token(source: &[u8], lines: usize, at: usize) -> Token
 }
 
 // The largest number of three groups of seven bits.
-const LARGEST: u32 = 2097151;
+const MAX_NUMBER: u32 = 2097151;
 
 fn wrong(fault: Fault) -> Word
     ensures { λ r. ⌜ r ≡ wrong fault ⌝ }
@@ -126,7 +126,7 @@ fn wrong(fault: Fault) -> Word
 fn capped(v: u32) -> u32
     ensures { λ r. ⌜ (r ≡ capped v) × (r ≤ 2097152) ⌝ }
 {
-    if LARGEST < v { LARGEST + 1 } else { v }
+    if MAX_NUMBER < v { MAX_NUMBER + 1 } else { v }
 }
 
 // What a token's bytes are.
@@ -146,7 +146,7 @@ pub fn read_word(bytes: &[u8]) -> Word
         value = capped(value * 10 + (b - 48));
         i = i + 1;
     }
-    if LARGEST < value {
+    if MAX_NUMBER < value {
         return wrong(Fault::TooLarge);
     }
     Word {

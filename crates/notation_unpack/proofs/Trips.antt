@@ -19,7 +19,7 @@ use Rattle.text.proofs.Digits.{decimal-one, decimal-more, decimal-some, decimal
 use Rattle.notation.specs.Outcomes.{numbers, before}
 use Rattle.notation.proofs.Outcomes.{none-left, one-left, no-fault}
 use Rattle.notation.specs.Tokens.{separator, ends, comment, newlines, beginning, tokenLength, tokenAt, bytesOf}
-use Rattle.notation.specs.Words.{largest, isDigit, allDigits, valueFrom, number, wordFrom, wordOf}
+use Rattle.notation.specs.Words.{maxNumber, isDigit, allDigits, valueFrom, number, wordFrom, wordOf}
 use Rattle.notation.specs.Packing.{sound, readingFrom, reading, encoded}
 use Rattle.notation.proofs.Values.{digit as is-digit, digit-low, digit-high}
 use Rattle.notation.proofs.Laws.{read-small as text-small}
@@ -73,7 +73,7 @@ decimal-word : (n : ℕ) → n < 2097152 → wordOf (decimal n) ≡ number n
 unfolding wordOf wordFrom
 decimal-word n h =
     let g = spells (suc n) n (omega arith) in
-    rw (g .all, g .worth, le-ltb largest n (omega arith))
+    rw (g .all, g .worth, le-ltb maxNumber n (omega arith))
 
 -- no digit ends a token
 digit-stays : (b : ℕ) → isDigit b ≡ true → ends b ≡ false

@@ -55,17 +55,17 @@ module _ (a : Automaton) where
     front-is e j l =
         ap₂ (λ s i. front e (bitOr s i)) (h j l .0) (h j l .1) ∙ sets-from-is e (getD ws j [])
 
-    row-to : (e j : ℕ) → j ≤ length ws → symbolSets (front e) t from j ≡ map (λ w. setsFor a (e ∷ w)) (take j ws)
+    symbol-to : (e j : ℕ) → j ≤ length ws → symbolSets (front e) t from j ≡ map (λ w. setsFor a (e ∷ w)) (take j ws)
     unfolding symbolSets
-    row-to e zero l = refl
-    row-to e (suc j) l =
+    symbol-to e zero l = refl
+    symbol-to e (suc j) l =
         let b : j < length ws = omega arith in
-        ap₂ (λ r s. r ++ s ∷ []) (row-to e j (omega arith)) (front-is e j b) ∙
+        ap₂ (λ r s. r ++ s ∷ []) (symbol-to e j (omega arith)) (front-is e j b) ∙
         rw (take-suc ws j [] b) (sym (map-append (λ w. setsFor a (e ∷ w)) (take j ws) (getD ws j [] ∷ [])))
 
-    row-is : (e : ℕ) → symbolSets (front e) t from (length ws) ≡ map (setsFor a) (map (λ w. e ∷ w) ws)
-    row-is e =
-        row-to e (length ws) (omega arith) ∙ ap (map (λ w. setsFor a (e ∷ w))) (take-length ws) ∙ sym (map-map (setsFor a) (λ w. e ∷ w) ws)
+    symbol-is : (e : ℕ) → symbolSets (front e) t from (length ws) ≡ map (setsFor a) (map (λ w. e ∷ w) ws)
+    symbol-is e =
+        symbol-to e (length ws) (omega arith) ∙ ap (map (λ w. setsFor a (e ∷ w))) (take-length ws) ∙ sym (map-map (setsFor a) (λ w. e ∷ w) ws)
 
     -- the sets for each controllable symbol
     level-to : (c : ℕ) → levelOf front (a .classes) c t from (length ws) ≡ map (setsFor a) (extended (controllableTo a c) ws)
@@ -74,7 +74,7 @@ module _ (a : Automaton) where
     level-to (suc c) =
         by (controllableAt (a .classes) c)
         (λ b. rw (b, extended-append (controllableTo a c) (c ∷ []) ws, append-nil (map (λ w. c ∷ w) ws), map-append (setsFor a) (extended (controllableTo a c) ws) (map (λ w. c ∷ w) ws))
-        (ap₂ _++_ (level-to c) (row-is c)))
+        (ap₂ _++_ (level-to c) (symbol-is c)))
         (λ b. rw (b, append-nil (controllableTo a c), append-nil (levelOf front (a .classes) c t from (length ws))) (level-to c))
 
   -- what stands in a table that has the sets of the buffers up to a length

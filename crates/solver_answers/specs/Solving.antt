@@ -1,5 +1,5 @@
 -- What the solver's calls answer, and what they leave in the lent table (document 01, "Where it
--- may rest"; rows 11 and 12).
+-- may rest, where it must release"; rows 11 and 12).
 use Prim.Native.Nat.{ℕ, _+_, _*_}
 use mathlib.Core.Bool.{cond, not}
 use mathlib.Core.List.{List, [], _∷_, _++_}

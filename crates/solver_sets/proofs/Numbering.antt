@@ -16,7 +16,7 @@ use Rattle.base.proofs.Bools.{by, either, clash}
 use Rattle.automaton.specs.declared.Automaton.{Automaton}
 use Rattle.automaton.specs.Automaton.{controllable, controllables}
 use Rattle.automaton.specs.Arrays.{controllableIn}
-use Rattle.solver_sets.specs.Table.{rank, value, shorter, index, buffersCount, Controllable, Buffer, controllableTo, extended, buffersAt, buffersTo}
+use Rattle.solver_sets.specs.Table.{rank, inBaseK, shorter, index, buffersCount, Controllable, Buffer, controllableTo, extended, buffersAt, buffersTo}
 use Rattle.solver_sets.specs.Claims.{Numbered, OneToOne, Onto}
 
 -- The list has each x of P, and nothing else, at its number less o.
@@ -120,25 +120,25 @@ module _ (a : Automaton) where
   abbrev Long : ℕ → List ℕ → Type 0
   Long l w = Controllable a w × (length w ≡ l)
 
-  longer : (l e : ℕ) (w : List ℕ) → length w ≡ l → value a (e ∷ w) ≡ rank a e * length (buffersAt a l) + value a w
-  unfolding value
+  longer : (l e : ℕ) (w : List ℕ) → length w ≡ l → inBaseK a (e ∷ w) ≡ rank a e * length (buffersAt a l) + inBaseK a w
+  unfolding inBaseK
   longer l e w h = rw (h, buffersAt-length l)
 
-  module _ (l : ℕ) (shorter-listed : Listing [] 0 (buffersAt a l) (Long l) (value a)) where
+  module _ (l : ℕ) (shorter-listed : Listing [] 0 (buffersAt a l) (Long l) (inBaseK a)) where
     abbrev ws : List (List ℕ)
     ws = buffersAt a l
 
     longer-place : (w : List ℕ) → Long (suc l) w
-        → (i : ℕ) × (i < length (extended symbols ws)) × (value a w ≡ 0 + i) × (getD (extended symbols ws) i [] ≡ w)
+        → (i : ℕ) × (i < length (extended symbols ws)) × (inBaseK a w ≡ 0 + i) × (getD (extended symbols ws) i [] ≡ w)
     longer-place [] h = absurd (omega (arith, h .1))
     longer-place (e ∷ w) h =
         let r = symbols-listed (a .symbols) .place e (h .0 .0) in
         let s = shorter-listed .place w (h .0 .1, omega (arith, h .1)) in
-        let v : value a (e ∷ w) ≡ r .0 * length ws + s .0 = longer l e w (omega (arith, h .1)) ∙ ap₂ (λ x y. x * length ws + y) (r .2 ∙ omega arith) (s .2 ∙ omega arith) in
+        let v : inBaseK a (e ∷ w) ≡ r .0 * length ws + s .0 = longer l e w (omega (arith, h .1)) ∙ ap₂ (λ x y. x * length ws + y) (r .2 ∙ omega arith) (s .2 ∙ omega arith) in
         (r .0 * length ws + s .0, rw (extended-length symbols ws) (digits-lt (r .1) (s .1)), v ∙ omega arith, extended-at symbols ws (r .0) (s .0) (r .1) (s .1) ∙ ap₂ _∷_ (r .3) (s .3))
 
     longer-holds : (p : ℕ) → p < length (extended symbols ws)
-        → Long (suc l) (getD (extended symbols ws) p []) × (value a (getD (extended symbols ws) p []) ≡ 0 + p)
+        → Long (suc l) (getD (extended symbols ws) p []) × (inBaseK a (getD (extended symbols ws) p []) ≡ 0 + p)
     longer-holds p h =
         let b : p < length symbols * length ws = rw (extended-length symbols ws) at h in
         let pos : 0 < length ws = either (eq-zero-or-pos (length ws)) (λ z. absurd (omega (arith, ap (λ n. length symbols * n) z))) (λ g. g) in
@@ -155,13 +155,13 @@ module _ (a : Automaton) where
           longer l (getD symbols j 0) (getD ws i []) (s .0 .1) ∙ ap₂ (λ x y. x * length ws + y) (r .1 ∙ omega arith) (s .1 ∙ omega arith) ∙ sym parts ∙ omega arith,
         )
 
-  none-place : (w : List ℕ) → Long 0 w → (i : ℕ) × (i < 1) × (value a w ≡ 0 + i) × (getD ([] ∷ []) i [] ≡ w)
-  unfolding value
+  none-place : (w : List ℕ) → Long 0 w → (i : ℕ) × (i < 1) × (inBaseK a w ≡ 0 + i) × (getD ([] ∷ []) i [] ≡ w)
+  unfolding inBaseK
   none-place [] h = (0, omega arith, omega arith, refl)
   none-place (e ∷ w) h = absurd (omega (arith, h .1))
 
-  at-listed : (l : ℕ) → Listing [] 0 (buffersAt a l) (Long l) (value a)
-  unfolding buffersAt value
+  at-listed : (l : ℕ) → Listing [] 0 (buffersAt a l) (Long l) (inBaseK a)
+  unfolding buffersAt inBaseK
   at-listed zero = record { place = none-place; holds = λ i h. let z : i ≡ 0 = omega arith in rw z ((tt, refl), omega arith) }
   at-listed (suc l) = record { place = longer-place l (at-listed l); holds = longer-holds l (at-listed l) }
 
@@ -171,7 +171,7 @@ module _ (a : Automaton) where
   buffersTo-length zero = buffersAt-length 0 ∙ omega arith
   buffersTo-length (suc b) = length-append (buffersTo a b) (buffersAt a (suc b)) ∙ rw (buffersTo-length b, buffersAt-length (suc b))
 
-  index-at : (l i : ℕ) (w : List ℕ) → length w ≡ l → value a w ≡ 0 + i → index a w ≡ shorter k l + i
+  index-at : (l i : ℕ) (w : List ℕ) → length w ≡ l → inBaseK a w ≡ 0 + i → index a w ≡ shorter k l + i
   unfolding index
   index-at l i w h e = rw h (omega arith)
 

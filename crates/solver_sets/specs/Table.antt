@@ -18,9 +18,9 @@ unfoldable pub rank : Automaton → ℕ → ℕ
 rank a e = count e (controllable a)
 
 -- a buffer as a number in base k, the first held event most significant
-unfoldable pub value : Automaton → List ℕ → ℕ
-value a [] = 0
-value a (e ∷ w) = rank a e * controllables a ^ length w + value a w
+unfoldable pub inBaseK : Automaton → List ℕ → ℕ
+inBaseK a [] = 0
+inBaseK a (e ∷ w) = rank a e * controllables a ^ length w + inBaseK a w
 
 -- how many buffers are shorter than l, for k controllable symbols: 1 + k + .. + k ^ (l - 1)
 unfoldable pub shorter : ℕ → ℕ → ℕ
@@ -29,7 +29,7 @@ shorter k (suc l) = shorter k l + k ^ l
 
 -- the number of a buffer: by length, then by value
 unfoldable pub index : Automaton → List ℕ → ℕ
-index a w = shorter (controllables a) (length w) + value a w
+index a w = shorter (controllables a) (length w) + inBaseK a w
 
 -- T, the number of buffers up to the capacity
 unfoldable pub buffersCount : Automaton → ℕ

@@ -51,24 +51,24 @@ before-stores (v ∷ vs) t at i h =
     before-stores vs (set t at v) (suc at) i (omega arith) ∙ getD-set-other t at i v 0 (λ e. omega arith)
 
 -- the sets of one symbol
-pub row-length : (f : ℕ → Sets) (t : List ℕ) (from j : ℕ) → length (symbolSets f t from j) ≡ j
+pub symbol-length : (f : ℕ → Sets) (t : List ℕ) (from j : ℕ) → length (symbolSets f t from j) ≡ j
 unfolding symbolSets
-row-length f t from zero = refl
-row-length f t from (suc j) =
-    length-append (symbolSets f t from j) (f (goalAt t from j) ∷ []) ∙ omega (arith, row-length f t from j)
+symbol-length f t from zero = refl
+symbol-length f t from (suc j) =
+    length-append (symbolSets f t from j) (f (goalAt t from j) ∷ []) ∙ omega (arith, symbol-length f t from j)
 
-pub row-same : (f : ℕ → Sets) (t v : List ℕ) (from j : ℕ) → ((i : ℕ) → i < from + 2 * j → getD t i 0 ≡ getD v i 0) → symbolSets f t from j ≡ symbolSets f v from j
+pub symbol-same : (f : ℕ → Sets) (t v : List ℕ) (from j : ℕ) → ((i : ℕ) → i < from + 2 * j → getD t i 0 ≡ getD v i 0) → symbolSets f t from j ≡ symbolSets f v from j
 unfolding symbolSets goalAt
-row-same f t v from zero h = refl
-row-same f t v from (suc j) h =
-    ap₂ (λ l x. l ++ f x ∷ []) (row-same f t v from j (λ i l. h i (omega arith)))
+symbol-same f t v from zero h = refl
+symbol-same f t v from (suc j) h =
+    ap₂ (λ l x. l ++ f x ∷ []) (symbol-same f t v from j (λ i l. h i (omega arith)))
     (ap₂ bitOr (h (from + 2 * j) (omega arith)) (h (from + 2 * j + 1) (omega arith)))
 
-pub row-few : (f : ℕ → Sets) → ((goal : ℕ) → f goal .rounds ≤ 32) → (t : List ℕ) (from j : ℕ) → roundsSum (symbolSets f t from j) ≤ 32 * j
+pub symbol-few : (f : ℕ → Sets) → ((goal : ℕ) → f goal .rounds ≤ 32) → (t : List ℕ) (from j : ℕ) → roundsSum (symbolSets f t from j) ≤ 32 * j
 unfolding symbolSets roundsSum
-row-few f few t from zero = omega arith
-row-few f few t from (suc j) =
-    rw (sum-append (symbolSets f t from j) (f (goalAt t from j) ∷ [])) (omega (arith, row-few f few t from j, few (goalAt t from j)))
+symbol-few f few t from zero = omega arith
+symbol-few f few t from (suc j) =
+    rw (sum-append (symbolSets f t from j) (f (goalAt t from j) ∷ [])) (omega (arith, symbol-few f few t from j, few (goalAt t from j)))
 
 -- the sets that a loop goes on with: new ones, or those that it remembered
 pub record Known (f : ℕ → Sets) (goal known : ℕ) (sets : Sets) : Type 0 where
@@ -103,20 +103,20 @@ module _ (f : ℕ → Sets) (t₀ : List ℕ) (from to j : ℕ) (t : List ℕ) (
 
   -- a buffer more
   module _ (h : from + 2 * j + 1 < to) (goal : ℕ) (sets : Sets) (k : Known f (bitOr (getD t (from + 2 * j) 0) (getD t (from + 2 * j + 1) 0)) goal sets) where
-    row-more : symbolSets f t₀ from (j + 1) ≡ symbolSets f t₀ from j ++ sets ∷ []
+    symbol-more : symbolSets f t₀ from (j + 1) ≡ symbolSets f t₀ from j ++ sets ∷ []
     unfolding symbolSets
-    row-more = rw (add-one j) (ap (λ x. symbolSets f t₀ from j ++ x ∷ []) (sym (k .made ∙ ap f (k .is ∙ fill-goal h))))
+    symbol-more = rw (add-one j) (ap (λ x. symbolSets f t₀ from j ++ x ∷ []) (sym (k .made ∙ ap f (k .is ∙ fill-goal h))))
 
     pub fill-more : Filling f t₀ from to (j + 1) (set (set t (to + 2 * j) (sets .winning)) (to + 2 * j + 1) (sets .intermediate)) goal sets (rounds + sets .rounds)
     unfolding pairs roundsSum
     fill-more = record {
       same = simp length-set (s .same);
       written =
-          rw (row-more, s .written, add-one (to + 2 * j))
-          (rw (row-length f t₀ from j) at (stored-append t₀ to (symbolSets f t₀ from j) (sets ∷ [])));
+          rw (symbol-more, s .written, add-one (to + 2 * j))
+          (rw (symbol-length f t₀ from j) at (stored-append t₀ to (symbolSets f t₀ from j) (sets ∷ [])));
       remembered = k .made;
-      summed = rw (row-more, sum-append (symbolSets f t₀ from j) (sets ∷ [])) (omega (arith, s .summed));
+      summed = rw (symbol-more, sum-append (symbolSets f t₀ from j) (sets ∷ [])) (omega (arith, s .summed));
     }
 
     pub fill-fits : ((goal : ℕ) → f goal .rounds ≤ 32) → rounds + sets .rounds ≤ 32 * (j + 1)
-    fill-fits few = omega (arith, s .summed, row-few f few t₀ from j, few goal, ap (λ x. x .rounds) (k .made))
+    fill-fits few = omega (arith, s .summed, symbol-few f few t₀ from j, few goal, ap (λ x. x .rounds) (k .made))

@@ -12,40 +12,40 @@ use Rattle.automaton.specs.Arrays.{controllableAt}
 use Rattle.solver_sets.specs.declared.Sets.{Sets}
 use Rattle.solver_sets.specs.Table.{pairs, roundsSum}
 use Rattle.solver_table.specs.Levels.{symbolSets, levelOf, stored}
-use Rattle.solver_table.proofs.Filling.{sum-append, stored-append, before-stores, row-length, row-same, row-few}
+use Rattle.solver_table.proofs.Filling.{sum-append, stored-append, before-stores, symbol-length, symbol-same, symbol-few}
 
 module _ (f : ℕ → ℕ → Sets) (classes t : List ℕ) (from count : ℕ) where
   abbrev level : ℕ → List Sets
   level e = levelOf f classes e t from count
 
-  abbrev row : ℕ → List Sets
-  row e = symbolSets (f e) t from count
+  abbrev ofSymbol : ℕ → List Sets
+  ofSymbol e = symbolSets (f e) t from count
 
   -- a symbol more
-  level-row : (e : ℕ) → getD classes e 0 ≡ 1 → level (suc e) ≡ level e ++ row e
+  level-symbol : (e : ℕ) → getD classes e 0 ≡ 1 → level (suc e) ≡ level e ++ ofSymbol e
   unfolding levelOf
-  level-row e h = rw (eq-eqb (getD classes e 0) 1 h)
+  level-symbol e h = rw (eq-eqb (getD classes e 0) 1 h)
 
   level-pass : (e : ℕ) → (getD classes e 0 ≡ 1 → ⊥) → level (suc e) ≡ level e
   unfolding levelOf
   level-pass e h = rw (ne-eqb (getD classes e 0) 1 h) (append-nil (level e))
 
   -- by whether it is controllable
-  at-symbol : (P : List Sets → Type 0) (e : ℕ) → (getD classes e 0 ≡ 1 → P (level e ++ row e)) → P (level e) → P (level (suc e))
+  at-symbol : (P : List Sets → Type 0) (e : ℕ) → (getD classes e 0 ≡ 1 → P (level e ++ ofSymbol e)) → P (level e) → P (level (suc e))
   at-symbol P e p r =
       by (controllableAt classes e)
-      (λ b. let h = eqb-true (getD classes e 0) 1 b in rw (level-row e h) (p h))
+      (λ b. let h = eqb-true (getD classes e 0) 1 b in rw (level-symbol e h) (p h))
       (λ b. rw (level-pass e (eqb-false (getD classes e 0) 1 b)) r)
 
   grows : (e : ℕ) → length (level e) ≤ length (level (suc e))
   grows e =
-      at-symbol (λ l. length (level e) ≤ length l) e (λ _. rw (length-append (level e) (row e)) (omega arith)) (omega arith)
+      at-symbol (λ l. length (level e) ≤ length l) e (λ _. rw (length-append (level e) (ofSymbol e)) (omega arith)) (omega arith)
 
   pub level-room : (e m : ℕ) → e < m → getD classes e 0 ≡ 1 → length (level e) + count ≤ length (level m)
   level-room e zero l h = absurd (omega arith)
   level-room e (suc m) l h =
       by (eqb e m)
-      (λ b. rw (← eqb-true e m b, level-row e h, length-append (level e) (row e)) (omega (arith, row-length (f e) t from count)))
+      (λ b. rw (← eqb-true e m b, level-symbol e h, length-append (level e) (ofSymbol e)) (omega (arith, symbol-length (f e) t from count)))
       (λ b. omega (arith, level-room e m (omega (arith, eqb-false e m b)) h, grows m))
 
   pub level-few : ((e goal : ℕ) → f e goal .rounds ≤ 32) → count ≤ 262144 → (e : ℕ) → roundsSum (level e) ≤ 8388608 * e
@@ -53,7 +53,7 @@ module _ (f : ℕ → ℕ → Sets) (classes t : List ℕ) (from count : ℕ) wh
   level-few few small zero = omega arith
   level-few few small (suc e) =
       at-symbol (λ l. roundsSum l ≤ 8388608 * suc e) e
-      (λ _. rw (sum-append (level e) (row e)) (omega (arith, level-few few small e, row-few (f e) (few e) t from count)))
+      (λ _. rw (sum-append (level e) (ofSymbol e)) (omega (arith, level-few few small e, symbol-few (f e) (few e) t from count)))
       (omega (arith, level-few few small e))
 
 -- a loop that writes a level behind the one before
@@ -76,10 +76,10 @@ module _ (f : ℕ → ℕ → Sets) (classes t₀ : List ℕ) (from count e : �
     summed = rw (level-pass f classes t₀ from count e h) (s .summed);
   })
 
-  -- the row is that of the table before
-  row-is : symbolSets (f e) t from count ≡ symbolSets (f e) t₀ from count
-  row-is =
-      row-same (f e) t t₀ from count
+  -- the sets of the symbol are those of the table before
+  symbol-is : symbolSets (f e) t from count ≡ symbolSets (f e) t₀ from count
+  symbol-is =
+      symbol-same (f e) t t₀ from count
       (λ i l. ap (λ x. getD x i 0) (s .written) ∙ before-stores (pairs (levelOf f classes e t₀ from count)) t₀ (from + 2 * count) i l)
 
   module _ (h : getD classes e 0 ≡ 1) (t′ : List ℕ) (more : ℕ) (long : length t′ ≡ length t) (put : t′ ≡ stored t at (symbolSets (f e) t from count)) (sum : more ≡ roundsSum (symbolSets (f e) t from count)) where
@@ -87,12 +87,12 @@ module _ (f : ℕ → ℕ → Sets) (classes t₀ : List ℕ) (from count e : �
     level-more =
         let l = levelOf f classes e t₀ from count in
         let r = symbolSets (f e) t₀ from count in
-        let one = level-row f classes t₀ from count e h in
+        let one = level-symbol f classes t₀ from count e h in
         rw (add-one e) (record {
           same = long ∙ s .same;
-          written = rw (one, put, row-is, s .place, s .written) (stored-append t₀ (from + 2 * count) l r);
-          place = rw (one, length-append l r) (omega (arith, s .place, row-length (f e) t₀ from count));
-          summed = rw (one, sum-append l r) (omega (arith, s .summed, sum, ap roundsSum row-is));
+          written = rw (one, put, symbol-is, s .place, s .written) (stored-append t₀ (from + 2 * count) l r);
+          place = rw (one, length-append l r) (omega (arith, s .place, symbol-length (f e) t₀ from count));
+          summed = rw (one, sum-append l r) (omega (arith, s .summed, sum, ap roundsSum symbol-is));
         })
 
   pub level-fits : ((e goal : ℕ) → f e goal .rounds ≤ 32) → count ≤ 262144 → rounds ≤ 8388608 * e

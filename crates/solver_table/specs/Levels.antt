@@ -40,5 +40,5 @@ stored t at ss = stores t at (pairs ss)
 
 -- what filling a table leaves and hands back: the sets stored from a place on, and the sum of
 -- their rounds
-abbrev pub Filled : List ℕ → ℕ → List Sets → List ℕ → ℕ → Type 0
-Filled t at ss t′ r = (t′ ≡ stored t at ss) × (r ≡ roundsSum ss)
+abbrev pub SetsStored : List ℕ → ℕ → List Sets → List ℕ → ℕ → Type 0
+SetsStored t at ss t′ r = (t′ ≡ stored t at ss) × (r ≡ roundsSum ss)

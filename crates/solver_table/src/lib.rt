@@ -10,10 +10,10 @@ ghost use mathlib.Core.Path.{_≡_};
 ghost use Prim.Native.Nat.{_+_, _*_, _^_, _<_, _≤_};
 ghost use lib.ListN.{length};
 ghost use Rattle.solver_rounds.specs.Rounds.{RefineRequires, settledOn};
-ghost use Rattle.solver_table.specs.Levels.{setsFrom, symbolSets, levelOf, Filled};
+ghost use Rattle.solver_table.specs.Levels.{setsFrom, symbolSets, levelOf, SetsStored};
 
-// The sets of a buffer that begins with a symbol, where `goal` has the states of either set of the
-// rest.
+// The sets of a buffer that begins with a symbol, where `goal` has the states of either set of
+// what follows the symbol.
 fn sets_from<'a>(
     next: &'a [u8; 512],
     free: &'a [u8; 16],
@@ -55,7 +55,7 @@ fn fill_symbol<'a>(
         × (empty ≡ settledOn (now next) (now free) n u 0 accepting)
         × (symbol < 16) × (from + 2 * count ≤ to) × (to + 2 * count ≤ length (now table)) × (count ≤ 262144) ⌝ }
     ensures { λ r. let f = setsFrom (now (next .entry)) (now (free .entry)) n u accepting in
-        ⌜ Filled (now (table .entry)) to (symbolSets (f symbol) (now (table .entry)) from count) (now (table .exit)) r ⌝ }
+        ⌜ SetsStored (now (table .entry)) to (symbolSets (f symbol) (now (table .entry)) from count) (now (table .exit)) r ⌝ }
 {
     let mut known: u32 = 0;
     let mut last = Sets {
@@ -104,7 +104,7 @@ pub fn fill_level<'a>(
         × (from + 2 * count + 2 * length (levelOf f (now classes) m (now table) from count) ≤ length (now table)) ⌝ }
     ensures { λ r. let f = setsFrom (now (next .entry)) (now (free .entry)) n u accepting in
         let behind = levelOf f (now (classes .entry)) m (now (table .entry)) from count in
-        ⌜ Filled (now (table .entry)) (from + 2 * count) behind (now (table .exit)) r ⌝ }
+        ⌜ SetsStored (now (table .entry)) (from + 2 * count) behind (now (table .exit)) r ⌝ }
 {
     let mut at = from + 2 * count;
     let mut rounds: u32 = 0;

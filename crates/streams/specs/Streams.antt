@@ -11,13 +11,13 @@ use Rattle.text.specs.Decimal.{ascii}
 use Rattle.io.specs.Counts.{Counts}
 use Rattle.streams.specs.Transfers.{Transfer, begun, transferred}
 pub use Rattle.streams.specs.declared.Input.{Input}
-pub use Rattle.streams.specs.declared.Written.{Written}
+pub use Rattle.streams.specs.declared.WriteResult.{WriteResult}
 
 -- what reading, and writing, answers where a transfer is over
 abbrev pub inputOf : Transfer → Input
 inputOf t = record { length = t .count; failed = t .failed }
 
-abbrev pub writtenOf : Transfer → Written
+abbrev pub writtenOf : Transfer → WriteResult
 writtenOf t = record { count = t .count; done = eqb (t .count) (t .size) }
 
 -- A transfer of so many bytes that is over, by what C's calls answered, in order. What they answer
@@ -37,7 +37,7 @@ pub record Filled (buffer : List ℕ) (r : Input) : Type 0 where
   pub room : r .failed ≡ true → r .length < length buffer
 
 -- bytes that were handed over: how many of them from the front on, and whether that is all of them
-pub record Handed (bytes : List ℕ) (r : Written) : Type 0 where
+pub record Handed (bytes : List ℕ) (r : WriteResult) : Type 0 where
   pub transfer : Transfer
   pub over : Over (length bytes) transfer
   pub said : r ≡ writtenOf transfer

@@ -29,7 +29,7 @@ pub struct Input {
 }
 
 // How many bytes were handed over, and whether these are all.
-pub struct Written {
+pub struct WriteResult {
     pub count: usize,
     pub done: bool,
 }
@@ -43,10 +43,10 @@ fn input_of(t: Transfer) -> Input
     }
 }
 
-fn written_of(t: Transfer) -> Written
+fn written_of(t: Transfer) -> WriteResult
     ensures { λ r. ⌜ r ≡ writtenOf t ⌝ }
 {
-    Written {
+    WriteResult {
         count: t.count,
         done: t.count == t.size,
     }
@@ -68,7 +68,7 @@ pub fn read_all(descriptor: i32, buf: &mut [u8]) -> Input
 }
 
 // Hands over all bytes, or those before the first call that fails or takes nothing.
-pub fn write_all(descriptor: i32, bytes: &[u8]) -> Written
+pub fn write_all(descriptor: i32, bytes: &[u8]) -> WriteResult
     ensures { λ r. ⌜ Handed (now (bytes .entry)) r ⌝ }
 {
     let mut t = begun(bytes.len());
@@ -91,7 +91,7 @@ fn note(out: &mut [u8], name: &[u8], what: &[u8]) -> usize
 }
 
 // The line `NAME: cannot read` on standard error.
-pub fn cannot_read(name: &[u8]) -> Written
+pub fn cannot_read(name: &[u8]) -> WriteResult
     requires { ⌜ length (now name) ≤ 64 ⌝ }
     ensures { λ r. ⌜ Handed (cannotRead (now (name .entry))) r ⌝ }
 {
@@ -101,7 +101,7 @@ pub fn cannot_read(name: &[u8]) -> Written
 }
 
 // The line `NAME: cannot write` on standard error.
-pub fn cannot_write(name: &[u8]) -> Written
+pub fn cannot_write(name: &[u8]) -> WriteResult
     requires { ⌜ length (now name) ≤ 64 ⌝ }
     ensures { λ r. ⌜ Handed (cannotWrite (now (name .entry))) r ⌝ }
 {

@@ -7,7 +7,7 @@ ghost use Rattle.streams.specs.Transfers.{begun, ended, moved, interrupt
 
 // How often signals may interrupt one transfer: one more counts as a failure. A proved loop must
 // end, and nothing else says that the signals do.
-const INTERRUPTIONS: usize = 65536;
+const MAX_INTERRUPTIONS: usize = 65536;
 
 // Where a transfer of `size` bytes stands: how many were moved, how many interruptions are left,
 // whether another call is to be made, and whether one failed.
@@ -25,7 +25,7 @@ pub fn begun(size: usize) -> Transfer
     Transfer {
         size,
         count: 0,
-        interruptions: INTERRUPTIONS,
+        interruptions: MAX_INTERRUPTIONS,
         going: 0 < size,
         failed: false,
     }

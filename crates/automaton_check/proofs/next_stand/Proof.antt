@@ -10,8 +10,8 @@ use Rattle.automaton_check.proofs.next_stand.Tie as tie
 as-usize-requires : tie.Need-as-usize-requires
 as-usize-requires c κs = search needs
 
-limits-of-requires : tie.Need-limits-of-requires
-limits-of-requires c κs = search needs
+next-limits-requires : tie.Need-next-limits-requires
+next-limits-requires c κs = search needs
 
 states-below-requires : tie.Need-states-below-requires
 states-below-requires c κs = search needs
@@ -21,7 +21,7 @@ returns c =
     let r = c .before in
     let l = r .before .before in
     next-falls _ _ _ (omega arith) (omega arith)
-    (rw (l .before .as-usize .ensures .0, l .limits-of .ensures) at (sym (r .states-below .ensures) ∙ not-true _ (c .if1 .taken)))
+    (rw (l .before .as-usize .ensures .0, l .next-limits .ensures) at (sym (r .states-below .ensures) ∙ not-true _ (c .if1 .taken)))
 
 mul-used : tie.Need-mul-used
 mul-used c = search needs
@@ -39,14 +39,14 @@ returns-2 c =
     let l = r .before .before in
     (rw (l .before .as-usize .ensures .0) at (c .below-from .ensures)) ∙
     next-unused _ _ _ (omega arith) (omega arith)
-    (rw (l .before .as-usize .ensures .0, l .limits-of .ensures) at (sym (r .states-below .ensures) ∙ not-false _ (e .if1 .left)))
+    (rw (l .before .as-usize .ensures .0, l .next-limits .ensures) at (sym (r .states-below .ensures) ∙ not-false _ (e .if1 .left)))
 
 pub next-stand-spec : {M : Type 1} → statement M
 next-stand-spec =
     tie.close
     (tie.spec
     as-usize-requires
-    limits-of-requires
+    next-limits-requires
     states-below-requires
     returns
     mul-used

@@ -2,7 +2,7 @@ use mathlib.Core.Logic.{⊎-elim}
 use mathlib.Core.Path.{_≡_, refl, _∙_}
 use Prim.Native.Nat.{_≤_, _-_}
 use Rattle.base.specs.Each.{each}
-use Rattle.automaton.proofs.Checks.{stateBelowTo, row-falls, row-keeps}
+use Rattle.automaton.proofs.Checks.{stateBelowTo, state-falls, state-keeps}
 use Rattle.automaton.specs.Arrays.{stateBelow}
 use native.Mathlib.Omega.{arith}
 use borrow.Author.Needs.{needs}
@@ -38,7 +38,7 @@ loop-less : tie.Need-loop-less Inv-loop μ-loop
 loop-less c = search needs
 
 loop-again : tie.Need-loop-again Inv-loop μ-loop
-loop-again c = (omega arith, ⊎-elim (λ w. w .1 ∙ row-falls _ _ _ _ _ (c .before .before .before .before .loop .inv .1) (w .0 .taken)) (λ w. w .1 ∙ row-keeps _ _ _ _ _ (c .before .before .before .before .loop .inv .1) (w .0 .left)) (c .if1 .came))
+loop-again c = (omega arith, ⊎-elim (λ w. w .1 ∙ state-falls _ _ _ _ _ (c .before .before .before .before .loop .inv .1) (w .0 .taken)) (λ w. w .1 ∙ state-keeps _ _ _ _ _ (c .before .before .before .before .loop .inv .1) (w .0 .left)) (c .if1 .came))
 
 returns : tie.Need-returns Inv-loop μ-loop
 unfolding stateBelow stateBelowTo

@@ -4,7 +4,7 @@ use mathlib.Core.Path.{_≡_, refl, _∙_, sym}
 use Prim.Native.Nat.{_≤_, _-_}
 use borrow.Author.Tests.{not-true, not-false}
 use Rattle.base.specs.Each.{each}
-use Rattle.automaton.proofs.Checks.{rows-fall, rows-keep}
+use Rattle.automaton.proofs.Checks.{states-fall, states-keep}
 use Rattle.automaton.specs.Arrays.{statesBelow}
 use native.Mathlib.Omega.{arith}
 use borrow.Author.Needs.{needs}
@@ -35,8 +35,8 @@ loop-again c =
     let r = c .before in
     let g = r .before .before .loop .inv .1 in (
       omega arith,
-      ⊎-elim (λ w. w .1 ∙ rows-fall _ _ _ _ g (sym (r .state-below .ensures) ∙ not-true _ (w .0 .taken)))
-          (λ w. w .1 ∙ rows-keep _ _ _ _ g (sym (r .state-below .ensures) ∙ not-false _ (w .0 .left))) (c .if1 .came),
+      ⊎-elim (λ w. w .1 ∙ states-fall _ _ _ _ g (sym (r .state-below .ensures) ∙ not-true _ (w .0 .taken)))
+          (λ w. w .1 ∙ states-keep _ _ _ _ g (sym (r .state-below .ensures) ∙ not-false _ (w .0 .left))) (c .if1 .came),
     )
 
 returns : tie.Need-returns Inv-loop μ-loop

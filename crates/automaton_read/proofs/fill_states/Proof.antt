@@ -1,6 +1,6 @@
 -- The next states, state by state.
 use mathlib.Core.Path.{_∙_, sym, ap}
-use Rattle.automaton_format.proofs.Sections.{Rowing, rowing-begins, rowing-refused, rowing-goes-on, rowing-done}
+use Rattle.automaton_format.proofs.Sections.{StatesFilled, filled-begins, filled-refused, filled-goes-on, filled-done}
 use Prim.Native.Nat.{_-_}
 use lib.ListN.{length}
 use mathlib.Core.Path.{_∙_, ap}
@@ -10,7 +10,7 @@ use Rattle.automaton_read.proofs.fill_states.Statement.{statement}
 use Rattle.automaton_read.proofs.fill_states.Tie as tie
 
 abbrev Inv-loop : tie.InvT-loop
-Inv-loop s at next₀ n m place₀ q₀ next place q = Rowing s n m at next place q
+Inv-loop s at next₀ n m place₀ q₀ next place q = StatesFilled s n m at next place q
 
 abbrev μ-loop : tie.MeasureT-loop
 μ-loop s at next₀ n m place₀ q₀ next place q = n - q
@@ -27,7 +27,7 @@ abbrev filled : tie.After-fault Inv-loop μ-loop → tie.After-fill Inv-loop μ-
 filled c = c .before .before .before .before .before
 
 loop-holds : tie.Need-loop-holds Inv-loop μ-loop
-loop-holds c = rowing-begins _ _ _ _ _ (omega arith) (omega arith) (c .before .before .pre .2)
+loop-holds c = filled-begins _ _ _ _ _ (omega arith) (omega arith) (c .before .before .pre .2)
 
 mul-fill : tie.Need-mul-fill Inv-loop μ-loop
 mul-fill c = let h = c .before .before .loop .inv .few in search needs
@@ -49,7 +49,7 @@ same-length c =
 
 returns : tie.Need-returns Inv-loop μ-loop
 returns c =
-    let p = rowing-refused (round (filled c) .loop .inv) _ (filled c .fill .ensures .0) (omega arith) (c .before .if1 .taken) in
+    let p = filled-refused (round (filled c) .loop .inv) _ (filled c .fill .ensures .0) (omega arith) (c .before .if1 .taken) in
     (c .fault .ensures ∙ p .0, filled c .fill .ensures .1 ∙ p .1)
 
 add-q : tie.Need-add-q Inv-loop μ-loop
@@ -61,7 +61,7 @@ loop-less c = search needs
 loop-again : tie.Need-loop-again Inv-loop μ-loop
 loop-again c =
     let f = c .before .before .before .before in
-    rw (f .fill .ensures .1) (rowing-goes-on (round f .loop .inv) _ (f .fill .ensures .0) (omega arith) (c .if1 .left))
+    rw (f .fill .ensures .1) (filled-goes-on (round f .loop .inv) _ (f .fill .ensures .0) (omega arith) (c .if1 .left))
 
 same-length-2 : tie.Need-same-length-2 Inv-loop μ-loop
 same-length-2 c =
@@ -69,7 +69,7 @@ same-length-2 c =
     l .loop .inv .size ∙ sym (ap length (start l .pre .2))
 
 returns-2 : tie.Need-returns-2 Inv-loop μ-loop
-returns-2 c = rowing-done (c .before .loop .inv) (omega arith)
+returns-2 c = filled-done (c .before .loop .inv) (omega arith)
 
 pub fill-states-spec : {M : Type 1} → statement M
 fill-states-spec =

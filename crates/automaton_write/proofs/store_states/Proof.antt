@@ -5,7 +5,7 @@ use lib.Seq.{sets}
 use lib.ListN.{length}
 use mathlib.Core.Path.{_≡_, refl, _∙_}
 use Prim.Native.Nat.{_≤_, _-_, _+_}
-use Rattle.automaton_format.proofs.Storing.{row-more, row-within, rows-small}
+use Rattle.automaton_format.proofs.Storing.{state-more, state-within, states-small}
 use native.Mathlib.Omega.{arith}
 use borrow.Author.Needs.{needs}
 use Rattle.automaton_write.proofs.store_states.Statement.{statement}
@@ -28,20 +28,20 @@ mul-copy-2 : tie.Need-mul-copy-2 Inv-loop μ-loop
 mul-copy-2 c =
     let l = c .before .before .before in
     let a = l .before .before .args in
-    omega (arith, row-within (a .n) (a .m) (l .loop .q) (omega arith), rows-small (a .n) (a .m) (omega arith) (omega arith))
+    omega (arith, state-within (a .n) (a .m) (l .loop .q) (omega arith), states-small (a .n) (a .m) (omega arith) (omega arith))
 
 add-copy : tie.Need-add-copy Inv-loop μ-loop
 add-copy c =
     let l = c .before .before .before in
     let a = l .before .before .args in
-    omega (arith, row-within (a .n) (a .m) (l .loop .q) (omega arith), rows-small (a .n) (a .m) (omega arith) (omega arith))
+    omega (arith, state-within (a .n) (a .m) (l .loop .q) (omega arith), states-small (a .n) (a .m) (omega arith) (omega arith))
 
 copy-requires : tie.Need-copy-requires Inv-loop μ-loop
 copy-requires c κs =
     let l = c .before .before .before in
     let a = l .before .before .args in
     let i : a .at + l .loop .q * a .m + a .m ≤ length (l .loop .out) =
-    omega (arith, row-within (a .n) (a .m) (l .loop .q) (omega arith), l .loop .inv .1) in
+    omega (arith, state-within (a .n) (a .m) (l .loop .q) (omega arith), l .loop .inv .1) in
     (search needs, i)
 
 add-q : tie.Need-add-q Inv-loop μ-loop
@@ -58,7 +58,7 @@ loop-again c =
     let long : length (a .next .now) ≡ 512 = search needs in (
       omega arith,
       search needs,
-      p .copy .ensures ∙ rw (l .loop .inv .2) (row-more (a .next .now) long (a .m) (omega arith) _ _ _ (omega arith)),
+      p .copy .ensures ∙ rw (l .loop .inv .2) (state-more (a .next .now) long (a .m) (omega arith) _ _ _ (omega arith)),
     )
 
 same-length : tie.Need-same-length Inv-loop μ-loop

@@ -6,7 +6,7 @@ use borrow.Author.Tests.{not-true, not-false}
 use mathlib.Core.Bool.{true}
 use mathlib.Core.Path.{_≡_, _∙_, sym}
 use Rattle.automaton.proofs.Facts.{valid-facts}
-use Rattle.automaton_format.proofs.Storing.{numbers-length, rows-small}
+use Rattle.automaton_format.proofs.Storing.{numbers-length, states-small}
 use Rattle.automaton_format.proofs.Outcomes.{write-invalid, write-short, write-fits}
 use native.Mathlib.Omega.{arith}
 use borrow.Author.Needs.{needs}
@@ -27,7 +27,7 @@ stands c = sym (checked c .valid .ensures) ∙ not-false _ (c .if1 .left)
 few : (c : tie.After-as-usize2) → c .before .as-usize .result * c .as-usize2 .result ≤ 512
 few c =
     let v = valid-facts (start (c .before .before) .args .a) (stands (c .before .before)) in
-    rows-small (c .before .as-usize .result) (c .as-usize2 .result)
+    states-small (c .before .as-usize .result) (c .as-usize2 .result)
     (omega (arith, c .before .as-usize .ensures .0, v .states-high)) (omega (arith, c .as-usize2 .ensures .0, v .symbols-high))
 
 fits : (c : tie.Else2) → let a = c .before .before .before .before .before .before .args in

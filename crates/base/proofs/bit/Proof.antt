@@ -8,15 +8,12 @@ use Rattle.base.proofs.bit.Tie as tie
 use Rattle.base.proofs.bit.Reads as reads
 use Rattle.base.proofs.bit.Lts as lts
 
--- src/lib.rt:32:13
 cast-result : tie.Need-cast-result
 cast-result c = search needs
 
--- src/lib.rt:32:5
 shl-result : tie.Need-shl-result
 shl-result c = search needs
 
--- src/lib.rt:28:1
 -- a bit is not shifted out
 shifted : (q : ℕ) → q < 32 → 1 * 2 ^ q % 2 ^ 32 ≡ 2 ^ q
 shifted q h = rw one-mul (mod-eq-of-lt (pow-lt h))

@@ -6,15 +6,12 @@ use Rattle.base.proofs.has.Tie as tie
 use Rattle.base.proofs.has.Reads as reads
 use Rattle.base.proofs.has.Lts as lts
 
--- src/lib.rt:25:14
 cast-result : tie.Need-cast-result
 cast-result c = search needs
 
--- src/lib.rt:25:6
 shr-result : tie.Need-shr-result
 shr-result c = search needs
 
--- src/lib.rt:21:1
 returns : tie.Need-returns
 unfolding has
 returns c = refl

@@ -7,15 +7,12 @@ use Rattle.configuration_check.proofs.class_at.Tie as tie
 use Rattle.configuration_check.proofs.class_at.Reads as reads
 use Rattle.configuration_check.proofs.class_at.Lts as lts
 
--- src/check.rt:12:9
 returns : tie.Need-returns
 returns c = sym (List·getD-eq-default (c .before .args .classes .now) 0 (omega arith))
 
--- src/check.rt:14:5
 shared-slice-read-result : tie.Need-shared-slice-read-result
 shared-slice-read-result c = search needs
 
--- src/check.rt:8:1
 returns-2 : tie.Need-returns-2
 returns-2 c = search needs
 

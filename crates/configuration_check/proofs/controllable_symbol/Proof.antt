@@ -9,20 +9,16 @@ use Rattle.configuration_check.proofs.controllable_symbol.Lts as lts
 use Rattle.base.proofs.as_usize.Reads as size-reads
 use Rattle.configuration_check.proofs.class_at.Reads as class-at-reads
 
--- src/check.rt:21:9
 returns : tie.Need-returns
 unfolding controllableSymbol
 returns c = rw (le-ltb (c .before .args .e) (c .before .args .symbols) (omega arith))
 
--- src/check.rt:23:23
 as-usize-requires : tie.Need-as-usize-requires
 as-usize-requires c κs = search needs
 
--- src/check.rt:23:5
 class-at-requires : tie.Need-class-at-requires
 class-at-requires c κs = search needs
 
--- src/check.rt:17:1
 returns-2 : tie.Need-returns-2
 unfolding controllableSymbol
 returns-2 c = let a = c .before .before .before .before .args in rw (lt-ltb (a .e) (a .symbols) (omega arith), c .class-at .ensures, c .before .as-usize .ensures .0)

@@ -1,6 +1,6 @@
 -- A level: the sets for each controllable symbol in turn, behind the level before.
 use Rattle.solver_table.proofs.Levels.{Levelling, level-none, level-room, level-same, level-more, level-fits}
-use Rattle.solver_table.proofs.Filling.{sets-few, row-few}
+use Rattle.solver_table.proofs.Filling.{sets-few, symbol-few}
 use Rattle.solver_table.specs.Levels.{setsFrom, levelOf}
 use Rattle.solver_sets.specs.declared.Sets.{Sets}
 use lib.ListN.{length}
@@ -28,8 +28,8 @@ start c = c .before .before
 abbrev turn : tie.Then1 Inv-loop μ-loop → tie.At-loop Inv-loop μ-loop
 turn c = c .before .before .before
 
-abbrev row : tie.After-slice-known2 Inv-loop μ-loop → tie.After-fill-symbol Inv-loop μ-loop
-row c = c .before .before
+abbrev symbol : tie.After-slice-known2 Inv-loop μ-loop → tie.After-fill-symbol Inv-loop μ-loop
+symbol c = c .before .before
 
 abbrev f : tie.Start Inv-loop μ-loop → ℕ → ℕ → Sets
 f s = setsFrom (s .args .next .now) (s .args .free .now) (s .args .n) (s .args .u) (s .args .accepting)
@@ -68,18 +68,18 @@ fill-symbol-requires c κs =
 
 add-rounds : tie.Need-add-rounds Inv-loop μ-loop
 add-rounds c =
-    let o = turn (row c .before .before) in
+    let o = turn (symbol c .before .before) in
     let s = start o in
     let e = o .loop .e in
-    let more = row-few (f s e) (few s e) (o .loop .table) (s .args .from) (s .args .count) in
-    omega (arith, level-fits _ _ _ _ _ _ _ _ _ (o .loop .inv .1) (few s) (omega arith), row c .fill-symbol .ensures .1)
+    let more = symbol-few (f s e) (few s e) (o .loop .table) (s .args .from) (s .args .count) in
+    omega (arith, level-fits _ _ _ _ _ _ _ _ _ (o .loop .inv .1) (few s) (omega arith), symbol c .fill-symbol .ensures .1)
 
 mul-at-2 : tie.Need-mul-at-2 Inv-loop μ-loop
 mul-at-2 c = search needs
 
 add-at-2 : tie.Need-add-at-2 Inv-loop μ-loop
 add-at-2 c =
-    let t = row c .before .before in
+    let t = symbol c .before .before in
     omega (arith, turn t .loop .inv .1 .place, start (turn t) .pre .5, room t)
 
 add-e : tie.Need-add-e Inv-loop μ-loop
