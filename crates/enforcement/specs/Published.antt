@@ -41,7 +41,8 @@ pub record AsPublished (a : Automaton) (s : Store) : Type 0 where
   pub none-counted : refusedOf a s [] ≡ 0
   pub counted : (e : ℕ) (es : List ℕ) → Unknown a e ⊎ Full a (length (s .buffer)) e
       → refusedOf a s (e ∷ es) ≡ suc (refusedOf a s es)
-  pub not-counted : (e : ℕ) (es : List ℕ) → Admitted a (length (s .buffer)) e → refusedOf a s (e ∷ es) ≡ refusedOf a (store a s e) es
+  pub not-counted : (e : ℕ) (es : List ℕ) → Admitted a (length (s .buffer)) e
+      → refusedOf a s (e ∷ es) ≡ refusedOf a (store a s e) es
   -- its replies give the number of the row that refuses, and else 0
   pub event-row : (e : ℕ) → RowsOfEvent a (length (s .buffer)) e (refusalIn (expected a s (receiveCall e)))
   pub run-row : (es out : List ℕ) → RowOfRun (length out) es (length (s .buffer)) (refusalIn (expected a s (runCall es out)))
