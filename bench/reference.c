@@ -336,7 +336,7 @@ static uint8_t entered(const uint8_t *automaton, size_t table_length, const uint
     return 0;
 }
 
-/* The number of the rest of the hold from a place on. */
+/* The number of what is left of the hold from a place on. */
 static uint32_t buffer_number(const struct automaton *s, const struct configuration *c, unsigned from)
 {
     uint32_t value = 0;
@@ -357,23 +357,23 @@ uint8_t ref_winning(const uint8_t *automaton, const uint32_t *table, size_t tabl
     return row;
 }
 
-/* Puts out the longest front part of the hold that brings the state into S of the rest: its
+/* Puts out the longest front part of the hold that brings the state into S of what is left: its
  * length, or -1 where there is none. */
 static int release(const struct automaton *s, const uint32_t *table, struct configuration *c, uint8_t *out)
 {
-    uint32_t rest[CAPACITY + 1], value = 0, weight = 1;
+    uint32_t left[CAPACITY + 1], value = 0, weight = 1;
     unsigned state[CAPACITY + 1];
-    rest[c->held] = 0;
+    left[c->held] = 0;
     for (unsigned i = c->held; i-- > 0;) {
         value += s->rank[c->buffer[i]] * weight;
         weight *= s->k;
-        rest[i] = s->first[c->held - i] + value;
+        left[i] = s->first[c->held - i] + value;
     }
     state[0] = c->state;
     for (unsigned i = 0; i < c->held; i++)
         state[i + 1] = s->next[state[i] * SYMBOLS + c->buffer[i]];
     for (unsigned r = c->held + 1; r-- > 0;)
-        if (table[2 * (size_t)rest[r]] >> state[r] & 1) {
+        if (table[2 * (size_t)left[r]] >> state[r] & 1) {
             if (r) {
                 memcpy(out, c->buffer, r);
                 memmove(c->buffer, c->buffer + r, c->held - r);

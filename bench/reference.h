@@ -10,8 +10,8 @@
  * a compiler vectorises. */
 extern int ref_flat_check;
 
-/* Whether the solver remembers the last list of a row: what leads into the same states is not
- * struck again. */
+/* Whether the solver remembers the last list of those that begin with one symbol: what leads into
+ * the same states is not struck again. */
 extern int ref_remember;
 
 uint8_t ref_read(const uint8_t *bytes, size_t bytes_length, uint8_t *automaton, uint8_t *place);

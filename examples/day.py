@@ -2,8 +2,8 @@
 
     python3 day.py LIBRARY SHEET EVENT ..
 
-LIBRARY is the shared object made from the archive, SHEET a file with a sheet's bytes, each EVENT a number. Offsets and sizes are
-those of include/jaxhophasi.h.
+LIBRARY is the shared object made from the archive, SHEET a file with a sheet's bytes, each EVENT a
+number. Offsets and sizes are those of include/jaxhophasi.h.
 
 Status 0: all was printed. 1: the sheet is refused, or the output could not be written. 2: a fault
 in what is given.
@@ -85,7 +85,8 @@ def read_file(path):
 
 
 def read(library, path):
-    """The record of a sheet; the number of refusal and its place are printed, and nothing is handed back."""
+    """The record of a sheet; the number of refusal and its place are printed, and nothing is
+    handed back."""
     data = read_file(path)
     automaton, place = lent(AUTOMATON_SIZE), lent(NUMBER_SIZE)
     row = library.jaxhophasi_read((ctypes.c_uint8 * (len(data) + 1))(*data), len(data), automaton, place)

@@ -101,24 +101,28 @@ static inline uint64_t jaxhophasi_number_at(const uint8_t *bytes)
  * the first that holds is given. */
 enum {
     JAXHOPHASI_FINE = 0,
-    JAXHOPHASI_ENDS_EARLY = 1,           /* read: the bytes end before the sheet does */
-    JAXHOPHASI_LONG_NUMBER = 2,          /* read: the third byte of a number has its top bit set */
-    JAXHOPHASI_BAD_STATES = 3,           /* read: n not 1 to 32 */
-    JAXHOPHASI_BAD_SYMBOLS = 4,          /* read: m not 1 to 16 */
-    JAXHOPHASI_BAD_CAPACITY = 5,         /* read: B not 1 to 6 */
-    JAXHOPHASI_BAD_INITIAL = 6,          /* read: start not below n */
-    JAXHOPHASI_BAD_FLAG = 7,             /* read: a class or flag above 1 */
-    JAXHOPHASI_MANY_CONTROLLABLE = 8,    /* read: a ninth controllable kind */
-    JAXHOPHASI_BAD_NEXT = 9,             /* read: next state not below n */
-    JAXHOPHASI_BYTES_LEFT = 10,          /* read: bytes after the sheet */
-    JAXHOPHASI_BAD_AUTOMATON = 11,       /* a record that breaks 3 to 9, or a nonzero unused place */
-    JAXHOPHASI_SHORT_TABLE = 12,         /* solve, winning, receive, run: table shorter than 2 T */
-    JAXHOPHASI_BAD_CONFIGURATION = 13,   /* winning, receive, run, judge: state not below n, over B held, a held event that is
-                                            no controllable kind, or a nonzero unused place */
-    JAXHOPHASI_BAD_EVENT = 14,           /* receive: event not below m (a day passes over it and counts it) */
-    JAXHOPHASI_BUFFER_FULL = 15,         /* receive: controllable event, hold full (a day passes over it and counts it) */
-    JAXHOPHASI_SHORT_OUTPUT = 16,        /* write: buffer too short; run: output shorter than events plus held */
-    JAXHOPHASI_TOO_LARGE = 17            /* judge: over 4 states, 2 uncontrollable kinds or 3 held */
+    JAXHOPHASI_ENDS_EARLY = 1,         /* read: the bytes end before the sheet does */
+    JAXHOPHASI_LONG_NUMBER = 2,        /* read: the third byte of a number has its top bit set */
+    JAXHOPHASI_BAD_STATES = 3,         /* read: n not 1 to 32 */
+    JAXHOPHASI_BAD_SYMBOLS = 4,        /* read: m not 1 to 16 */
+    JAXHOPHASI_BAD_CAPACITY = 5,       /* read: B not 1 to 6 */
+    JAXHOPHASI_BAD_INITIAL = 6,        /* read: start not below n */
+    JAXHOPHASI_BAD_FLAG = 7,           /* read: a class or flag above 1 */
+    JAXHOPHASI_MANY_CONTROLLABLE = 8,  /* read: a ninth controllable kind */
+    JAXHOPHASI_BAD_NEXT = 9,           /* read: next state not below n */
+    JAXHOPHASI_BYTES_LEFT = 10,        /* read: bytes after the sheet */
+    JAXHOPHASI_BAD_AUTOMATON = 11,     /* a record that breaks 3 to 9, or a nonzero unused place */
+    JAXHOPHASI_SHORT_TABLE = 12,       /* solve, winning, receive, run: table shorter than 2 T */
+    JAXHOPHASI_BAD_CONFIGURATION = 13, /* winning, receive, run, judge: state not below n, over B
+                                        * held, a held event that is no controllable kind, or a
+                                        * nonzero unused place */
+    JAXHOPHASI_BAD_EVENT = 14,         /* receive: event not below m (a day passes over it and
+                                        * counts it) */
+    JAXHOPHASI_BUFFER_FULL = 15,       /* receive: controllable event, hold full (a day passes over
+                                        * it and counts it) */
+    JAXHOPHASI_SHORT_OUTPUT = 16,      /* write: buffer too short; run: output shorter than events
+                                        * plus held */
+    JAXHOPHASI_TOO_LARGE = 17          /* judge: over 4 states, 2 uncontrollable kinds or 3 held */
 };
 
 /* Reads and checks a sheet. Rows 1 to 10, left to right; place is where the faulty number begins,

@@ -1,25 +1,31 @@
-"""The test program: runs each line of a file through the interface for C, and prints the line and what
-came out below it. Lines that begin with # are printed alone.
+"""The test program: runs each line of a file through the interface for C, and prints the line and
+what came out below it. Lines that begin with # are printed alone.
 
     python3 tests/cases.py LIBRARY FILE
 
 LIBRARY is the shared object made from the archive. One record, one table and one carried state are
 kept from line to line. A line is a word and numbers; spaces and commas part them.
 
-    sheet BYTES             reads a sheet:      = refusal, place, n, m, B, start, the sum of all bytes of the record
+    sheet BYTES             reads a sheet:
+                            = refusal, place, n, m, B, start, the sum of all bytes of the record
     overwrite PLACE VALUE   changes one byte of the record
-    write ROOM              writes the sheet into ROOM bytes that were 9:   = refusal, length, those bytes
+    write ROOM              writes the sheet into ROOM bytes that were 9:
+                            = refusal, length, those bytes
     count                   = refusal, T
     bits WORDS              puts words at the front of the table
-    table PLACES            solves into the table's first places:   = refusal, rounds, those places
+    table PLACES            solves into the table's first places:
+                            = refusal, rounds, those places
     initial                 = refusal, the carried state's eight bytes
     at BYTES                sets the carried state
     guarded PLACES          = refusal, guarded
-    event PLACES KIND       = refusal, count put out, guarded, the carried state, the seven places of what is put out
-    run PLACES ROOM KINDS   a day into ROOM bytes that were 9:  = refusal, length, refused, the carried state, those bytes
+    event PLACES KIND       = refusal, count put out, guarded, the carried state,
+                            the seven places of what is put out
+    run PLACES ROOM KINDS   a day into ROOM bytes that were 9:
+                            = refusal, length, refused, the carried state, those bytes
     judge                   = refusal, may rest here, can come to rest
-    agree NUMBERS           every sheet that begins with these numbers, every carried state over it:
-                            = sheets, carried states, in how many of them the judge says what the solved table says
+    agree NUMBERS           every sheet that begins with these numbers, every carried state over
+                            it: = sheets, carried states, in how many of them the judge says what
+                            the solved table says
 """
 import itertools
 import pathlib
