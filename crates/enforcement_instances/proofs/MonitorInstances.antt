@@ -1,6 +1,6 @@
 -- The instances of the claims on the monitor's calls and on the published function.
 use Prim.Native.Nat.{ℕ, suc, _*_, _<_}
-use mathlib.Core.Path.{_≡_, refl, sym, _∙_, ap}
+use mathlib.Core.Path.{_≡_, refl, sym, _∙_, ap, subst}
 use mathlib.Core.Logic.{inl, inr}
 use mathlib.Core.Bool.{true, false}
 use mathlib.Core.List.{List, [], _∷_, _++_, map}
@@ -39,6 +39,7 @@ use Rattle.enforcement.proofs.Published.{follows-published}
 use Rattle.enforcement.proofs.Tables.{table-exists}
 use Rattle.enforcement.proofs.Demand3.{demand3, demand3-solved}
 use Rattle.enforcement.proofs.Driven.{driven-out}
+use Rattle.enforcement.proofs.Alone.{accepted-alone}
 use Rattle.enforcement.proofs.Said.{once-winning-said}
 use Rattle.enforcement.proofs.Answers.{flag-is-status, flag-stays, others-ignored}
 use Rattle.enforcement_cases.specs.Cases.{automatonV, automatonW}
@@ -326,6 +327,11 @@ both-long : short automatonW tableW ≡ short automatonW (tableW ++ 9 ∷ [])
 unfolding short
 both-long = rw buffers-w refl
 
+-- of what the calls feed the function, it accepts these
+accepts-these : acceptedAll automatonW empty (map fedBy calls) ≡ 2 ∷ 0 ∷ 1 ∷ []
+unfolding publishing
+accepts-these = refl
+
 pub enforcing : Enforcing
 unfolding automatonW
 enforcing =
@@ -334,6 +340,9 @@ enforcing =
       demand3 = demand3 automatonV (table automatonV) valid-v solved-v;
       table-exists = table-exists automatonW valid-w;
       demand3-solved = demand3-solved automatonW (filled 16 9) solves-w;
+      accepted-alone =
+          subst (λ es. storeAll automatonW empty es ≡ feedAll automatonW empty (map fedBy calls)) accepts-these
+          (accepted-alone automatonW calls);
       driven-out = driven-out automatonW valid-w [] 2 (omega arith) outside-w 0 eager (0 ∷ 2 ∷ []) (0 ∷ 2 ∷ []) leads-to-two;
       flag-is-status = flag-is-status automatonW tableW start 0 accepts-sign;
       flag-stays = flag-stays automatonW tableW solved-w start says-winning;

@@ -15,8 +15,8 @@ use Rattle.solver_answers.specs.Solving.{solvedTable}
 use Rattle.monitor_rule.specs.Step.{byTable, eventRefusal}
 use Rattle.monitor_rule.specs.Claims.{Admitted, Longest}
 use Rattle.monitor_answers.specs.Answers.{tooShort, callRefusal, status, receiveRefusal, received, refusedRun, runRefusal}
-use Rattle.enforcement.specs.Store.{Store, empty, positionAt, store, storeAll, event, events, feed, refusedOf}
-use Rattle.enforcement.specs.Calls.{Call, receiveCall, runCall, Reply, receive, refusalIn, replies, configurationAfter, emittedAll, expected}
+use Rattle.enforcement.specs.Store.{Store, empty, positionAt, store, storeAll, event, events, feed, feedAll, refusedOf}
+use Rattle.enforcement.specs.Calls.{Call, receiveCall, runCall, Reply, receive, refusalIn, replies, configurationAfter, emittedAll, expected, fedBy}
 use Rattle.enforcement.specs.Moments.{Moment, emittedAt}
 use Rattle.enforcement.specs.Strategy.{Strategy, play, Lost, lostBound}
 use Rattle.enforcement.specs.Claims.{Enforced, acceptedEvents, winningAfter}
@@ -190,6 +190,8 @@ pub record Enforcing : Type 0 where
   pub demand3 : (xs : List Call) → Enforced automatonV (table automatonV) xs
   pub table-exists : (t : List ℕ) × Solved automatonW t
   pub demand3-solved : (xs : List Call) → Enforced automatonW (solvedTable automatonW (filled 16 9)) xs
+  -- the day's event 4 is refused
+  pub accepted-alone : storeAll automatonW empty (2 ∷ 0 ∷ 1 ∷ []) ≡ feedAll automatonW empty (map fedBy calls)
   pub driven-out : Lost automatonW 0 eager (0 ∷ 2 ∷ []) (0 ∷ 2 ∷ []) [] (lostBound automatonW [])
   pub flag-is-status : status automatonW tableW (received automatonW tableW (initialOf automatonW) 0 .configuration)
       ≡ record { refusal = 0; winning = received automatonW tableW (initialOf automatonW) 0 .winning }
