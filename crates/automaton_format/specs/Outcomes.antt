@@ -1,4 +1,5 @@
--- What the inner functions of the reader hand back.
+-- How reading a list of numbers ended, and how many of them are 1: what the inner functions of
+-- reading hand back.
 use Prim.Native.Nat.{ℕ, _+_}
 use mathlib.Core.Bool.{cond}
 use lib.Dec.{eqb}

@@ -16,7 +16,7 @@ arena states symbols classes accepting next = assembled states symbols 0 0 class
 abbrev pub heldFrom : List ℕ → ℕ → ℕ → List ℕ
 heldFrom buffer held at = take (held - at) (drop at buffer)
 
--- the game can be played: its numbers stay in range
+-- what both questions ask: the game can be played, its numbers stay in range
 pub record PlayRequires (a : Automaton) (buffer : List ℕ) (held : ℕ) : Type 0 where
   pub states-high : a .states ≤ 32
   pub symbols-high : a .symbols ≤ 16

@@ -33,15 +33,15 @@ pub record Lends (a : Automaton) (l : Limits) (next ranks t : List ℕ) : Type 0
   pub next-are : next ≡ a .next
   pub ranks-are : ranks ≡ rankingOf (a .classes) (a .symbols) .ranks
 
--- rows 11 and 12 passed, by some such automaton with its classes, and there is room from the place
--- on for one event more than what a consistent configuration holds
+-- what `turn` asks: rows 11 and 12 passed, by some such automaton with its classes, and there is
+-- room from the place on for one event more than what a consistent configuration holds
 pub record TurnRequires (l : Limits) (classes next ranks t : List ℕ) (c : Configuration) (at size : ℕ) : Type 0 where
   pub automaton : Automaton
   pub lends : Lends automaton l next ranks t
   pub classes-are : classes ≡ automaton .classes
   pub room : consistent automaton c ≡ true → at + c .held < size
 
--- rows 11 to 13 passed
+-- what `process` and `process_event` ask beside room: rows 11 to 13 passed
 pub record ProcessRequires (l : Limits) (next ranks t : List ℕ) (c : Configuration) : Type 0 where
   pub automaton : Automaton
   pub lends : Lends automaton l next ranks t

@@ -1,5 +1,5 @@
--- What the release's functions hand back. They are lent arrays of the automaton instead of the
--- whole of it.
+-- Front parts of a buffer, and the numbers of what they leave: what the release's functions hand
+-- back and ask. They are lent arrays of the automaton instead of the whole of it.
 use Prim.Native.Nat.{ℕ, zero, suc, _+_, _*_, _^_, _<_, _≤_}
 use mathlib.Core.Bool.{cond}
 use mathlib.Core.List.{List, [], _∷_, _++_, map}

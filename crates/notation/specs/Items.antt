@@ -1,4 +1,5 @@
--- What inner functions answer.
+-- Items of a text, each a token with what its bytes are, and the check that packing makes of them
+-- first: what inner functions answer and ask.
 use Prim.Native.Nat.{ℕ, _+_, _≤_}
 use mathlib.Core.Path.{_≡_}
 use mathlib.Core.Bool.{cond}
@@ -24,7 +25,7 @@ unfoldable pub checked : ℕ → Reading → Packed
 checked n (faulty x) = refused (x .0) (x .1)
 checked n (numbers vs) = done (n + length (encoded vs))
 
--- a text has no fault, and there is room for its numbers
+-- what `store_groups` asks: a text has no fault, and there is room for its numbers
 pub record StoreGroupsRequires (s out : List ℕ) : Type 0 where
   pub values : List ℕ
   pub read : reading s ≡ numbers values

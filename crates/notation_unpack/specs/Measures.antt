@@ -1,4 +1,4 @@
--- What inner functions answer.
+-- How much room a line takes, and what stands after a number: what inner functions answer and ask.
 use Prim.Native.Nat.{ℕ, _+_, _-_, _≤_}
 use Prim.Native.Char.{code}
 use mathlib.Core.Path.{_≡_}
@@ -20,7 +20,7 @@ measured room left short (numbers vs) =
 unfoldable pub markAt : ℕ → ℕ → ℕ
 markAt at end = cond (ltb at end) (code " ") (code "\n")
 
--- bytes have no fault, and there is room for their line
+-- what `store_line` asks: bytes have no fault, and there is room for their line
 pub record StoreLineRequires (s out : List ℕ) : Type 0 where
   pub values : List ℕ
   pub read : decoded s ≡ numbers values

@@ -19,7 +19,8 @@ use Rattle.solver_sets.specs.Sets.{settle}
 abbrev pub Below : ℕ → List ℕ → Type 0
 Below limit l = (i : ℕ) → getD l i 0 < limit
 
--- n states and u symbols with which the lent arrays can be indexed
+-- what `refine` asks, and each function above it: n states and u symbols with which the lent
+-- arrays can be indexed
 pub record RefineRequires (next free : List ℕ) (n u : ℕ) : Type 0 where
   pub states : n ≤ 32
   pub symbols : u ≤ 16

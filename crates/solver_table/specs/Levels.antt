@@ -1,4 +1,5 @@
--- What the inner functions of the table hand back.
+-- The table level by level: the buffers of one length, symbol by symbol. What its inner functions
+-- hand back.
 use Prim.Native.Nat.{ℕ, zero, suc, _+_, _*_}
 use mathlib.Core.Path.{_≡_}
 use mathlib.Core.Bool.{cond}
