@@ -40,7 +40,17 @@ loop-less : tie.Need-loop-less Inv-loop μ-loop
 loop-less c = search needs
 
 loop-again : tie.Need-loop-again Inv-loop μ-loop
-loop-again c = let a = c .before .before .before .before .before .args in let l = c .before .before .before .before .loop in let p = place (a .symbols) (a .classes .now) (a .held) (a .buffer .now) in (omega arith, ⊎-elim (λ w. w .1 ∙ each-falls p (l .i) (l .fine) (l .inv .1) (sym (c .before .place-stands .ensures) ∙ not-true _ (w .0 .taken))) (λ w. w .1 ∙ each-keeps p (l .i) (l .fine) (l .inv .1) (sym (c .before .place-stands .ensures) ∙ not-false _ (w .0 .left))) (c .if1 .came))
+loop-again c =
+    let a = c .before .before .before .before .before .args in
+    let l = c .before .before .before .before .loop in
+    let p = place (a .symbols) (a .classes .now) (a .held) (a .buffer .now) in
+    let e = sym (c .before .place-stands .ensures) in (
+      omega arith,
+      ⊎-elim
+          (λ w. w .1 ∙ each-falls p (l .i) (l .fine) (l .inv .1) (e ∙ not-true _ (w .0 .taken)))
+          (λ w. w .1 ∙ each-keeps p (l .i) (l .fine) (l .inv .1) (e ∙ not-false _ (w .0 .left)))
+          (c .if1 .came),
+    )
 
 returns : tie.Need-returns Inv-loop μ-loop
 unfolding bufferStands

@@ -23,7 +23,15 @@ buffer-stands-requires c κs = search needs
 
 returns-3 : tie.Need-returns-3
 unfolding consistentIn
-returns-3 c = let a = c .before .before .before .before .before .before .args in let long : length (a .t5 .buffer) ≡ 6 = search needs in rw (eq-eqb (length (a .t5 .buffer)) 6 long, lt-ltb (a .t5 .state) (a .states) (omega arith), le-leb (a .t5 .held) (a .capacity) (omega arith)) (rw (c .before .before .before .as-usize .ensures .0) at (c .buffer-stands .ensures))
+returns-3 c =
+    let a = c .before .before .before .before .before .before .args in
+    let long : length (a .t5 .buffer) ≡ 6 = search needs in
+    rw (
+      eq-eqb (length (a .t5 .buffer)) 6 long,
+      lt-ltb (a .t5 .state) (a .states) (omega arith),
+      le-leb (a .t5 .held) (a .capacity) (omega arith),
+    )
+    (rw (c .before .before .before .as-usize .ensures .0) at (c .buffer-stands .ensures))
 
 pub consistent-spec : {M : Type 1} → statement M
 consistent-spec =

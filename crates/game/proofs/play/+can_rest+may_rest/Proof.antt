@@ -141,7 +141,11 @@ can-rest-can-rest-requires : (t : ℕ) → can-rest-lts.Need-can-rest-requires (
   can-rest.Post,
 ) (can-rest-at t) can-rest.Post
 unfolding step
-can-rest-can-rest-requires t c κs = let s = c .before .before .before .before .before .before in let p = s .pre .1 .0 in let e : c .before .as-usize .result < s .args .m = omega (arith, p .events (s .args .at) (omega arith)) in (omega arith, (p, omega arith, rw (c .step .ensures) (p .steps (s .args .q) (c .before .as-usize .result) (omega arith) e)))
+can-rest-can-rest-requires t c κs =
+    let s = c .before .before .before .before .before .before in
+    let p = s .pre .1 .0 in
+    let e : c .before .as-usize .result < s .args .m = omega (arith, p .events (s .args .at) (omega arith)) in
+    (omega arith, (p, omega arith, rw (c .step .ensures) (p .steps (s .args .q) (c .before .as-usize .result) (omega arith) e)))
 
 can-rest-returns-3 : (t : ℕ) → can-rest-lts.Need-returns-3 (
   may-rest-below t,
@@ -154,7 +158,13 @@ can-rest-returns-3 : (t : ℕ) → can-rest-lts.Need-returns-3 (
   can-rest.Post,
 ) (can-rest-at t) can-rest.Post
 unfolding step
-can-rest-returns-3 t c = let a = c .before .before .before .before .before .before .before .args in c .can-rest .ensures ∙ rw (c .before .step .ensures, c .before .before .as-usize .ensures .0) (sym (come-released _ (a .buffer .now) (a .held) (a .at) _ _ (omega arith) (omega arith) (sym (c .before .before .before .before .before .before .may-rest .ensures) ∙ c .before .before .before .before .before .if1 .left)))
+can-rest-returns-3 t c =
+    let r = c .before .before .before .before .before in
+    let a = r .before .before .args in
+    c .can-rest .ensures ∙
+    rw (c .before .step .ensures, c .before .before .as-usize .ensures .0)
+    (sym (come-released _ (a .buffer .now) (a .held) (a .at) _ _ (omega arith) (omega arith)
+    (sym (r .before .may-rest .ensures) ∙ r .if1 .left)))
 
 abbrev may-rest-Inv-loop : may-rest-lts.InvT-loop
 may-rest-Inv-loop next classes accepting buffer n m held at q rounds e₀ e = (e ≤ m) × (each e (turn (arena n m classes accepting next) (heldFrom buffer held at) (rounds - 1) q) ≡ true)
@@ -237,7 +247,13 @@ may-rest-returns-3 : (t : ℕ) → may-rest-lts.Need-returns-3 (
   can-rest.Post,
 ) (may-rest-at t) may-rest.Post may-rest-Inv-loop may-rest-μ-loop
 unfolding accepts controllable step
-may-rest-returns-3 t c = sym (rest-on _ _ _ _ (c .before .before .before .before .before .before .before .if2 .left) (eq-eqb _ _ (c .before .before .before .before .before .before .before .before .if1 .left)) ∙ each-false _ _ (c .before .before .before .before .before .before .loop .e) (c .before .before .before .before .before .loop-test .taken) (turn-out _ _ _ _ (c .before .before .before .before .before .before .loop .e) _ (c .before .before .step .ensures) (ne-eqb _ _ (c .before .before .before .if3 .taken)) (sym (c .before .can-rest .ensures) ∙ not-true _ (c .if4 .taken))))
+may-rest-returns-3 t c =
+    let l = c .before .before .before .before .before .before in
+    sym (rest-on _ _ _ _ (l .before .if2 .left) (eq-eqb _ _ (l .before .before .if1 .left)) ∙
+    each-false _ _ (l .loop .e) (c .before .before .before .before .before .loop-test .taken)
+    (turn-out _ _ _ _ (l .loop .e) _ (c .before .before .step .ensures)
+    (ne-eqb _ _ (c .before .before .before .if3 .taken))
+    (sym (c .before .can-rest .ensures) ∙ not-true _ (c .if4 .taken))))
 
 may-rest-add-e : (t : ℕ) → may-rest-lts.Need-add-e (
   step-reads.Asked,
@@ -262,7 +278,16 @@ may-rest-loop-again : (t : ℕ) → may-rest-lts.Need-loop-again (
   can-rest.Post,
 ) (may-rest-at t) may-rest.Post may-rest-Inv-loop may-rest-μ-loop
 unfolding controllable step
-may-rest-loop-again t c = (omega arith, each-more (c .before .before .before .loop .e) _ ∙ and-both (c .before .before .before .loop .inv .1) (⊎-elim (λ w. turn-in _ _ _ _ (c .before .before .before .loop .e) _ (w .1 .ensures) (sym (w .2 .ensures) ∙ not-false _ (w .3 .left))) (λ w. or-left _ (eq-eqb _ _ (w .left))) (c .if3 .came)))
+may-rest-loop-again t c =
+    let l = c .before .before .before .loop in (
+      omega arith,
+      each-more (l .e) _ ∙
+          and-both (l .inv .1)
+          (⊎-elim
+          (λ w. turn-in _ _ _ _ (l .e) _ (w .1 .ensures) (sym (w .2 .ensures) ∙ not-false _ (w .3 .left)))
+          (λ w. or-left _ (eq-eqb _ _ (w .left)))
+          (c .if3 .came)),
+    )
 
 may-rest-returns-4 : (t : ℕ) → may-rest-lts.Need-returns-4 (
   step-reads.Asked,
