@@ -3,7 +3,8 @@
  *
  *   driver compare COUNT   COUNT rounds of every call on sheets, records, tables, states and days,
  *                          valid and damaged; stops at the first difference
- *   driver time            the solver, one event and a day, both in turn, best of several
+ *   driver time            the solver, one event and a day, then a day over lists of clients, both
+ *                          in turn, best of several
  */
 #include <stdio.h>
 #include <stdlib.h>
@@ -174,6 +175,48 @@ static uint32_t make_event(const uint8_t *r)
 {
     static const uint32_t far[] = { 256, 257, 65536, 65537, 0x80000000u, 0xffffffffu };
     return below(16) ? below(r[1] + 1u) : below(4) ? below(20) : far[below(6)];
+}
+
+/* The number of clients of a list: often few, sometimes none or near the limit. */
+static size_t make_count(void)
+{
+    static const uint16_t limits[] = { 0, 499, 500, 501 };
+    return below(8) ? 1 + below(6) : limits[below(4)];
+}
+
+/* A client's carried state: fresh, any of the sheet, a damaged one, or one that says that it holds
+ * 200. */
+static void make_client(const uint8_t *r, uint8_t *c)
+{
+    unsigned choice = below(16);
+    make_configuration(r, c, choice == 0);
+    if (choice == 1)
+        c[JAXHOPHASI_CONFIGURATION_HELD] = 200;
+    if (choice > 9)
+        ref_initial(r, c);
+}
+
+/* A client of so many, often one of the first few, sometimes the first that is not there. */
+static uint32_t make_client_number(size_t count)
+{
+    static const uint32_t far[] = { 256, 512, 65535, 65536, 0xffffffffu };
+    uint32_t clients = (uint32_t)count;
+    switch (below(16)) {
+    case 0: return clients;
+    case 1: return far[below(5)];
+    case 2: return clients ? clients - 1 : 0;
+    default: return below(below(2) ? least(clients, 3) : clients);
+    }
+}
+
+/* An event of a day over so many clients. */
+static uint32_t make_client_event(const uint8_t *r, size_t count)
+{
+    static const uint32_t far[] = { 255, 256, 65535 };
+    uint32_t kind = below(16) ? below(r[1] + 1u) : far[below(3)];
+    if (below(64) == 0)
+        return below(2) ? any() : 0xffffffffu;
+    return JAXHOPHASI_CLIENT_EVENT(make_client_number(count), kind);
 }
 
 /* ---- comparing ---- */
@@ -361,6 +404,92 @@ static void compare_calls(twin record, twin table, size_t places, twin state)
     same_twins("the table", table);
 }
 
+/* A list of clients as the calls take it. */
+typedef uint8_t (*list_of_clients)[JAXHOPHASI_CONFIGURATION_SIZE];
+
+/* Gives a client some carried state, the same in both copies. */
+static void set_client(twin record, twin list, size_t client)
+{
+    size_t at = client * JAXHOPHASI_CONFIGURATION_SIZE;
+    make_client(record.ours, list.ours + at);
+    memcpy(list.theirs + at, list.ours + at, JAXHOPHASI_CONFIGURATION_SIZE);
+}
+
+static void compare_receive_for(twin record, twin table, size_t places, twin list, size_t count)
+{
+    uint32_t client = make_client_number(count), event = make_event(record.ours);
+    twin answer = twins(JAXHOPHASI_RECEIVED_SIZE, 0);
+    call_now = "receive_for";
+    same_row(jaxhophasi_receive_for(record.ours, (uint32_t *)table.ours, places, (list_of_clients)list.ours, count, client, event,
+                 answer.ours),
+        ref_receive_for(record.theirs, (uint32_t *)table.theirs, places, (list_of_clients)list.theirs, count, client, event,
+            answer.theirs));
+    same_twins("the list", list);
+    same_twins("the answer", answer);
+    drop_twins(answer);
+}
+
+/* How many events the clients hold whose carried states are no fault. */
+static size_t held_in_list(twin record, twin table, size_t places, twin list, size_t count)
+{
+    size_t held = 0;
+    for (size_t i = 0; i < count; i++) {
+        uint8_t *c = list.theirs + i * JAXHOPHASI_CONFIGURATION_SIZE, status;
+        if (ref_winning(record.theirs, (uint32_t *)table.theirs, places, c, &status) == 0)
+            held += c[JAXHOPHASI_CONFIGURATION_HELD];
+    }
+    return held;
+}
+
+/* A day over the list, into exactly the room that it needs, one byte less, more, or any. */
+static void compare_run_for(twin record, twin table, size_t places, twin list, size_t count, size_t many)
+{
+    size_t lent = many + held_in_list(record, table, places, list, count);
+    switch (below(8)) {
+    case 0: lent -= lent > 0; break;
+    case 1: lent += below(300); break;
+    case 2: lent = below((uint32_t)lent + 1); break;
+    }
+    twin events = twins(4 * many, 0), out = twins(lent, 0), answer = twins(JAXHOPHASI_RAN_SIZE, 0);
+    uint32_t *day = (uint32_t *)events.ours;
+    call_now = "run_for";
+    for (size_t i = 0; i < many; i++)
+        day[i] = make_client_event(record.ours, count);
+    memcpy(events.theirs, events.ours, events.size);
+    same_row(jaxhophasi_run_for(record.ours, (uint32_t *)table.ours, places, (list_of_clients)list.ours, count, day, many,
+                 out.ours, lent, answer.ours),
+        ref_run_for(record.theirs, (uint32_t *)table.theirs, places, (list_of_clients)list.theirs, count,
+            (uint32_t *)events.theirs, many, out.theirs, lent, answer.theirs));
+    same_twins("the events", events);
+    same_twins("the list", list);
+    same_twins("the output", out);
+    same_twins("the answer", answer);
+    drop_twins(events);
+    drop_twins(out);
+    drop_twins(answer);
+}
+
+/* Calls in a row over one list of clients, events and days mixed. */
+static void compare_list(twin record, twin table, size_t places)
+{
+    size_t count = make_count();
+    twin list = twins(count * JAXHOPHASI_CONFIGURATION_SIZE, 0);
+    for (size_t i = 0; i < count; i++)
+        set_client(record, list, i);
+    for (unsigned i = below(30); i > 0; i--) {
+        if (below(4))
+            compare_receive_for(record, table, places, list, count);
+        else
+            compare_run_for(record, table, places, list, count, below(8) ? below(60) : below(2000));
+        if (count && below(16) == 0)
+            set_client(record, list, below((uint32_t)count));
+    }
+    call_now = "the calls over a list";
+    same_twins("the record", record);
+    same_twins("the table", table);
+    drop_twins(list);
+}
+
 static void compare_round(uint32_t most)
 {
     uint8_t r[JAXHOPHASI_AUTOMATON_SIZE], bytes[3 * JAXHOPHASI_MAX_SHEET + 8] = { 0 }, count[8];
@@ -391,6 +520,7 @@ static void compare_round(uint32_t most)
         memcpy(state.ours, state.theirs, JAXHOPHASI_CONFIGURATION_SIZE);
     memcpy(state.theirs, state.ours, JAXHOPHASI_CONFIGURATION_SIZE);
     compare_calls(record, table, places, state);
+    compare_list(record, table, places);
     drop_twins(record);
     drop_twins(state);
     drop_twins(table);
@@ -587,10 +717,105 @@ static void measure_random(unsigned k, unsigned b, const unsigned *seeds, unsign
     }
 }
 
+/* ---- measuring days over lists of clients ---- */
+
+static uint8_t clients[JAXHOPHASI_MAX_CLIENTS][JAXHOPHASI_CONFIGURATION_SIZE];
+static uint8_t clients_by_c[JAXHOPHASI_MAX_CLIENTS][JAXHOPHASI_CONFIGURATION_SIZE];
+static uint8_t fresh[JAXHOPHASI_MAX_CLIENTS][JAXHOPHASI_CONFIGURATION_SIZE];
+static uint32_t clients_now;
+
+static void run_for_ours(void)
+{
+    memcpy(clients, fresh, sizeof fresh);
+    jaxhophasi_run_for(record, table, places, clients, clients_now, events, EVENTS, output, EVENTS, answer);
+}
+
+static void run_for_by_c(void)
+{
+    memcpy(clients_by_c, fresh, sizeof fresh);
+    ref_run_for(record, table, places, clients_by_c, clients_now, events, EVENTS, output_by_c, EVENTS, answer_by_c);
+}
+
+/* Any event of any client. */
+static void any_client_events(void)
+{
+    for (size_t i = 0; i < EVENTS; i++)
+        events[i] = JAXHOPHASI_CLIENT_EVENT(below(clients_now), below(record[1] + 1u));
+}
+
+/* W's events of any client; a client's next event after its Page is the Receipt. */
+static void paired_client_events(void)
+{
+    static uint8_t paging[JAXHOPHASI_MAX_CLIENTS];
+    memset(paging, 0, sizeof paging);
+    for (size_t i = 0; i < EVENTS; i++) {
+        uint32_t client = below(clients_now), kind = paging[client] ? 3 : below(3);
+        paging[client] = kind == 2;
+        events[i] = JAXHOPHASI_CLIENT_EVENT(client, kind);
+    }
+}
+
+/* A day over 1, 10, 100 and 500 clients, and what became of the last one's events. */
+static void measure_clients(const char *name, work make_events)
+{
+    static const uint16_t counts[] = { 1, 10, 100, 500 };
+    static const work runs[] = { run_for_ours, run_for_by_c };
+    double d[2];
+    uint8_t number[8];
+    ref_flat_check = 0;
+    ref_buffers_count(record, number);
+    places = 2 * jaxhophasi_number_at(number);
+    jaxhophasi_solve(record, table, places, number);
+    for (unsigned i = 0; i < JAXHOPHASI_MAX_CLIENTS; i++)
+        jaxhophasi_initial(record, fresh[i]);
+    printf("%-12s |", name);
+    for (unsigned i = 0; i < sizeof counts / sizeof *counts; i++) {
+        clients_now = counts[i];
+        make_events();
+        best_of(15, 2, runs, d);
+        equal("list", clients, clients_by_c, sizeof clients);
+        equal("answer", answer, answer_by_c, 16);
+        equal("output", output, output_by_c, EVENTS);
+        printf(" %5.2f  %4.2f |", d[0] / EVENTS, d[0] / d[1]);
+        fflush(stdout);
+    }
+    printf(" %7lu %7lu\n", (unsigned long)jaxhophasi_number_at(answer), (unsigned long)jaxhophasi_number_at(answer + 8));
+    fflush(stdout);
+}
+
+/* The random sheets of measure_random. */
+static void measure_random_clients(unsigned k, unsigned b, const unsigned *seeds, unsigned many)
+{
+    char name[32];
+    for (unsigned i = 0; i < many; i++) {
+        seed = 1000 + seeds[i];
+        make_record(record, 32, 16, b, k, 1);
+        snprintf(name, sizeof name, "k %u B %u, %u", k, b, seeds[i]);
+        measure_clients(name, any_client_events);
+    }
+}
+
+/* Sheet W of document 01, and the seeds of the random sheets. */
+static const uint8_t w[] = { 4, 4, 2, 0, 0, 0, 1, 1, 1, 1, 0, 0, 1, 0, 3, 0, 1, 0, 2, 1, 2, 3, 3, 1, 3, 3, 3, 3 };
+static const unsigned seeds[] = { 4, 18, 54, 8, 39 };
+
+static void time_clients(void)
+{
+    uint8_t place[8];
+    puts("\nday's event  |   1 client  |  10 clients | 100 clients | 500 clients | of 500 clients' events\n"
+         "             |    ns    /C |    ns    /C |    ns    /C |    ns    /C | put out refused");
+    seed = 1;
+    jaxhophasi_read(w, sizeof w, record, place);
+    measure_clients("W", any_client_events);
+    measure_clients("W, paired", paired_client_events);
+    measure_random_clients(0, 6, seeds, 1);
+    measure_random_clients(1, 5, seeds, 1);
+    measure_random_clients(8, 2, seeds, 2);
+    measure_random_clients(8, 6, seeds, 3);
+}
+
 static int time_all(void)
 {
-    static const uint8_t w[] = { 4, 4, 2, 0, 0, 0, 1, 1, 1, 1, 0, 0, 1, 0, 3, 0, 1, 0, 2, 1, 2, 3, 3, 1, 3, 3, 3, 3 };
-    static const unsigned seeds[] = { 4, 18, 54, 8, 39 };
     uint8_t place[8];
     table = room(4 * JAXHOPHASI_MAX_TABLE);
     table_by_c = room(4 * JAXHOPHASI_MAX_TABLE);
@@ -612,6 +837,7 @@ static int time_all(void)
     for (unsigned b = 1; b < 5; b++)
         measure_random(8, b, seeds, 3);
     measure_random(8, 6, seeds, 5);
+    time_clients();
     return 0;
 }
 

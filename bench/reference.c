@@ -1,4 +1,5 @@
-/* The rules of document 01 in plain C, to compare with and to measure against. */
+/* The rules of document 01, and of document 02's lists of growers, in plain C, to compare with and
+ * to measure against. */
 #include <string.h>
 
 #include "reference.h"
@@ -6,7 +7,7 @@
 int ref_flat_check = 0;
 int ref_remember = 0;
 
-enum { STATES = 32, SYMBOLS = 16, CAPACITY = 6, CONTROLLABLE = 8 };
+enum { STATES = 32, SYMBOLS = 16, CAPACITY = 6, CONTROLLABLE = 8, CLIENTS = 500 };
 
 /* A record that row 11 lets pass (a sheet), and what follows from it. */
 struct automaton {
@@ -29,6 +30,13 @@ static void put(uint8_t *bytes, uint64_t value)
 {
     for (int i = 0; i < 8; i++)
         bytes[i] = (uint8_t)(value >> 8 * i);
+}
+
+/* A day's answer: how many bytes it wrote, and how many events were refused. */
+static void put_ran(uint8_t *answer, size_t used, size_t refused)
+{
+    put(answer, used);
+    put(answer + 8, refused);
 }
 
 /* Row 11, left at the first fault. */
@@ -315,25 +323,36 @@ uint8_t ref_initial(const uint8_t *automaton, uint8_t *configuration)
     return 0;
 }
 
+/* Rows 11 and 12: the sheet. */
+static uint8_t opened(const uint8_t *automaton, size_t table_length, struct automaton *s)
+{
+    if (!automaton_of(automaton, s))
+        return 11;
+    return table_length < 2 * (size_t)s->buffers ? 12 : 0;
+}
+
+/* Row 13: the carried state of its eight bytes, or 0. */
+static int configuration_of(const struct automaton *s, const uint8_t *bytes, struct configuration *c)
+{
+    c->state = bytes[0];
+    c->held = bytes[1];
+    if (c->state >= s->n || c->held > s->b)
+        return 0;
+    for (unsigned i = 0; i < CAPACITY; i++) {
+        uint8_t e = bytes[2 + i];
+        if (i < c->held ? e >= s->m || s->classes[e] != 1 : e != 0)
+            return 0;
+        c->buffer[i] = e;
+    }
+    return 1;
+}
+
 /* Rows 11 to 13: the sheet and the carried state. */
 static uint8_t entered(const uint8_t *automaton, size_t table_length, const uint8_t *configuration, struct automaton *s,
     struct configuration *c)
 {
-    if (!automaton_of(automaton, s))
-        return 11;
-    if (table_length < 2 * (size_t)s->buffers)
-        return 12;
-    c->state = configuration[0];
-    c->held = configuration[1];
-    if (c->state >= s->n || c->held > s->b)
-        return 13;
-    for (unsigned i = 0; i < CAPACITY; i++) {
-        uint8_t e = configuration[2 + i];
-        if (i < c->held ? e >= s->m || s->classes[e] != 1 : e != 0)
-            return 13;
-        c->buffer[i] = e;
-    }
-    return 0;
+    uint8_t row = opened(automaton, table_length, s);
+    return row ? row : configuration_of(s, configuration, c) ? 0 : 13;
 }
 
 /* The number of what is left of the hold from a place on. */
@@ -440,8 +459,7 @@ uint8_t ref_run(const uint8_t *automaton, const uint32_t *table, size_t table_le
     struct configuration c;
     int winning;
     size_t used = 0, refused = 0;
-    put(answer, 0);
-    put(answer + 8, 0);
+    put_ran(answer, 0, 0);
     uint8_t row = entered(automaton, table_length, configuration, &s, &c);
     if (row)
         return row;
@@ -454,8 +472,77 @@ uint8_t ref_run(const uint8_t *automaton, const uint32_t *table, size_t table_le
             used += step(&s, table, &c, (uint8_t)events[i], out + used, &winning);
     }
     hand_back(&c, configuration);
-    put(answer, used);
-    put(answer + 8, refused);
+    put_ran(answer, used, refused);
+    return 0;
+}
+
+/* Rows 11, 12 and 20: the sheet that a list of clients shares. */
+static uint8_t opened_for(const uint8_t *automaton, size_t table_length, size_t clients, struct automaton *s)
+{
+    uint8_t row = opened(automaton, table_length, s);
+    return row ? row : clients < 1 || clients > CLIENTS ? 20 : 0;
+}
+
+/* Row 19 of a client, then rows 13 to 15 of its carried state and an event, or 0. */
+static uint8_t event_row_for(const struct automaton *s, uint8_t (*configurations)[8], size_t clients, size_t client,
+    uint32_t event, struct configuration *c)
+{
+    if (client >= clients)
+        return 19;
+    return configuration_of(s, configurations[client], c) ? event_row(s, c, event) : 13;
+}
+
+uint8_t ref_receive_for(const uint8_t *automaton, const uint32_t *table, size_t table_length, uint8_t (*configurations)[8],
+    size_t configurations_length, uint32_t client, uint32_t event, uint8_t *answer)
+{
+    struct automaton s;
+    struct configuration c;
+    int winning;
+    memset(answer, 0, 9);
+    uint8_t row = opened_for(automaton, table_length, configurations_length, &s);
+    if (row || (row = event_row_for(&s, configurations, configurations_length, client, event, &c)))
+        return row;
+    answer[7] = (uint8_t)step(&s, table, &c, (uint8_t)event, answer, &winning);
+    answer[8] = (uint8_t)winning;
+    hand_back(&c, configurations[client]);
+    return 0;
+}
+
+/* How many events all clients hold; a carried state that row 13 refuses holds none. */
+static size_t held_by_all(const struct automaton *s, uint8_t (*configurations)[8], size_t clients)
+{
+    struct configuration c;
+    size_t held = 0;
+    for (size_t i = 0; i < clients; i++)
+        if (configuration_of(s, configurations[i], &c))
+            held += c.held;
+    return held;
+}
+
+uint8_t ref_run_for(const uint8_t *automaton, const uint32_t *table, size_t table_length, uint8_t (*configurations)[8],
+    size_t configurations_length, const uint32_t *events, size_t events_length, uint8_t *out, size_t out_length, uint8_t *answer)
+{
+    struct automaton s;
+    struct configuration c;
+    int winning;
+    size_t used = 0, refused = 0;
+    put_ran(answer, 0, 0);
+    uint8_t row = opened_for(automaton, table_length, configurations_length, &s);
+    if (row)
+        return row;
+    size_t held = held_by_all(&s, configurations, configurations_length);
+    if (out_length < held || out_length - held < events_length)
+        return 16;
+    for (size_t i = 0; i < events_length; i++) {
+        uint32_t client = events[i] / 65536, event = events[i] % 65536;
+        if (event_row_for(&s, configurations, configurations_length, client, event, &c))
+            refused++;
+        else {
+            used += step(&s, table, &c, (uint8_t)event, out + used, &winning);
+            hand_back(&c, configurations[client]);
+        }
+    }
+    put_ran(answer, used, refused);
     return 0;
 }
 

@@ -1,5 +1,5 @@
-/* The calls of jaxhophasi.h once more, written in C from the rules of document 01 alone. Same
- * parameters, same bytes. */
+/* The calls of jaxhophasi.h once more, written in C from the rules of documents 01 and 02 alone.
+ * Same parameters, same bytes. */
 #ifndef REFERENCE_H
 #define REFERENCE_H
 
@@ -25,6 +25,10 @@ uint8_t ref_receive(const uint8_t *automaton, const uint32_t *table, size_t tabl
     uint8_t *answer);
 uint8_t ref_run(const uint8_t *automaton, const uint32_t *table, size_t table_length, uint8_t *configuration,
     const uint32_t *events, size_t events_length, uint8_t *out, size_t out_length, uint8_t *answer);
+uint8_t ref_receive_for(const uint8_t *automaton, const uint32_t *table, size_t table_length, uint8_t (*configurations)[8],
+    size_t configurations_length, uint32_t client, uint32_t event, uint8_t *answer);
+uint8_t ref_run_for(const uint8_t *automaton, const uint32_t *table, size_t table_length, uint8_t (*configurations)[8],
+    size_t configurations_length, const uint32_t *events, size_t events_length, uint8_t *out, size_t out_length, uint8_t *answer);
 uint8_t ref_judge(const uint8_t *automaton, const uint8_t *configuration, uint8_t *answer);
 
 #endif

@@ -9,6 +9,7 @@ Status 0: all was printed. 1: the sheet is refused, or the output could not be w
 in what is given.
 """
 import ctypes
+import pathlib
 import re
 import signal
 import sys
@@ -19,7 +20,8 @@ BYTES_READ = 3 * 564 + 1  # one byte more than a sheet can have
 
 def stop(status, name, fault):
     """Says what is wrong, of a name where there is one, and ends."""
-    print("day: " + (name + ": " if name else "") + fault, file=sys.stderr)
+    program = pathlib.Path(sys.argv[0]).stem
+    print(program + ": " + (name + ": " if name else "") + fault, file=sys.stderr)
     sys.exit(status)
 
 
@@ -54,6 +56,8 @@ def library_at(path):
         "receive": [byte, word, size, byte, ctypes.c_uint32, byte],
         "run": [byte, word, size, byte, word, size, byte, size, byte],
         "judge": [byte, byte, byte],
+        "receive_for": [byte, word, size, byte, size, ctypes.c_uint32, ctypes.c_uint32, byte],
+        "run_for": [byte, word, size, byte, size, word, size, byte, size, byte],
     }.items():
         function = getattr(library, "jaxhophasi_" + name, None) or stop(2, path, "no function jaxhophasi_" + name)
         function.argtypes, function.restype = types, ctypes.c_uint8
@@ -68,18 +72,18 @@ def yes(flag):
     return "yes" if flag else "no"
 
 
-def event_number(word):
-    """The number of an event: digits alone, at most 32 bits."""
-    if not re.fullmatch("0*[0-9]{1,10}", word) or int(word[-10:]) > 0xFFFFFFFF:
-        stop(2, word or "''", "no event number (0 to 4294967295)")
+def number_of(word, most, fault):
+    """The number of a word, digits alone, at most so large; else it ends with the fault."""
+    if not re.fullmatch("0*[0-9]{1,10}", word) or int(word[-10:]) > most:
+        stop(2, word or "''", fault)
     return int(word[-10:])
 
 
-def read_file(path):
-    """As many of a file's bytes as a sheet can have, and one more."""
+def read_file(path, most=-1):
+    """A file's bytes, at most so many; all of them where no number is given."""
     try:
         with open(path, "rb") as file:
-            return file.read(BYTES_READ)
+            return file.read(most)
     except OSError as error:
         stop(2, path, error.strerror)
 
@@ -87,7 +91,7 @@ def read_file(path):
 def read(library, path):
     """The record of a sheet; the number of refusal and its place are printed, and nothing is
     handed back."""
-    data = read_file(path)
+    data = read_file(path, BYTES_READ)
     automaton, place = lent(AUTOMATON_SIZE), lent(NUMBER_SIZE)
     row = library.jaxhophasi_read((ctypes.c_uint8 * (len(data) + 1))(*data), len(data), automaton, place)
     if row == 0:
@@ -97,29 +101,33 @@ def read(library, path):
 
 
 def solve(library, automaton):
-    """The solved table and its length."""
-    number = lent(NUMBER_SIZE)
+    """Solves a sheet and prints its lines; the table and its length."""
+    number, configuration, winning = lent(NUMBER_SIZE), lent(CONFIGURATION_SIZE), lent(STATUS_SIZE)
     library.jaxhophasi_buffers_count(automaton, number)
     places = 2 * number_at(number)
     table = numbers([0] * places)
     library.jaxhophasi_solve(automaton, table, places, number)
     print("solved", places, "places,", number_at(number), "rounds")
+    library.jaxhophasi_initial(automaton, configuration)
+    library.jaxhophasi_winning(automaton, table, places, configuration, winning)
+    print("sheet", automaton[0], automaton[1], automaton[2], "start", automaton[3], "guarded", yes(winning[0]))
     return table, places
+
+
+def received(row, answer, configuration):
+    """What an event answers and leaves, as the day program prints it."""
+    if row:
+        return "refused {}".format(row)
+    return "out {} state {} held {} guarded {}".format(symbols(answer[:answer[7]]), *configuration[:2], yes(answer[8]))
 
 
 def print_events(library, automaton, table, places, events):
     """One event after the other, as the day program prints them."""
-    configuration, winning, answer = lent(CONFIGURATION_SIZE), lent(STATUS_SIZE), lent(RECEIVED_SIZE)
+    configuration, answer = lent(CONFIGURATION_SIZE), lent(RECEIVED_SIZE)
     library.jaxhophasi_initial(automaton, configuration)
-    library.jaxhophasi_winning(automaton, table, places, configuration, winning)
-    print("sheet", automaton[0], automaton[1], automaton[2], "start", automaton[3], "guarded", yes(winning[0]))
     for event in events:
         row = library.jaxhophasi_receive(automaton, table, places, configuration, event, answer)
-        if row:
-            print("in", event, "refused", row)
-        else:
-            emitted = symbols(answer[:answer[7]])
-            print("in", event, "out", emitted, "state", configuration[0], "held", configuration[1], "guarded", yes(answer[8]))
+        print("in", event, received(row, answer, configuration))
 
 
 def print_day(library, automaton, table, places, events):
@@ -145,20 +153,24 @@ def run_sheet(library, path, events):
     return 0
 
 
-def main(words):
+def printed(run, *arguments):
+    """The status of what prints, once all is written."""
     signal.signal(signal.SIGPIPE, signal.SIG_DFL)  # as in C: a reader that goes away ends it
-    if len(words) < 3:
-        stop(2, "usage", "day.py LIBRARY SHEET EVENT ..")
-    events = [event_number(word) for word in words[3:]]
-    library = library_at(words[1])
     try:
-        status = run_sheet(library, words[2], events)
+        status = run(*arguments)
         print(end="", flush=True)
     except OSError:
         sys.stdout = None
     if sys.stdout is None:  # also where it was closed from the start
         stop(1, "", "cannot write")
     return status
+
+
+def main(words):
+    if len(words) < 3:
+        stop(2, "usage", "day.py LIBRARY SHEET EVENT ..")
+    events = [number_of(word, 0xFFFFFFFF, "no event number (0 to 4294967295)") for word in words[3:]]
+    return printed(run_sheet, library_at(words[1]), words[2], events)
 
 
 if __name__ == "__main__":

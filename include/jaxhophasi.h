@@ -4,16 +4,18 @@
  * Link target/staticlib/libjaxhophasi.a, which `rt staticlib jaxhophasi` writes (Linux on x86-64).
  *
  * Every function returns the number of refusal, 0 where nothing is refused. A refused call writes
- * nothing but its answer, in which every count, length and yes-or-no is 0; the lent carried state,
- * table and output keep their contents. A refused read leaves an all-zero record and the place of
- * the fault.
+ * nothing but its answer, in which every count, length and yes-or-no is 0; the lent carried state
+ * or list of them, table and output keep their contents. A refused read leaves an all-zero record
+ * and the place of the fault.
  *
  * What is lent: a fixed array is a plain pointer to as many bytes as its constant says; a list is
  * a pointer and then the number of its elements. A list may be of any length and all of it may
  * hold anything. No pointer is null, also where a list is empty; lists of uint32_t are aligned as
  * C wants them. What a call may write (a pointer without const) overlaps nothing else that is lent
- * to the same call. Nothing is kept after the call, nothing is allocated, and calls on different
- * memory may run at the same time.
+ * to the same call. Nothing is kept after the call and nothing is allocated. Calls may run at the
+ * same time where none writes what another is lent: a record and a table may be shared by all that
+ * only read them; a list of carried states is lent whole, so no two calls at a time on one list,
+ * also for different clients.
  */
 #ifndef JAXHOPHASI_H
 #define JAXHOPHASI_H
@@ -29,7 +31,7 @@ extern "C" {
  * or may see another answer, the second where calls are added, the third at every other change.
  * The three are also one number, 10000 for 1.0.0 and 10203 for 1.2.3. */
 #define JAXHOPHASI_VERSION_MAJOR 1
-#define JAXHOPHASI_VERSION_MINOR 0
+#define JAXHOPHASI_VERSION_MINOR 1
 #define JAXHOPHASI_VERSION_PATCH 0
 #define JAXHOPHASI_VERSION \
     (JAXHOPHASI_VERSION_MAJOR * 10000 + JAXHOPHASI_VERSION_MINOR * 100 + JAXHOPHASI_VERSION_PATCH)
@@ -53,6 +55,21 @@ extern "C" {
 #define JAXHOPHASI_CONFIGURATION_HELD 1   /* how many are held */
 #define JAXHOPHASI_CONFIGURATION_BUFFER 2 /* 6: the held kinds, first in first */
 
+/* Many clients (growers) share one sheet and one table; each has a carried state of its own in one
+ * lent list. The carried states lie one after the other, eight bytes each, the first client's
+ * first: that of client c is configurations[c], which begins c * JAXHOPHASI_CONFIGURATION_SIZE
+ * bytes on, and has its state, its count and its hold at the three offsets above. The list's
+ * length is the number of clients (not of bytes), 1 to JAXHOPHASI_MAX_CLIENTS. A fresh list has at
+ * each place what jaxhophasi_initial gives. (Zeros alone are no fresh list: state 0 need not be
+ * the start, and no row refuses it.) */
+#define JAXHOPHASI_MAX_CLIENTS 500
+
+/* An event of a day over such a list: which client's, and its kind, each 0 to 65,535. Nothing
+ * checks that here: a larger kind makes it another client's event, and client 65,536 is client 0.
+ * Every 32-bit number is some client's event, and 19 refuses it where the list has no such
+ * client. */
+#define JAXHOPHASI_CLIENT_EVENT(client, kind) ((uint32_t)(client) * 65536 + (uint32_t)(kind))
+
 /* A number in an answer: eight bytes, low byte first. */
 #define JAXHOPHASI_NUMBER_SIZE 8
 
@@ -68,16 +85,16 @@ static inline uint64_t jaxhophasi_number_at(const uint8_t *bytes)
 /* What jaxhophasi_winning answers: 1 guarded, 0 not. */
 #define JAXHOPHASI_STATUS_SIZE 1
 
-/* What jaxhophasi_receive answers. */
+/* What jaxhophasi_receive and jaxhophasi_receive_for answer. */
 #define JAXHOPHASI_RECEIVED_SIZE 9
 #define JAXHOPHASI_RECEIVED_EMITTED 0 /* 7: the kinds put out; 0 past their count */
 #define JAXHOPHASI_RECEIVED_COUNT 7   /* how many are put out */
 #define JAXHOPHASI_RECEIVED_WINNING 8 /* 1 guarded, 0 not */
 
-/* What jaxhophasi_run answers: two numbers. */
+/* What jaxhophasi_run and jaxhophasi_run_for answer: two numbers. */
 #define JAXHOPHASI_RAN_SIZE 16
 #define JAXHOPHASI_RAN_LENGTH 0  /* bytes of output written */
-#define JAXHOPHASI_RAN_REFUSED 8 /* events refused by 14 or 15 */
+#define JAXHOPHASI_RAN_REFUSED 8 /* events refused by 14 or 15, over a list also by 19 or 13 */
 
 /* What jaxhophasi_judge answers: 1 yes, 0 no. */
 #define JAXHOPHASI_VERDICT_SIZE 2
@@ -97,8 +114,9 @@ static inline uint64_t jaxhophasi_number_at(const uint8_t *bytes)
 #define JAXHOPHASI_TABLE_MOST JAXHOPHASI_MAX_TABLE
 #define JAXHOPHASI_SHEET_MOST JAXHOPHASI_MAX_SHEET
 
-/* Numbers of refusal. A read goes left to right, every other call checks its own in this order;
- * the first that holds is given. */
+/* Numbers of refusal. A read goes left to right, every other call checks its own in this order,
+ * but that receive_for and run_for check 20 and 19 after 12; the first that holds is given. (18 is
+ * the programs' own.) */
 enum {
     JAXHOPHASI_FINE = 0,
     JAXHOPHASI_ENDS_EARLY = 1,         /* read: the bytes end before the sheet does */
@@ -112,17 +130,26 @@ enum {
     JAXHOPHASI_BAD_NEXT = 9,           /* read: next state not below n */
     JAXHOPHASI_BYTES_LEFT = 10,        /* read: bytes after the sheet */
     JAXHOPHASI_BAD_AUTOMATON = 11,     /* a record that breaks 3 to 9, or a nonzero unused place */
-    JAXHOPHASI_SHORT_TABLE = 12,       /* solve, winning, receive, run: table shorter than 2 T */
-    JAXHOPHASI_BAD_CONFIGURATION = 13, /* winning, receive, run, judge: state not below n, over B
-                                        * held, a held event that is no controllable kind, or a
-                                        * nonzero unused place */
-    JAXHOPHASI_BAD_EVENT = 14,         /* receive: event not below m (a day passes over it and
-                                        * counts it) */
-    JAXHOPHASI_BUFFER_FULL = 15,       /* receive: controllable event, hold full (a day passes over
-                                        * it and counts it) */
+    JAXHOPHASI_SHORT_TABLE = 12,       /* solve, winning, receive, run, receive_for, run_for: table
+                                        * shorter than 2 T */
+    JAXHOPHASI_BAD_CONFIGURATION = 13, /* winning, receive, run, judge, receive_for (that client's
+                                        * alone; run_for passes over the event and counts it):
+                                        * state not below n, over B held, a held event that is no
+                                        * controllable kind, or a nonzero unused place */
+    JAXHOPHASI_BAD_EVENT = 14,         /* receive, receive_for: event not below m (a day passes
+                                        * over it and counts it) */
+    JAXHOPHASI_BUFFER_FULL = 15,       /* receive, receive_for: controllable event, hold full (a
+                                        * day passes over it and counts it) */
     JAXHOPHASI_SHORT_OUTPUT = 16,      /* write: buffer too short; run: output shorter than events
-                                        * plus held */
-    JAXHOPHASI_TOO_LARGE = 17          /* judge: over 4 states, 2 uncontrollable kinds or 3 held */
+                                        * plus held; run_for: shorter than all the day's events
+                                        * plus what all clients hold, a carried state that 13
+                                        * refuses counting as holding nothing (events plus 6 for
+                                        * each client always suffice) */
+    JAXHOPHASI_TOO_LARGE = 17,         /* judge: over 4 states, 2 uncontrollable kinds or 3 held */
+    JAXHOPHASI_NO_CLIENT = 19,         /* receive_for: client not below the list's length (run_for
+                                        * passes over the event and counts it) */
+    JAXHOPHASI_BAD_COUNT = 20          /* receive_for, run_for: a list of no client or of over
+                                        * 500 */
 };
 
 /* Reads and checks a sheet. Rows 1 to 10, left to right; place is where the faulty number begins,
@@ -159,6 +186,21 @@ uint8_t jaxhophasi_receive(const uint8_t automaton[JAXHOPHASI_AUTOMATON_SIZE], c
 uint8_t jaxhophasi_run(const uint8_t automaton[JAXHOPHASI_AUTOMATON_SIZE], const uint32_t *table, size_t table_length,
     uint8_t configuration[JAXHOPHASI_CONFIGURATION_SIZE], const uint32_t *events, size_t events_length, uint8_t *out,
     size_t out_length, uint8_t answer[JAXHOPHASI_RAN_SIZE]);
+
+/* One event for a client: its carried state in the list becomes the next one, all others stay.
+ * Rows 11, 12, 20, 19, then 13 of that carried state alone, 14, 15. */
+uint8_t jaxhophasi_receive_for(const uint8_t automaton[JAXHOPHASI_AUTOMATON_SIZE], const uint32_t *table, size_t table_length,
+    uint8_t configurations[][JAXHOPHASI_CONFIGURATION_SIZE], size_t configurations_length, uint32_t client, uint32_t event,
+    uint8_t answer[JAXHOPHASI_RECEIVED_SIZE]);
+
+/* A whole day over the list, each event a JAXHOPHASI_CLIENT_EVENT: the carried states become the
+ * next ones, and out begins with the kinds put out, in the order of the day's events. Rows 11, 12,
+ * 20, 16; an event that 19, 13, 14 or 15 refuses is passed over and counted. (out does not say
+ * whose a kind is, nor the answer which events were refused; who must know that calls
+ * jaxhophasi_receive_for for each event.) */
+uint8_t jaxhophasi_run_for(const uint8_t automaton[JAXHOPHASI_AUTOMATON_SIZE], const uint32_t *table, size_t table_length,
+    uint8_t configurations[][JAXHOPHASI_CONFIGURATION_SIZE], size_t configurations_length, const uint32_t *events,
+    size_t events_length, uint8_t *out, size_t out_length, uint8_t answer[JAXHOPHASI_RAN_SIZE]);
 
 /* The second judge: may the gate rest where it is, can it come to rest? By the rules' words,
  * without a table; for small sheets. Rows 11, 13, 17. */

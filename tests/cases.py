@@ -3,8 +3,9 @@ what came out below it. Lines that begin with # are printed alone.
 
     python3 tests/cases.py LIBRARY FILE
 
-LIBRARY is the shared object made from the archive. One record, one table and one carried state are
-kept from line to line. A line is a word and numbers; spaces and commas part them.
+LIBRARY is the shared object made from the archive. One record, one table, one carried state and
+one list of clients' carried states are kept from line to line. A line is a word and numbers;
+spaces and commas part them.
 
     sheet BYTES             reads a sheet:
                             = refusal, place, n, m, B, start, the sum of all bytes of the record
@@ -22,6 +23,15 @@ kept from line to line. A line is a word and numbers; spaces and commas part the
                             the seven places of what is put out
     run PLACES ROOM KINDS   a day into ROOM bytes that were 9:
                             = refusal, length, refused, the carried state, those bytes
+    clients BYTES           sets the list of clients, eight bytes each
+    alike COUNT BYTES       sets a list of so many clients with the same eight bytes
+    event_for PLACES CLIENT KIND
+                            = refusal, count put out, guarded, the seven places of what is put out;
+                            then each client whose carried state changed, with its eight bytes
+    run_for PLACES ROOM NUMBERS
+                            a day over the list into ROOM bytes that were 9:
+                            = refusal, length, refused, those bytes up to the last that is not 9;
+                            then each client whose carried state changed, with its eight bytes
     judge                   = refusal, may rest here, can come to rest
     agree NUMBERS           every sheet that begins with these numbers, every carried state over
                             it: = sheets, carried states, in how many of them the judge says what
@@ -51,11 +61,24 @@ def answer(size):
     return filled([9] * size)
 
 
+def eights(values):
+    """The carried states of a list of clients, eight bytes each."""
+    return [values[i:i + CONFIGURATION_SIZE] for i in range(0, len(values), CONFIGURATION_SIZE)]
+
+
+def until_nines(values):
+    """Bytes up to the last that is not 9."""
+    while values and values[-1] == 9:
+        values = values[:-1]
+    return values
+
+
 class Cases:
     def __init__(self, library):
         self.library = library
         self.automaton, self.configuration = lent(AUTOMATON_SIZE), lent(CONFIGURATION_SIZE)
         self.table_words = numbers([0] * TABLE_PLACES)
+        self.list = []  # the clients' bytes
 
     def sheet(self, *data):
         place = answer(NUMBER_SIZE)
@@ -102,6 +125,36 @@ class Cases:
         row = self.library.jaxhophasi_run(
             self.automaton, self.table_words, places, self.configuration, numbers(kinds), len(kinds), out, room, ran)
         return [row, number_at(ran), number_at(ran, 8)] + self.configuration[:] + out[:room]
+
+    def clients(self, *data):
+        self.list = list(data)
+
+    def alike(self, count, *data):
+        self.list = list(data) * count
+
+    def over_list(self, call):
+        """Lends the list, behind which stand the bytes of one client more: the refusal, and each
+        client whose bytes changed (one that is not there too)."""
+        before = self.list + [9] * CONFIGURATION_SIZE
+        lent_list = filled(before)
+        row = call(lent_list, len(self.list) // CONFIGURATION_SIZE)
+        changed = []
+        for client, (old, new) in enumerate(zip(eights(before), eights(lent_list))):
+            changed += [] if old == new else [str(client) + ":", *new]
+        self.list = lent_list[:len(self.list)]
+        return row, changed
+
+    def event_for(self, places, client, kind):
+        received = answer(RECEIVED_SIZE)
+        row, changed = self.over_list(lambda clients, count: self.library.jaxhophasi_receive_for(
+            self.automaton, self.table_words, places, clients, count, client, kind, received))
+        return [row, received[7], received[8]] + received[:7] + changed
+
+    def run_for(self, places, room, *events):
+        ran, out = answer(RAN_SIZE), filled([9] * room)
+        row, changed = self.over_list(lambda clients, count: self.library.jaxhophasi_run_for(
+            self.automaton, self.table_words, places, clients, count, numbers(events), len(events), out, room, ran))
+        return [row, number_at(ran), number_at(ran, 8)] + until_nines(out[:room]) + changed
 
     def judge(self):
         verdict = answer(VERDICT_SIZE)

@@ -1,7 +1,7 @@
 /*
  * Every name that include/jaxhophasi.h defines, against what the calls answer. The sheets, the
- * numbers and the bytes that are expected stand here as document 01 has them; the answers are
- * indexed by the header's names.
+ * numbers and the bytes that are expected stand here as documents 01 and 02 have them; the answers
+ * are indexed by the header's names.
  */
 #include <stdio.h>
 #include <stdlib.h>
@@ -241,9 +241,84 @@ static void check_status_and_verdict(void)
     }
 }
 
+/* ---- lists of clients, on W ---- */
+
+static uint8_t clients[JAXHOPHASI_MAX_CLIENTS + 1][JAXHOPHASI_CONFIGURATION_SIZE];
+
+static void fresh_clients(void)
+{
+    solve_w();
+    for (size_t i = 0; i < sizeof clients / sizeof *clients; i++)
+        jaxhophasi_initial(automaton, clients[i]);
+}
+
+static uint8_t event_for(size_t count, uint32_t client, uint32_t kind)
+{
+    return jaxhophasi_receive_for(automaton, table, 14, clients, count, client, kind, answer);
+}
+
+static uint8_t day_for(size_t count, const uint32_t *events, size_t length, size_t size)
+{
+    return jaxhophasi_run_for(automaton, table, 14, clients, count, events, length, out, size, answer);
+}
+
+static void check_client_events(void)
+{
+    same("CLIENT_EVENT", JAXHOPHASI_CLIENT_EVENT(3, 2), 196610);
+    same("CLIENT_EVENT of a sum", JAXHOPHASI_CLIENT_EVENT(1 + 1, 1 + 2), 131075);
+    same("the last CLIENT_EVENT", JAXHOPHASI_CLIENT_EVENT(65535, 65535), 4294967295);
+    fresh_clients();
+    same("MAX_CLIENTS", event_for(JAXHOPHASI_MAX_CLIENTS, JAXHOPHASI_MAX_CLIENTS - 1, 0), 0);
+    same("a client over MAX_CLIENTS", event_for(JAXHOPHASI_MAX_CLIENTS + 1, 0, 0), 20);
+}
+
+/* Client 1 of three: Page, Receipt, Sign. The eight bytes before and after its own stay. */
+static void check_received_for(void)
+{
+    static const uint8_t before[] = { 0, 0, 0, 0, 0, 0, 0, 0, 0, 2, 2, 3, 0, 0, 0, 0, 0, 0, 0, 0, 0, 0, 0, 0 };
+    static const uint8_t emitted[] = { 0, 2, 3, 0, 0, 0, 0 };
+    fresh_clients();
+    same("RECEIVED_SIZE", JAXHOPHASI_RECEIVED_SIZE,
+        WRITTEN(jaxhophasi_receive_for(automaton, table, 14, clients, 3, 1, 4, lent)));
+    same("Page of client 1", event_for(3, 1, 2), 0);
+    same("how many Page puts out", answer[JAXHOPHASI_RECEIVED_COUNT], 0);
+    same("Receipt of client 1", event_for(3, 1, 3), 0);
+    same_bytes("the list after Page, Receipt", clients[0], before, 24);
+    same("state of client 1", clients[1][JAXHOPHASI_CONFIGURATION_STATE], 0);
+    same("held by client 1", clients[1][JAXHOPHASI_CONFIGURATION_HELD], 2);
+    same_bytes("buffer of client 1", clients[1] + JAXHOPHASI_CONFIGURATION_BUFFER, before + 10, 6);
+    same("Sign of client 1", event_for(3, 1, 0), 0);
+    same_bytes("what client 1 puts out", answer + JAXHOPHASI_RECEIVED_EMITTED, emitted, 7);
+    same("how many client 1 puts out", answer[JAXHOPHASI_RECEIVED_COUNT], 3);
+    same("client 1 guarded", answer[JAXHOPHASI_RECEIVED_WINNING], 1);
+    same("state of client 1 after Sign", clients[1][JAXHOPHASI_CONFIGURATION_STATE], 1);
+    same("held by client 1 after Sign", clients[1][JAXHOPHASI_CONFIGURATION_HELD], 0);
+}
+
+/* Client 0 signs while client 1 asks for a Page; client 0's Page and Receipt go; 19 for client 2,
+ * 14 for client 1; then client 1 signs, and its Page waits for its Receipt. */
+static void check_ran_for(void)
+{
+    static const uint32_t day[] = {
+        JAXHOPHASI_CLIENT_EVENT(0, 0), JAXHOPHASI_CLIENT_EVENT(1, 2), JAXHOPHASI_CLIENT_EVENT(0, 2),
+        JAXHOPHASI_CLIENT_EVENT(0, 3), JAXHOPHASI_CLIENT_EVENT(2, 0), JAXHOPHASI_CLIENT_EVENT(1, 4),
+        JAXHOPHASI_CLIENT_EVENT(1, 0),
+    };
+    static const uint8_t put_out[] = { 0, 2, 3, 0 }, after[] = { 1, 0, 0, 0, 0, 0, 0, 0, 1, 1, 2, 0, 0, 0, 0, 0 };
+    fresh_clients();
+    same("RAN_SIZE", JAXHOPHASI_RAN_SIZE, WRITTEN(jaxhophasi_run_for(automaton, table, 14, clients, 2, day, 7, out, 6, lent)));
+    same("a day of two clients", day_for(2, day, 7, 7), 0);
+    same("bytes written for two clients", jaxhophasi_number_at(answer + JAXHOPHASI_RAN_LENGTH), 4);
+    same("two clients' events refused", jaxhophasi_number_at(answer + JAXHOPHASI_RAN_REFUSED), 2);
+    same_bytes("the output of two clients' day", out, put_out, 4);
+    same_bytes("the list after the day", clients[0], after, 16);
+    same("the next day, one held, no room", day_for(2, day, 0, 0), 16);
+    same("the next day, one held", day_for(2, day, 0, 1), 0);
+}
+
 /* ---- numbers of refusal ---- */
 
-/* Document 01's number, the header's name for it, and a call that gives it. */
+/* The documents' number, the header's name for it, and a call that gives it. */
 static void row(unsigned document, unsigned header, uint8_t call)
 {
     char what[32];
@@ -290,6 +365,10 @@ static void check_rows_of_calls(void)
     READ(5, 1, 1, 0, 0, 1, 1, 1, 1, 1, 0, 0, 0, 0, 0);
     jaxhophasi_initial(automaton, configuration);
     row(17, JAXHOPHASI_TOO_LARGE, jaxhophasi_judge(automaton, configuration, answer));
+    fresh_clients();
+    row(19, JAXHOPHASI_NO_CLIENT, event_for(3, 3, 0));
+    row(20, JAXHOPHASI_BAD_COUNT, event_for(0, 0, 0));
+    row(20, JAXHOPHASI_BAD_COUNT, day_for(0, queries, 2, 2));
 }
 
 int main(void)
@@ -307,6 +386,9 @@ int main(void)
     check_received();
     check_ran();
     check_status_and_verdict();
+    check_client_events();
+    check_received_for();
+    check_ran_for();
     check_rows_of_reading();
     check_rows_of_calls();
     free(table);

@@ -7,3 +7,6 @@ pub mod Every
 pub mod Picking
 pub mod Stores
 pub mod Fronts
+pub mod Guards
+pub mod LentLocals
+pub mod LentSlices

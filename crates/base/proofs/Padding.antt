@@ -8,7 +8,7 @@ use lib.ListN.{length, getD, set, take, drop, replicate, length-append, length-r
 use lib.Seq.{sets, sets-eq, ext-getD, getD-take, getD-append-add, length-take-le, take-append-seam, set-append-seam, append-snoc, set-getD}
 use lib.Dec.{ltb}
 use borrow.Author.Tests.{ltb-true, ltb-false}
-use Rattle.base.specs.Pad.{pad}
+use Rattle.base.specs.Pad.{pad, UsedTo}
 use Rattle.base.proofs.Bools.{by}
 use Rattle.base.proofs.Every.{Every}
 
@@ -32,6 +32,12 @@ pad-outside n l i h =
     ap (λ j. getD (l ++ replicate (n - length l) 0) j 0) e ∙
     getD-append-add l (replicate (n - length l) 0) (i - length l) 0 ∙
     zeros-at (n - length l) (i - length l)
+
+pub pad-used : (n : ℕ) (l : List ℕ) → length l ≤ n → UsedTo n (length l) (pad n l)
+pad-used n l h = (pad-length n l h, pad-outside n l)
+
+pub zeros-used : (n : ℕ) → UsedTo n 0 (replicate n 0)
+zeros-used n = (length-replicate n 0, λ j _. zeros-at n j)
 
 pub drop-zeros : (n k : ℕ) → _≡_ {A = List ℕ} (drop k (replicate n 0)) (replicate (n - k) 0)
 drop-zeros n zero = let e : n ≡ n - 0 = omega arith in ap (λ m. replicate {A = ℕ} m 0) e

@@ -12,6 +12,8 @@ use c_layout::RECEIVED_SIZE;
 use c_layout::RECEIVED_WINNING;
 use c_layout::STATUS_SIZE;
 use c_layout::VERDICT_SIZE;
+use clients_answers::RanFor;
+use clients_answers::ReceivedFor;
 use game::Verdict;
 use monitor_answers::Ran;
 use monitor_answers::Received;
@@ -19,7 +21,8 @@ use monitor_answers::Status;
 ghost use mathlib.Core.Path.{_≡_};
 ghost use Rattle.c_layout.specs.Offsets.{numberSize};
 ghost use Rattle.c_layout.specs.Layout.{numberBytes};
-ghost use Rattle.c_layout.specs.Answers.{statusBytes, receivedBytes, ranBytes, verdictBytes};
+ghost use Rattle.c_layout.specs.Answers.{statusBytes, eventBytes, dayBytes, receivedBytes, receivedForBytes};
+ghost use Rattle.c_layout.specs.Answers.{ranBytes, ranForBytes, verdictBytes};
 
 // A number in eight bytes, low byte first.
 pub fn number_bytes(value: usize) -> [u8; NUMBER_SIZE]
@@ -42,25 +45,59 @@ pub fn status_bytes(s: Status) -> [u8; STATUS_SIZE]
     [s.winning as u8]
 }
 
+// One event: the places of what is emitted, how many of them are used, and whether the
+// configuration is winning.
+fn event_bytes(emitted: [u8; MAX_EMITTED], count: u8, winning: bool) -> [u8; RECEIVED_SIZE]
+    ensures { λ b. ⌜ b ≡ eventBytes emitted count winning ⌝ }
+{
+    let mut bytes = [0u8; RECEIVED_SIZE];
+    copy(&emitted, 0, MAX_EMITTED, &mut bytes, RECEIVED_EMITTED);
+    bytes[RECEIVED_COUNT] = count;
+    bytes[RECEIVED_WINNING] = winning as u8;
+    bytes
+}
+
 pub fn received_bytes(r: Received) -> [u8; RECEIVED_SIZE]
     ensures { λ b. ⌜ b ≡ receivedBytes r ⌝ }
 {
-    let mut bytes = [0u8; RECEIVED_SIZE];
-    copy(&r.emitted, 0, MAX_EMITTED, &mut bytes, RECEIVED_EMITTED);
-    bytes[RECEIVED_COUNT] = r.count;
-    bytes[RECEIVED_WINNING] = r.winning as u8;
+    let emitted = r.emitted;
+    event_bytes(emitted, r.count, r.winning)
+}
+
+// Lays the answer to an event for a client, and gives its refusal: both in one call, since the
+// export above it is proved by hand.
+pub fn lay_received_for(r: ReceivedFor, answer: &mut [u8; RECEIVED_SIZE]) -> u8
+    ensures { λ n. ⌜ (n ≡ r .refusal) × (now (answer .exit) ≡ receivedForBytes r) ⌝ }
+{
+    let emitted = r.emitted;
+    *answer = event_bytes(emitted, r.count, r.winning);
+    r.refusal
+}
+
+// A whole day: how many bytes were written, and how many events were refused.
+fn day_bytes(written: usize, refused: usize) -> [u8; RAN_SIZE]
+    ensures { λ b. ⌜ b ≡ dayBytes written refused ⌝ }
+{
+    let first = number_bytes(written);
+    let second = number_bytes(refused);
+    let mut bytes = [0u8; RAN_SIZE];
+    copy(&first, 0, NUMBER_SIZE, &mut bytes, RAN_LENGTH);
+    copy(&second, 0, NUMBER_SIZE, &mut bytes, RAN_REFUSED);
     bytes
 }
 
 pub fn ran_bytes(r: Ran) -> [u8; RAN_SIZE]
     ensures { λ b. ⌜ b ≡ ranBytes r ⌝ }
 {
-    let length = number_bytes(r.length);
-    let refused = number_bytes(r.refused);
-    let mut bytes = [0u8; RAN_SIZE];
-    copy(&length, 0, NUMBER_SIZE, &mut bytes, RAN_LENGTH);
-    copy(&refused, 0, NUMBER_SIZE, &mut bytes, RAN_REFUSED);
-    bytes
+    day_bytes(r.length, r.refused)
+}
+
+// Lays the answer to a day over a list of clients, and gives its refusal, likewise.
+pub fn lay_ran_for(r: RanFor, answer: &mut [u8; RAN_SIZE]) -> u8
+    ensures { λ n. ⌜ (n ≡ r .refusal) × (now (answer .exit) ≡ ranForBytes r) ⌝ }
+{
+    *answer = day_bytes(r.length, r.refused);
+    r.refusal
 }
 
 pub fn verdict_bytes(v: Verdict) -> [u8; VERDICT_SIZE]

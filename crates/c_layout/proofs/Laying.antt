@@ -19,7 +19,7 @@ use Rattle.c_layout.specs.Offsets.{automatonClasses, automatonAccepting,
 use Rattle.c_layout.specs.Offsets.{configurationSize, configurationState, configurationHeld, configurationBuffer, numberSize}
 use Rattle.c_layout.specs.Offsets.{receivedSize, receivedEmitted, receivedCount, receivedWinning}
 use Rattle.c_layout.specs.Offsets.{ranSize, ranLength, ranRefused}
-use Rattle.c_layout.specs.Answers.{receivedBytes, ranBytes}
+use Rattle.c_layout.specs.Answers.{eventBytes, dayBytes}
 use Rattle.c_layout.specs.Layout.{byteAt, part, numberBytes, automatonOf, automatonBytes, configurationOf, configurationBytes}
 
 -- as many stores as there are places
@@ -169,31 +169,29 @@ pub flag-byte : (b : Bool) → boolByte b ≡ cond b 1 0
 flag-byte true = refl
 flag-byte false = refl
 
-pub received-laid : (r : Received) (x : List ℕ) → length (r .emitted) ≡ maxEmitted
-    → x ≡ sets (replicate receivedSize 0) receivedEmitted (take maxEmitted (drop 0 (r .emitted)))
-    → set (set x receivedCount (r .count)) receivedWinning (boolByte (r .winning)) ≡ receivedBytes r
-unfolding receivedBytes
-received-laid r x e xs =
+pub event-laid : (emitted : List ℕ) (count : ℕ) (winning : Bool) (x : List ℕ) → length emitted ≡ maxEmitted
+    → x ≡ sets (replicate receivedSize 0) receivedEmitted (take maxEmitted (drop 0 emitted))
+    → set (set x receivedCount count) receivedWinning (boolByte winning) ≡ eventBytes emitted count winning
+event-laid emitted count winning x e xs =
     let size = receivedSize in
-    let tail : List ℕ = r .count ∷ cond (r .winning) 1 0 ∷ [] in
-    let one : x ≡ pad size (r .emitted) =
+    let tail : List ℕ = count ∷ cond winning 1 0 ∷ [] in
+    let one : x ≡ pad size emitted =
     xs ∙
-    ap (λ l. sets (replicate size 0) 0 l) (take-all maxEmitted (r .emitted) (omega arith)) ∙
-    pad-stored size (r .emitted) (omega arith) in
-    ap (λ b. set (set x receivedCount (r .count)) receivedWinning b) (flag-byte (r .winning)) ∙
+    ap (λ l. sets (replicate size 0) 0 l) (take-all maxEmitted emitted (omega arith)) ∙
+    pad-stored size emitted (omega arith) in
+    ap (λ b. set (set x receivedCount count) receivedWinning b) (flag-byte winning) ∙
     ap (λ l. sets l receivedCount tail) one ∙
-    ap (λ i. sets (pad size (r .emitted)) i tail) (sym e) ∙
-    pad-sets size (r .emitted) tail (omega arith) ∙
-    pad-full size (r .emitted ++ tail) (simp length-append (omega arith))
+    ap (λ i. sets (pad size emitted) i tail) (sym e) ∙
+    pad-sets size emitted tail (omega arith) ∙
+    pad-full size (emitted ++ tail) (simp length-append (omega arith))
 
-pub ran-laid : (r : Ran) (n m x y : List ℕ) → n ≡ numberBytes numberSize (r .length) → m ≡ numberBytes numberSize (r .refused)
+pub day-laid : (written refused : ℕ) (n m x y : List ℕ) → n ≡ numberBytes numberSize written → m ≡ numberBytes numberSize refused
     → x ≡ sets (replicate ranSize 0) ranLength (take numberSize (drop 0 n))
     → y ≡ sets x ranRefused (take numberSize (drop 0 m))
-    → y ≡ ranBytes r
-unfolding ranBytes
-ran-laid r n m x y e f xs ys =
-    let a : length n ≡ numberSize = ap length e ∙ number-length numberSize (r .length) in
-    let b : length m ≡ numberSize = ap length f ∙ number-length numberSize (r .refused) in
+    → y ≡ dayBytes written refused
+day-laid written refused n m x y e f xs ys =
+    let a : length n ≡ numberSize = ap length e ∙ number-length numberSize written in
+    let b : length m ≡ numberSize = ap length f ∙ number-length numberSize refused in
     let one : x ≡ pad ranSize n =
     xs ∙ ap (λ l. sets (replicate ranSize 0) 0 l) (take-all numberSize n (omega arith)) ∙ pad-stored ranSize n (omega arith) in
     ys ∙

@@ -1,4 +1,5 @@
 pub mod Laying
 pub mod Trips
 pub mod Offsets
+pub mod ClientCalls
 pub mod Handing

@@ -12,13 +12,15 @@ use Rattle.automaton.specs.Automaton.{step, shaped}
 use Rattle.configuration.specs.declared.Configuration.{Configuration}
 use Rattle.monitor_answers.specs.declared.Received.{Received}
 use Rattle.monitor_answers.specs.declared.Ran.{Ran}
+use Rattle.clients_answers.specs.declared.ReceivedFor.{ReceivedFor}
+use Rattle.clients_answers.specs.declared.RanFor.{RanFor}
 use Rattle.c_layout.specs.Offsets.{maxSymbols, maxStates, maxNext, maxCapacity, maxEmitted}
 use Rattle.c_layout.specs.Offsets.{automatonSize, automatonClasses, automatonAccepting, automatonNext}
 use Rattle.c_layout.specs.Offsets.{configurationSize, configurationBuffer, numberSize, receivedCount, receivedWinning}
 use Rattle.c_layout.specs.Layout.{byteAt, part, automatonOf, automatonBytes, configurationOf, configurationBytes}
 use Rattle.c_layout.specs.Layout.{numberOf, numberBytes}
-use Rattle.c_layout.specs.Answers.{statusBytes, receivedBytes, ranBytes, verdictBytes}
-use Rattle.c_layout.specs.Calls.{receivedLeft, ranLeft}
+use Rattle.c_layout.specs.Answers.{statusBytes, eventBytes, dayBytes, receivedBytes, receivedForBytes, ranBytes, ranForBytes, verdictBytes}
+use Rattle.c_layout.specs.Calls.{receivedLeft, ranLeft, receivedForLeft, ranForLeft}
 use Rattle.c_layout.specs.Claims.{YesOrNo, NumberAt, AutomatonIn, ConfigurationIn, ReceivedIn, RanIn, OffsetsHold}
 use Rattle.c_layout.proofs.Laying.{number-length}
 use Rattle.c_layout.proofs.Trips.{shaped-lengths, automaton-kept, configuration-kept, number-kept}
@@ -95,32 +97,49 @@ number-in : (v : ℕ) → (length (numberBytes numberSize v) ≡ numberSize) × 
 number-in v =
     (number-length numberSize v, rw (append-nil (numberBytes numberSize v)) at (number-at v [] []))
 
-received-in : (r : Received) → length (r .emitted) ≡ maxEmitted → ReceivedIn r (receivedLeft r .answer)
-unfolding receivedLeft receivedBytes
-received-in r long =
-    let flag : ℕ = cond (r .winning) 1 0 in
-    let tail : List ℕ = r .count ∷ flag ∷ [] in
-    let bytes = r .emitted ++ tail in
-    let last : byteAt bytes receivedWinning ≡ flag = ap (byteAt bytes) (omega arith) ∙ getD-append-add (r .emitted) tail 1 0 in
+event-in : (symbols : List ℕ) (many : ℕ) (wins : Bool) → length symbols ≡ maxEmitted
+    → ReceivedIn symbols many wins (eventBytes symbols many wins)
+event-in symbols many wins long =
+    let flag : ℕ = cond wins 1 0 in
+    let tail : List ℕ = many ∷ flag ∷ [] in
+    let bytes = symbols ++ tail in
+    let last : byteAt bytes receivedWinning ≡ flag = ap (byteAt bytes) (omega arith) ∙ getD-append-add symbols tail 1 0 in
     record {
       size = simp length-append (omega arith);
-      emitted = λ i h. ap (byteAt bytes) (zero-add i) ∙ List·getD-append (r .emitted) tail 0 i (omega arith);
-      count = getD-at (r .emitted) (r .count) (flag ∷ []) 0 receivedCount long;
-      winning = rw last (yes-or-no (r .winning));
+      emitted = λ i h. ap (byteAt bytes) (zero-add i) ∙ List·getD-append symbols tail 0 i (omega arith);
+      count = getD-at symbols many (flag ∷ []) 0 receivedCount long;
+      winning = rw last (yes-or-no wins);
     }
 
-ran-in : (r : Ran) (out : List ℕ) → RanIn r (ranLeft r out .answer)
-unfolding ranLeft ranBytes
-ran-in r out =
-    let n = numberBytes numberSize (r .length) in
-    let m = numberBytes numberSize (r .refused) in
-    let long : length n ≡ numberSize = number-length numberSize (r .length) in
-    let last : NumberAt (r .refused) (length n) (n ++ (m ++ [])) = number-at (r .refused) n [] in
+received-in : (r : Received) → length (r .emitted) ≡ maxEmitted
+    → ReceivedIn (r .emitted) (r .count) (r .winning) (receivedLeft r .answer)
+unfolding receivedLeft receivedBytes
+received-in r long = event-in (r .emitted) (r .count) (r .winning) long
+
+received-for-in : (r : ReceivedFor) (cs : List Configuration) → length (r .emitted) ≡ maxEmitted
+    → ReceivedIn (r .emitted) (r .count) (r .winning) (receivedForLeft r cs .answer)
+unfolding receivedForLeft receivedForBytes
+received-for-in r cs long = event-in (r .emitted) (r .count) (r .winning) long
+
+day-in : (length-written events-refused : ℕ) → RanIn length-written events-refused (dayBytes length-written events-refused)
+day-in k j =
+    let n = numberBytes numberSize k in
+    let m = numberBytes numberSize j in
+    let long : length n ≡ numberSize = number-length numberSize k in
+    let last : NumberAt j (length n) (n ++ (m ++ [])) = number-at j n [] in
     record {
-      size = length-append n m ∙ omega (arith, number-length numberSize (r .refused));
-      written = number-at (r .length) [] m;
+      size = length-append n m ∙ omega (arith, number-length numberSize j);
+      written = number-at k [] m;
       refused = rw (long, append-nil m) at last;
     }
+
+ran-in : (r : Ran) (out : List ℕ) → RanIn (r .length) (r .refused) (ranLeft r out .answer)
+unfolding ranLeft ranBytes
+ran-in r out = day-in (r .length) (r .refused)
+
+ran-for-in : (r : RanFor) (cs : List Configuration) (out : List ℕ) → RanIn (r .length) (r .refused) (ranForLeft r cs out .answer)
+unfolding ranForLeft ranForBytes
+ran-for-in r cs out = day-in (r .length) (r .refused)
 
 pub offsets-hold : OffsetsHold
 unfolding statusBytes verdictBytes
@@ -133,6 +152,8 @@ offsets-hold =
       number = number-in;
       status = λ s. record { size = refl; winning = yes-or-no (s .winning) };
       received = received-in;
+      received-for = received-for-in;
       ran = ran-in;
+      ran-for = ran-for-in;
       verdict = λ v. record { size = refl; may-rest = yes-or-no (v .«may_rest»); can-rest = yes-or-no (v .«can_rest») };
     }

@@ -1,11 +1,13 @@
 -- How answers lie in the bytes that a caller lends: what a call hands back beside its refusal and
 -- the configuration.
 use Prim.Native.Nat.{ℕ}
-use mathlib.Core.Bool.{cond}
+use mathlib.Core.Bool.{Bool, cond}
 use mathlib.Core.List.{List, [], _∷_, _++_}
 use Rattle.monitor_answers.specs.declared.Status.{Status}
 use Rattle.monitor_answers.specs.declared.Received.{Received}
 use Rattle.monitor_answers.specs.declared.Ran.{Ran}
+use Rattle.clients_answers.specs.declared.ReceivedFor.{ReceivedFor}
+use Rattle.clients_answers.specs.declared.RanFor.{RanFor}
 use Rattle.game.specs.declared.Verdict.{Verdict}
 use Rattle.c_layout.specs.Offsets.{numberSize}
 use Rattle.c_layout.specs.Layout.{numberBytes}
@@ -16,12 +18,25 @@ statusBytes s = cond (s .winning) 1 0 ∷ []
 
 -- one event: the places of what is emitted, how many of them are used, and whether the
 -- configuration is winning
-unfoldable pub receivedBytes : Received → List ℕ
-receivedBytes r = r .emitted ++ (r .count ∷ cond (r .winning) 1 0 ∷ [])
+abbrev pub eventBytes : List ℕ → ℕ → Bool → List ℕ
+eventBytes emitted count winning = emitted ++ (count ∷ cond winning 1 0 ∷ [])
 
 -- a whole day: how many bytes were written, and how many events were refused
+abbrev pub dayBytes : ℕ → ℕ → List ℕ
+dayBytes written refused = numberBytes numberSize written ++ numberBytes numberSize refused
+
+-- of one configuration, and over a list of clients
+unfoldable pub receivedBytes : Received → List ℕ
+receivedBytes r = eventBytes (r .emitted) (r .count) (r .winning)
+
+unfoldable pub receivedForBytes : ReceivedFor → List ℕ
+receivedForBytes r = eventBytes (r .emitted) (r .count) (r .winning)
+
 unfoldable pub ranBytes : Ran → List ℕ
-ranBytes r = numberBytes numberSize (r .length) ++ numberBytes numberSize (r .refused)
+ranBytes r = dayBytes (r .length) (r .refused)
+
+unfoldable pub ranForBytes : RanFor → List ℕ
+ranForBytes r = dayBytes (r .length) (r .refused)
 
 -- both answers of the game (document 01's second judge): whether it may rest here, and whether it
 -- can come to rest

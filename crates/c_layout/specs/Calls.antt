@@ -1,16 +1,20 @@
 -- What the calls of the interface for C leave in the bytes that are lent to them. The contracts of
--- `jaxhophasi_initial`, `jaxhophasi_receive` and `jaxhophasi_run` cite these definitions, and so
--- do the claims on lists of calls.
+-- `jaxhophasi_initial`, `jaxhophasi_receive`, `jaxhophasi_run`, `jaxhophasi_receive_for` and
+-- `jaxhophasi_run_for` cite these definitions, and so do the claims on lists of calls.
 use Prim.Native.Nat.{ℕ}
 use mathlib.Core.Bool.{cond}
 use mathlib.Core.List.{List, []}
 use lib.Dec.{eqb}
+use Rattle.configuration.specs.declared.Configuration.{Configuration}
 use Rattle.configuration.specs.Configuration.{initialAnswer}
 use Rattle.monitor_answers.specs.declared.Received.{Received}
 use Rattle.monitor_answers.specs.declared.Ran.{Ran}
 use Rattle.monitor_answers.specs.Answers.{received, ran, ranBuffer}
+use Rattle.clients_answers.specs.declared.ReceivedFor.{ReceivedFor}
+use Rattle.clients_answers.specs.declared.RanFor.{RanFor}
+use Rattle.clients_answers.specs.Clients.{receivedFor, receivedClients, ranFor, ranClients, ranForBuffer}
 use Rattle.c_layout.specs.Layout.{automatonOf, configurationOf, configurationBytes}
-use Rattle.c_layout.specs.Answers.{receivedBytes, ranBytes}
+use Rattle.c_layout.specs.Answers.{receivedBytes, receivedForBytes, ranBytes, ranForBytes}
 
 -- the lent configuration after `jaxhophasi_initial`: the initial one where the record is not
 -- refused, and what stood there where it is
@@ -45,3 +49,29 @@ unfoldable pub runLeaves : List ℕ → List ℕ → List ℕ → List ℕ → L
 runLeaves record-bytes t c events out =
     let a = automatonOf record-bytes in
     ranLeft (ran a t (configurationOf c) events out) (ranBuffer a t (configurationOf c) events out)
+
+-- what a call over a list of clients leaves: its refusal, the lent list, whose configurations lie
+-- one after the other, and the bytes lent for the answer and, by a day, for the output
+pub record LeftFor : Type 0 where
+  pub refusal : ℕ
+  pub configurations : List Configuration
+  pub answer : List ℕ
+  pub output : List ℕ
+
+unfoldable pub receivedForLeft : ReceivedFor → List Configuration → LeftFor
+receivedForLeft x cs = record { refusal = x .refusal; configurations = cs; answer = receivedForBytes x; output = [] }
+
+unfoldable pub ranForLeft : RanFor → List Configuration → List ℕ → LeftFor
+ranForLeft x cs out = record { refusal = x .refusal; configurations = cs; answer = ranForBytes x; output = out }
+
+-- `jaxhophasi_receive_for` over a lent record, table and list
+unfoldable pub receiveForLeaves : List ℕ → List ℕ → List Configuration → ℕ → ℕ → LeftFor
+receiveForLeaves record-bytes t cs i e =
+    let a = automatonOf record-bytes in
+    receivedForLeft (receivedFor a t cs i e) (receivedClients a t cs i e)
+
+-- `jaxhophasi_run_for` over the same, events' numbers and an output
+unfoldable pub runForLeaves : List ℕ → List ℕ → List Configuration → List ℕ → List ℕ → LeftFor
+runForLeaves record-bytes t cs vs out =
+    let a = automatonOf record-bytes in
+    ranForLeft (ranFor a t cs vs out) (ranClients a t cs vs out) (ranForBuffer a t cs vs out)

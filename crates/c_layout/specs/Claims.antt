@@ -14,6 +14,9 @@ use Rattle.monitor_answers.specs.declared.Status.{Status}
 use Rattle.monitor_answers.specs.declared.Received.{Received}
 use Rattle.monitor_answers.specs.declared.Ran.{Ran}
 use Rattle.monitor_answers.specs.Answers.{received, ran}
+use Rattle.clients_answers.specs.declared.ReceivedFor.{ReceivedFor}
+use Rattle.clients_answers.specs.declared.RanFor.{RanFor}
+use Rattle.clients_answers.specs.Clients.{receiveForRefusal, receivedClients, runForRefusal, ranClients, ranForBuffer}
 use Rattle.c_layout.specs.Offsets.{maxStates, maxSymbols, maxCapacity, maxEmitted}
 use Rattle.c_layout.specs.Offsets.{automatonSize, automatonStates, automatonSymbols, automatonCapacity, automatonInitial}
 use Rattle.c_layout.specs.Offsets.{automatonClasses, automatonAccepting, automatonNext}
@@ -24,6 +27,7 @@ use Rattle.c_layout.specs.Layout.{byteAt, part, automatonOf, automatonBy
 use Rattle.c_layout.specs.Layout.{numberOf, numberBytes}
 use Rattle.c_layout.specs.Answers.{statusBytes, verdictBytes}
 use Rattle.c_layout.specs.Calls.{initialBytes, receivedLeft, ranLeft, receiveLeaves, runLeaves}
+use Rattle.c_layout.specs.Calls.{receivedForLeft, ranForLeft, receiveForLeaves, runForLeaves}
 
 -- What stands at each offset, in the header's words.
 
@@ -56,16 +60,16 @@ pub record StatusIn (s : Status) (bytes : List ℕ) : Type 0 where
   pub size : length bytes ≡ statusSize
   pub winning : YesOrNo (s .winning) (byteAt bytes 0)
 
-pub record ReceivedIn (r : Received) (bytes : List ℕ) : Type 0 where
+pub record ReceivedIn (symbols : List ℕ) (many : ℕ) (wins : Bool) (bytes : List ℕ) : Type 0 where
   pub size : length bytes ≡ receivedSize
-  pub emitted : (i : ℕ) → i < maxEmitted → byteAt bytes (receivedEmitted + i) ≡ getD (r .emitted) i 0
-  pub count : byteAt bytes receivedCount ≡ r .count
-  pub winning : YesOrNo (r .winning) (byteAt bytes receivedWinning)
+  pub emitted : (i : ℕ) → i < maxEmitted → byteAt bytes (receivedEmitted + i) ≡ getD symbols i 0
+  pub count : byteAt bytes receivedCount ≡ many
+  pub winning : YesOrNo wins (byteAt bytes receivedWinning)
 
-pub record RanIn (r : Ran) (bytes : List ℕ) : Type 0 where
+pub record RanIn (bytes-written events-refused : ℕ) (bytes : List ℕ) : Type 0 where
   pub size : length bytes ≡ ranSize
-  pub written : NumberAt (r .length) ranLength bytes
-  pub refused : NumberAt (r .refused) ranRefused bytes
+  pub written : NumberAt bytes-written ranLength bytes
+  pub refused : NumberAt events-refused ranRefused bytes
 
 pub record VerdictIn (v : Verdict) (bytes : List ℕ) : Type 0 where
   pub size : length bytes ≡ verdictSize
@@ -80,8 +84,13 @@ pub record OffsetsHold : Type 0 where
   pub configuration-out : (bytes : List ℕ) → length bytes ≡ configurationSize → ConfigurationIn (configurationOf bytes) bytes
   pub number : (v : ℕ) → (length (numberBytes numberSize v) ≡ numberSize) × NumberAt v 0 (numberBytes numberSize v)
   pub status : (s : Status) → StatusIn s (statusBytes s)
-  pub received : (r : Received) → length (r .emitted) ≡ maxEmitted → ReceivedIn r (receivedLeft r .answer)
-  pub ran : (r : Ran) (out : List ℕ) → RanIn r (ranLeft r out .answer)
+  pub received : (r : Received) → length (r .emitted) ≡ maxEmitted
+      → ReceivedIn (r .emitted) (r .count) (r .winning) (receivedLeft r .answer)
+  pub received-for : (r : ReceivedFor) (cs : List Configuration) → length (r .emitted) ≡ maxEmitted
+      → ReceivedIn (r .emitted) (r .count) (r .winning) (receivedForLeft r cs .answer)
+  pub ran : (r : Ran) (out : List ℕ) → RanIn (r .length) (r .refused) (ranLeft r out .answer)
+  pub ran-for : (r : RanFor) (cs : List Configuration) (out : List ℕ)
+      → RanIn (r .length) (r .refused) (ranForLeft r cs out .answer)
   pub verdict : (v : Verdict) → VerdictIn v (verdictBytes v)
 
 -- a record comes back from its bytes, and its bytes from it
@@ -110,6 +119,29 @@ pub record LeftAsAnswered : Type 0 where
   pub run-refusal : (r : Ran) (out : List ℕ) → ranLeft r out .refusal ≡ r .refusal
   pub run-configuration : (r : Ran) (out : List ℕ) → ranLeft r out .configuration ≡ configurationBytes (r .configuration)
   pub run-output : (r : Ran) (out : List ℕ) → ranLeft r out .output ≡ out
+
+-- over a list of clients: the refusal, the list and a day's output as they are
+pub record LeftForAsAnswered (record-bytes t : List ℕ) (cs : List Configuration) : Type 0 where
+  pub event-refusal : (i e : ℕ) → receiveForLeaves record-bytes t cs i e .refusal
+      ≡ receiveForRefusal (automatonOf record-bytes) t cs i e
+  pub event-list : (i e : ℕ) → receiveForLeaves record-bytes t cs i e .configurations
+      ≡ receivedClients (automatonOf record-bytes) t cs i e
+  pub run-refusal : (vs out : List ℕ) → runForLeaves record-bytes t cs vs out .refusal
+      ≡ runForRefusal (automatonOf record-bytes) t cs vs out
+  pub run-list : (vs out : List ℕ) → runForLeaves record-bytes t cs vs out .configurations
+      ≡ ranClients (automatonOf record-bytes) t cs vs out
+  pub run-output : (vs out : List ℕ) → runForLeaves record-bytes t cs vs out .output
+      ≡ ranForBuffer (automatonOf record-bytes) t cs vs out
+  -- refused, everything lent stays, and of the answer every byte is 0
+  pub event-refused : (i e : ℕ) → (receiveForLeaves record-bytes t cs i e .refusal ≡ 0 → ⊥)
+      → (receiveForLeaves record-bytes t cs i e .configurations ≡ cs)
+      × (receiveForLeaves record-bytes t cs i e .answer ≡ replicate receivedSize 0)
+  pub run-refused : (vs out : List ℕ) → (runForLeaves record-bytes t cs vs out .refusal ≡ 0 → ⊥)
+      → let x = runForLeaves record-bytes t cs vs out in
+      (x .configurations ≡ cs) × (x .answer ≡ replicate ranSize 0) × (x .output ≡ out)
+
+abbrev pub ClientsLeftAsAnswered : Type 0
+ClientsLeftAsAnswered = (record-bytes t : List ℕ) (cs : List Configuration) → LeftForAsAnswered record-bytes t cs
 
 -- a refused call leaves the lent configuration as it was, and a day its output; of its answer
 -- every byte is 0

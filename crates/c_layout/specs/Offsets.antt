@@ -60,7 +60,7 @@ numberSize = 8
 abbrev pub statusSize : ℕ
 statusSize = 1
 
--- of `jaxhophasi_receive`; what is emitted has this many places
+-- of `jaxhophasi_receive` and `jaxhophasi_receive_for`; what is emitted has this many places
 abbrev pub maxEmitted : ℕ
 maxEmitted = 7
 
@@ -76,7 +76,7 @@ receivedCount = 7
 abbrev pub receivedWinning : ℕ
 receivedWinning = 8
 
--- of `jaxhophasi_run`
+-- of `jaxhophasi_run` and `jaxhophasi_run_for`
 abbrev pub ranSize : ℕ
 ranSize = 16
 

@@ -5,7 +5,8 @@ ghost use mathlib.Core.Path.{_≡_};
 ghost use Rattle.configuration.specs.Configuration.{emptyAt, configuration, initialAnswer};
 
 // Document 01's carried state: a state, how many events are held, and those events in order;
-// unused places are 0.
+// unused places are 0. (`repr(C)`: a list of them crosses to C as it lies, crate `jaxhophasi`.)
+#[repr(C)]
 pub struct Configuration {
     pub state: u8,
     pub held: u8,

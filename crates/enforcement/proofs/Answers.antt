@@ -27,7 +27,7 @@ use Rattle.enforcement.specs.Calls.{Call, receiveCall, runCall, handedBa
 use Rattle.enforcement.specs.Answers.{FlagIsStatus, FlagStays, SameBits, OthersIgnored}
 use Rattle.enforcement.proofs.Resting.{effect-wins}
 
-status-refusal : (a : Automaton) (t : List ℕ) (c : Configuration) → status a t c .winning ≡ true → (callRefusal a t c ≡ 0) × (isWinning a t c ≡ true)
+pub status-refusal : (a : Automaton) (t : List ℕ) (c : Configuration) → status a t c .winning ≡ true → (callRefusal a t c ≡ 0) × (isWinning a t c ≡ true)
 unfolding status
 status-refusal a t c h =
     by (eqb (callRefusal a t c) 0)

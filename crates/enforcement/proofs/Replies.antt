@@ -37,7 +37,7 @@ unfolding configurationAt
 position-at a s = position-made (positionAt a s)
 
 module _ (a : Automaton) (t : List ℕ) (v : valid a ≡ true) (sv : Solved a t) where
-  not-short : short a t ≡ false
+  pub not-short : short a t ≡ false
   unfolding short
   not-short = le-ltb (length t) _ (sv .long)
 
@@ -65,7 +65,7 @@ module _ (a : Automaton) (t : List ℕ) (v : valid a ≡ true) (sv : Solved a t)
     unfolding runRefusal lacksRoom configurationAt first
     run-refusal es out = rows-pass a t c v not-short (consistent-at s o) ((16, ltb (length out) (room es (c .held))) ∷ [])
 
-    event-effect : (e : ℕ) → refusalAt a s e ≡ 0 → effectFrom (byTable a t) a (positionOf c) e ≡ byStore a s e
+    pub event-effect : (e : ℕ) → refusalAt a s e ≡ 0 → effectFrom (byTable a t) a (positionOf c) e ≡ byStore a s e
     event-effect e h =
         ap (λ p. effectFrom (byTable a t) a p e) (position-at a s) ∙
         effect-agrees (byTable a t) a (positionAt a s) e (bySets a) (solved-agree a t sv) (total a v) o (by-sets e ∙ h)

@@ -54,7 +54,7 @@ pub as-by-value : AsByValue
 as-by-value record-bytes t c h calls = all-by-value record-bytes t calls c h
 
 -- the record is accepted, and what stands then in the lent bytes takes as many
-accepted : (record-bytes : List ℕ) → valid (automatonOf record-bytes) ≡ true
+pub accepted : (record-bytes : List ℕ) → valid (automatonOf record-bytes) ≡ true
     → initialAnswer (automatonOf record-bytes) .refusal ≡ 0
 unfolding initialAnswer
 accepted record-bytes v = rw v

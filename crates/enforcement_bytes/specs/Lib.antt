@@ -1,1 +1,2 @@
 pub mod ByteCalls
+pub mod ClientByteCalls

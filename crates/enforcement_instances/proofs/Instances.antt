@@ -37,7 +37,7 @@ use Rattle.notation_unpack.proofs.Trips.{line-reads-back, packs-shortest, line-
 use Rattle.day_transcript.proofs.Cases.{long-refused}
 use Rattle.day_transcript.proofs.Bounds.{transcript-bounded}
 use Rattle.enforcement_instances.proofs.Sheets.{valid-w, read-v, valid-v, solves-w, buffers-w, table-w, solved-w}
-use Rattle.enforcement_instances.proofs.Statements.{filled, paddedV, bytesPadded, tableW, onePage, Encodings, Solving, Judging, textV, Texts}
+use Rattle.enforcement_instances.specs.Statements.{filled, paddedV, bytesPadded, tableW, onePage, Encodings, Solving, Judging, textV, Texts}
 
 two-bytes : Rattle.varint.specs.Claims.AreBytes (128 ∷ 0 ∷ [])
 two-bytes zero h = omega arith

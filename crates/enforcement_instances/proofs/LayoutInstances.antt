@@ -17,15 +17,15 @@ use Rattle.c_layout.proofs.Trips.{left-as-answered, refused-initial-keeps, refu
 use Rattle.c_layout.proofs.Handing.{initial-handed-on, event-handed-on, run-handed-on}
 use Rattle.enforcement_bytes.proofs.ByteCalls.{as-by-value, bytes-enforced}
 use Rattle.enforcement_cases.specs.Cases.{automatonW}
-use Rattle.enforcement_instances.proofs.Statements.{filled, tableW, onePage}
+use Rattle.enforcement_instances.specs.Statements.{filled, tableW, onePage}
 use Rattle.enforcement_instances.proofs.Sheets.{valid-w, solved-w, computing}
-use Rattle.enforcement_instances.proofs.LayoutStatements.{recordW, anyRecord, anyBytes, atZero, signed, longRun, later, saysYes, Placed, Layouts}
+use Rattle.enforcement_instances.specs.LayoutStatements.{recordW, anyRecord, anyBytes, atZero, signed, longRun, later, saysYes, Placed, Layouts}
 
 shaped-w : shaped automatonW ≡ true
 unfolding shaped automatonW pad
 shaped-w = refl
 
-kept-w : automatonOf recordW ≡ automatonW
+pub kept-w : automatonOf recordW ≡ automatonW
 kept-w = automaton-kept automatonW shaped-w
 
 sevens : length anyRecord ≡ automatonSize

@@ -1,5 +1,5 @@
 -- The instances of the claims on the monitor's calls and on the published function.
-use Prim.Native.Nat.{ℕ, suc, _*_, _<_}
+use Prim.Native.Nat.{ℕ, suc, _*_, _<_, _≤_}
 use mathlib.Core.Path.{_≡_, refl, sym, _∙_, ap, subst}
 use mathlib.Core.Logic.{inl, inr}
 use mathlib.Core.Bool.{true, false}
@@ -25,6 +25,7 @@ use Rattle.monitor_rule.proofs.Worded.{event-rows-as-worded, releases-longest, 
 use Rattle.monitor_answers.specs.Answers.{isWinning, status, received}
 use Rattle.monitor_answers.specs.Claims.{Clear}
 use Rattle.configuration.proofs.Facts.{consistent-as-worded}
+use Rattle.monitor_answers.proofs.Accepted.{emitted-padded}
 use Rattle.monitor_answers.proofs.Worded.{status-rows-as-worded, receive-rows-as-worded, run-rows-as-worded, room-as-worded}
 use Rattle.enforcement.specs.Store.{Store, empty, stateOf, added, released, store, storeAll, lacksRoom, feed, feedAll, refusedOf}
 use Rattle.enforcement.specs.Store.{acceptedOf, acceptedBy, acceptedAll}
@@ -43,10 +44,10 @@ use Rattle.enforcement.proofs.Alone.{accepted-alone}
 use Rattle.enforcement.proofs.Said.{once-winning-said}
 use Rattle.enforcement.proofs.Answers.{flag-is-status, flag-stays, others-ignored}
 use Rattle.enforcement_cases.specs.Cases.{automatonV, automatonW}
-use Rattle.enforcement_instances.proofs.Statements.{filled, tableW, at}
-use Rattle.enforcement_instances.proofs.MonitorStatements.{wideV, startV, Rows, storeOf, twoHeld, Releasing}
-use Rattle.enforcement_instances.proofs.MonitorStatements.{calls, page, sign, withdraw, eager, answers, Fields}
-use Rattle.enforcement_instances.proofs.MonitorStatements.{longCalls, longAnswers, Day, Enforcing}
+use Rattle.enforcement_instances.specs.Statements.{filled, tableW, at}
+use Rattle.enforcement_instances.specs.MonitorStatements.{wideV, startV, Rows, storeOf, twoHeld, Releasing}
+use Rattle.enforcement_instances.specs.MonitorStatements.{calls, page, sign, withdraw, eager, answers, Fields}
+use Rattle.enforcement_instances.specs.MonitorStatements.{longCalls, longAnswers, Day, Enforcing}
 use Rattle.enforcement_instances.proofs.Sheets.{valid-w, valid-v, solves-w, buffers-w, solved-w, solved-v, computing}
 
 -- V's start, with its table; and W with two Pages held
@@ -64,7 +65,7 @@ unfolding computing
 clear-w = record { record-valid = valid-w; table-long = refl; configuration-consistent = refl }
 
 -- what rows 11, 12 and 13 refuse
-invalid-wide : valid wideV ≡ false
+pub invalid-wide : valid wideV ≡ false
 unfolding computing automatonV
 invalid-wide = refl
 
@@ -195,7 +196,7 @@ met : moments automatonW tableW (initialOf automatonW) calls ≡ page ∷ sign �
 unfolding calling
 met = refl
 
-begins-winning : isWinning automatonW tableW (initialOf automatonW) ≡ true
+pub begins-winning : isWinning automatonW tableW (initialOf automatonW) ≡ true
 unfolding calling
 begins-winning = refl
 
@@ -327,10 +328,9 @@ both-long : short automatonW tableW ≡ short automatonW (tableW ++ 9 ∷ [])
 unfolding short
 both-long = rw buffers-w refl
 
--- of what the calls feed the function, it accepts these
-accepts-these : acceptedAll automatonW empty (map fedBy calls) ≡ 2 ∷ 0 ∷ 1 ∷ []
-unfolding publishing
-accepts-these = refl
+few-emitted : received automatonW tableW (configuration (at 0 (2 ∷ 3 ∷ []))) 0 .count ≤ 3
+unfolding calling
+few-emitted = omega arith
 
 pub enforcing : Enforcing
 unfolding automatonW
@@ -341,12 +341,13 @@ enforcing =
       table-exists = table-exists automatonW valid-w;
       demand3-solved = demand3-solved automatonW (filled 16 9) solves-w;
       accepted-alone =
-          subst (λ es. storeAll automatonW empty es ≡ feedAll automatonW empty (map fedBy calls)) accepts-these
+          subst (λ es. storeAll automatonW empty es ≡ feedAll automatonW empty (map fedBy calls)) accepted-w
           (accepted-alone automatonW calls);
       driven-out = driven-out automatonW valid-w [] 2 (omega arith) outside-w 0 eager (0 ∷ 2 ∷ []) (0 ∷ 2 ∷ []) leads-to-two;
       flag-is-status = flag-is-status automatonW tableW start 0 accepts-sign;
       flag-stays = flag-stays automatonW tableW solved-w start says-winning;
       once-winning-said =
           once-winning-said automatonW tableW valid-w solved-w calls [] page (sign ∷ withdraw ∷ []) met stays-winning;
+      emitted-padded = emitted-padded automatonW tableW (configuration (at 0 (2 ∷ 3 ∷ []))) 0 .1 .1 3 few-emitted;
       others-ignored = others-ignored automatonW tableW (tableW ++ 9 ∷ []) both-long same-w start;
     }

@@ -23,7 +23,7 @@ use Rattle.monitor_rule.specs.Step.{eventRows, eventRefusal, runOf}
 use Rattle.monitor_answers.specs.Answers.{tableRows, configurationRows, callRows, isWinning, callRefusal, status, receiveRefusal, received, room, runRefusal, ran}
 use Rattle.enforcement_cases.specs.Cases.{bytesW, automatonV, automatonW}
 use Rattle.enforcement_cases.proofs.Cases.{marked-cases}
-use Rattle.enforcement_instances.proofs.Statements.{filled, paddedV, tableW}
+use Rattle.enforcement_instances.specs.Statements.{filled, paddedV, tableW}
 
 pub valid-w : valid automatonW ≡ true
 valid-w = read-is-valid bytesW automatonW (marked-cases .1 .0)

@@ -1,8 +1,11 @@
 // The interface for C and for whatever calls C: each call of the monitor over lent bytes. Each
 // function is a thin layer over the call that it names: it takes the record and the configuration
 // out of their bytes, calls, and lays the answer into bytes. It returns the number of refusal, 0
-// where there is none. `include/jaxhophasi.h` declares the functions for C.
+// where there is none. `include/jaxhophasi.h` declares the functions for C. A list of clients is
+// lent as it lies, one configuration after the other (`repr(C)`), and their number.
 
+use c_answers::lay_ran_for;
+use c_answers::lay_received_for;
 use c_answers::number_bytes;
 use c_answers::ran_bytes;
 use c_answers::received_bytes;
@@ -19,6 +22,7 @@ use c_records::automaton_bytes;
 use c_records::automaton_of;
 use c_records::configuration_bytes;
 use c_records::configuration_of;
+use configuration::Configuration;
 ghost use mathlib.Core.Path.{_≡_};
 ghost use Rattle.automaton_format.specs.Reading.{parse};
 ghost use Rattle.automaton_format.specs.Writing.{writeAnswer, writeBuffer};
@@ -29,7 +33,7 @@ ghost use Rattle.game.specs.Game.{verdict};
 ghost use Rattle.c_layout.specs.Offsets.{numberSize};
 ghost use Rattle.c_layout.specs.Layout.{automatonOf, automatonBytes, configurationOf, numberBytes};
 ghost use Rattle.c_layout.specs.Answers.{statusBytes, verdictBytes};
-ghost use Rattle.c_layout.specs.Calls.{initialBytes, receiveLeaves, runLeaves};
+ghost use Rattle.c_layout.specs.Calls.{initialBytes, receiveLeaves, runLeaves, receiveForLeaves, runForLeaves};
 
 // Reads an automaton and checks it. Answered are its record and the place of a fault.
 #[no_mangle]
@@ -174,6 +178,45 @@ pub extern "C" fn jaxhophasi_run(
     *configuration = configuration_bytes(last);
     *answer = ran_bytes(ran);
     ran.refusal
+}
+
+// One event for a client of a list. Its configuration in the list becomes the next one.
+#[no_mangle]
+pub extern "C" fn jaxhophasi_receive_for(
+    automaton: &[u8; AUTOMATON_SIZE],
+    table: &[u32],
+    configurations: &mut [Configuration],
+    client: u32,
+    event: u32,
+    answer: &mut [u8; RECEIVED_SIZE],
+) -> u8
+    ensures { λ r. let x = receiveForLeaves (now (automaton .entry)) (now (table .entry)) (now (configurations .entry))
+        client event in
+        ⌜ (r ≡ x .refusal) × (now (configurations .exit) ≡ x .configurations) × (now (answer .exit) ≡ x .answer) ⌝ }
+{
+    let a = automaton_of(automaton);
+    let received = clients::receive(a, table, configurations, client, event);
+    lay_received_for(received, answer)
+}
+
+// A whole day over a list of clients, whose configurations become the next ones.
+#[no_mangle]
+pub extern "C" fn jaxhophasi_run_for(
+    automaton: &[u8; AUTOMATON_SIZE],
+    table: &[u32],
+    configurations: &mut [Configuration],
+    events: &[u32],
+    out: &mut [u8],
+    answer: &mut [u8; RAN_SIZE],
+) -> u8
+    ensures { λ r. let t = now (table .entry) in let events = now (events .entry) in
+        let x = runForLeaves (now (automaton .entry)) t (now (configurations .entry)) events (now (out .entry)) in
+        ⌜ (r ≡ x .refusal) × (now (configurations .exit) ≡ x .configurations) × (now (out .exit) ≡ x .output)
+        × (now (answer .exit) ≡ x .answer) ⌝ }
+{
+    let a = automaton_of(automaton);
+    let ran = clients_day::run(a, table, configurations, events, out);
+    lay_ran_for(ran, answer)
 }
 
 // The game's two answers for a small automaton (document 01's second judge), without a table.

@@ -11,7 +11,8 @@ use monitor_loop::Limits;
 use monitor_loop::turn;
 use monitor_release::rests;
 ghost use mathlib.Core.Path.{_≡_};
-ghost use mathlib.Core.Bool.{false};
+ghost use mathlib.Core.Bool.{true, false};
+ghost use Rattle.automaton.specs.Automaton.{shaped, assembled};
 ghost use Rattle.monitor_answers.specs.Answers.{status, received, refusedEvent};
 
 fn refused_status(refusal: u8) -> Status
@@ -56,7 +57,8 @@ pub fn winning(a: Automaton, table: &[u32], c: Configuration) -> Status
     }
 }
 
-fn refused(row: u8, c: Configuration) -> Received
+// A refused event.
+pub fn refused(row: u8, c: Configuration) -> Received
     ensures { λ r. ⌜ r ≡ refusedEvent row c ⌝ }
 {
     Received {
@@ -68,18 +70,33 @@ fn refused(row: u8, c: Configuration) -> Received
     }
 }
 
-// One event: a turn into an array of its own, and whether the monitor may then rest.
-pub fn receive(a: Automaton, table: &[u32], c: Configuration, event: u32) -> Received
-    ensures { λ r. ⌜ r ≡ received a (now (table .entry)) c event ⌝ }
+// One event over the lent parts of a record, so that none of it is copied: a turn into an array of
+// its own, and whether the monitor may then rest.
+pub fn receive_in<'a>(
+    states: u8,
+    symbols: u8,
+    capacity: u8,
+    initial: u8,
+    classes: &'a [u8; 16],
+    accepting: &'a [u8; 32],
+    next: &'a [u8; 512],
+    table: &[u32],
+    c: Configuration,
+    event: u32,
+) -> Received
+    requires { ⌜ shaped (assembled states symbols capacity initial (now classes) (now accepting) (now next)) ≡ true ⌝ }
+    ensures { λ r. let a = assembled states symbols capacity initial (now (classes .entry)) (now (accepting .entry))
+        (now (next .entry)) in
+        ⌜ r ≡ received a (now (table .entry)) c event ⌝ }
 {
     let entry = enter(
-        a.states,
-        a.symbols,
-        a.capacity,
-        a.initial,
-        &a.classes,
-        &a.accepting,
-        &a.next,
+        states,
+        symbols,
+        capacity,
+        initial,
+        classes,
+        accepting,
+        next,
         table,
     );
     if entry.refusal != 0 {
@@ -88,15 +105,15 @@ pub fn receive(a: Automaton, table: &[u32], c: Configuration, event: u32) -> Rec
     let ranking = entry.ranking;
     let limits = Limits {
         controllables: ranking.count,
-        states: a.states,
-        symbols: a.symbols,
-        capacity: a.capacity,
+        states,
+        symbols,
+        capacity,
     };
     let mut emitted = [0u8; 7];
     let turned = turn(
         limits,
-        &a.classes,
-        &a.next,
+        classes,
+        next,
         &ranking.ranks,
         table,
         c,
@@ -123,4 +140,22 @@ pub fn receive(a: Automaton, table: &[u32], c: Configuration, event: u32) -> Rec
             as_usize(after.held),
         ),
     }
+}
+
+// One event.
+pub fn receive(a: Automaton, table: &[u32], c: Configuration, event: u32) -> Received
+    ensures { λ r. ⌜ r ≡ received a (now (table .entry)) c event ⌝ }
+{
+    receive_in(
+        a.states,
+        a.symbols,
+        a.capacity,
+        a.initial,
+        &a.classes,
+        &a.accepting,
+        &a.next,
+        table,
+        c,
+        event,
+    )
 }

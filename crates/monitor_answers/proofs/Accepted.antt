@@ -8,6 +8,8 @@ use lib.Dec.{eqb}
 use borrow.Author.Tests.{eqb-true, eqb-false}
 use Rattle.base.specs.Rows.{first}
 use Rattle.base.proofs.Bools.{by}
+use Rattle.base.proofs.Refusals.{first-clear}
+use Rattle.base.proofs.Padding.{pad-used, zeros-used}
 use Rattle.automaton.specs.declared.Automaton.{Automaton}
 use Rattle.configuration.specs.declared.Configuration.{Configuration}
 use Rattle.configuration.specs.Configuration.{heldEvents, positionOf}
@@ -15,15 +17,14 @@ use Rattle.configuration.proofs.Facts.{held-buffer}
 use Rattle.monitor_rule.specs.Step.{byTable, eventRows, eventRefusal}
 use Rattle.monitor_rule.proofs.Effects.{OccursAt, effect-length}
 use Rattle.monitor_answers.specs.Answers.{callRows, callRefusal, receiveRefusal, received, runRefusal}
+use Rattle.monitor_answers.specs.Claims.{EmittedPadded}
 use Rattle.monitor_answers.proofs.Refusals.{Clear, clear, place, rows-pass, rows-stand}
 
 module _ (a : Automaton) (t : List ℕ) (c : Configuration) where
   -- where no row stands, none of the first rows does
   pub rows-clear : (rows : List (ℕ × Bool)) → first (callRows a t c ++ rows) ≡ 0 → Clear a t c
-  rows-clear rows h =
-      by (eqb (callRefusal a t c) 0)
-      (λ z. clear a t c (eqb-true (callRefusal a t c) 0 z))
-      (λ z. let n = eqb-false (callRefusal a t c) 0 z in absurd (n (sym (rows-stand a t c rows n) ∙ h)))
+  unfolding callRefusal
+  rows-clear rows h = clear a t c (first-clear (callRows a t c) rows h)
 
   pub clear-occurs : Clear a t c → OccursAt a (positionOf c)
   clear-occurs k = record { state-below = place a t c k .state-below; buffer = held-buffer a c (place a t c k) }
@@ -53,3 +54,11 @@ module _ (a : Automaton) (t : List ℕ) (c : Configuration) where
       let f = place a t c (receive-clear e (eqb-true _ 0 h)) in
       rw h (omega (arith, effect-length (byTable a t) a (c .state) (heldEvents c) e, f .held-length, f .held-small)))
       (λ h. rw h (omega arith))
+
+pub emitted-padded : EmittedPadded
+unfolding received
+emitted-padded a t c e =
+    let few = received-few a t c e in (
+      few,
+      by (eqb (receiveRefusal a t c e) 0) (λ h. rw h (pad-used 7 _ (rw h at few))) (λ h. rw h (zeros-used 7)),
+    )

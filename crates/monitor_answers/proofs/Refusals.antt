@@ -14,6 +14,7 @@ use Rattle.configuration.specs.declared.Configuration.{Configuration}
 use Rattle.configuration.specs.Configuration.{consistent}
 use Rattle.configuration.proofs.Facts.{Consistent, consistent-facts}
 use Rattle.base.proofs.Bools.{by}
+use Rattle.base.proofs.Refusals.{first-before}
 use Rattle.monitor_answers.specs.Answers.{tableRows, configurationRows, callRows, callRefusal}
 pub use Rattle.monitor_answers.specs.Claims.{Clear}
 
@@ -53,13 +54,8 @@ module _ (a : Automaton) (t : List ℕ) (c : Configuration) where
 
   -- a row that stands also stands before further rows
   pub rows-stand : (rows : List (ℕ × Bool)) → (callRefusal a t c ≡ 0 → ⊥) → first (callRows a t c ++ rows) ≡ callRefusal a t c
-  unfolding tableRows configurationRows callRows first callRefusal
-  rows-stand rows z =
-      by (valid a)
-      (λ v. by (short a t)
-      (λ s. rw (v, s))
-      (λ s. by (consistent a c) (λ k. absurd (z (status-clear v s k))) (λ k. rw (v, s, k))))
-      (λ v. rw v)
+  unfolding callRefusal
+  rows-stand rows z = first-before (callRows a t c) rows z
 
   module _ (k : Clear a t c) where
     pub facts : Valid a

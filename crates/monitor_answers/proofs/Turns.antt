@@ -10,6 +10,7 @@ use lib.Dec.{eqb}
 use borrow.Author.Tests.{ne-eqb, eqb-true, eqb-false}
 use Rattle.base.specs.Rows.{first}
 use Rattle.base.proofs.Bools.{by}
+use Rattle.base.proofs.Refusals.{first-before}
 use Rattle.automaton.specs.declared.Automaton.{Automaton}
 use Rattle.automaton.specs.Automaton.{valid}
 use Rattle.automaton.proofs.Facts.{Valid, valid-facts}
@@ -52,11 +53,8 @@ module _ (a : Automaton) (t : List ℕ) where
 
   -- one that stands also stands before further rows
   pub table-stands : (rows : List (ℕ × Bool)) → (tableRefusal a t ≡ 0 → ⊥) → first (tableRows a t ++ rows) ≡ tableRefusal a t
-  unfolding tableRefusal tableRows first
-  table-stands rows z =
-      by (valid a)
-      (λ v. by (short a t) (λ s. rw (v, s)) (λ s. absurd (z (table-clear v s))))
-      (λ v. rw v)
+  unfolding tableRefusal
+  table-stands rows z = first-before (tableRows a t) rows z
 
 module _ (a : Automaton) (t : List ℕ) (c : Configuration) where
   pub call-stands : (tableRefusal a t ≡ 0 → ⊥) → callRefusal a t c ≡ tableRefusal a t

@@ -1,14 +1,15 @@
 -- The calls' rows, in document 01's words.
 use Prim.Native.Nat.{ℕ, _+_, _≤_}
-use mathlib.Core.Path.{_≡_, refl, sym, _∙_}
-use mathlib.Core.Logic.{_↔_}
-use mathlib.Core.Bool.{Bool, true, false}
+use mathlib.Core.Path.{_≡_, refl, sym}
+use mathlib.Core.Logic.{_↔_, Iff·rfl, Iff·trans}
+use mathlib.Core.Bool.{Bool, true, false, not}
 use mathlib.Core.List.{List, [], _∷_, _++_}
 use native.Mathlib.Omega.{arith}
 use lib.ListN.{length}
 use borrow.Author.Tests.{ltb-true, ltb-false, lt-ltb, le-ltb}
 use Rattle.base.specs.Rows.{first}
 use Rattle.base.proofs.Bools.{by, either}
+use Rattle.base.proofs.Refusals.{first-never, first-own, first-later, contrary}
 use Rattle.automaton.specs.declared.Automaton.{Automaton}
 use Rattle.automaton.specs.Automaton.{valid}
 use Rattle.solver_sets.specs.Table.{short}
@@ -20,7 +21,37 @@ use Rattle.monitor_rule.proofs.Worded.{event-number, event-rows-as-worded}
 use Rattle.monitor_answers.specs.Answers.{tableRows, configurationRows, callRows, callRefusal, receiveRefusal, room, tooShort, runRefusal}
 use Rattle.monitor_answers.specs.Claims.{CallRows, Clear, RowOfRun}
 use Rattle.monitor_answers.specs.Claims.{StatusRowsAsWorded, ReceiveRowsAsWorded, RoomAsWorded, RunRowsAsWorded}
-use Rattle.monitor_answers.proofs.Refusals.{rows-pass, place}
+use Rattle.monitor_answers.proofs.Refusals.{place}
+
+-- rows 11 and 12, and then others
+module _ (a : Automaton) (t : List ℕ) (more : List (ℕ × Bool)) where
+  abbrev given : ℕ
+  given = first (tableRows a t ++ more)
+
+  abbrev later : List (ℕ × Bool)
+  later = (12, short a t) ∷ more
+
+  pub row-11 : (first more ≡ 11 → ⊥) → (given ≡ 11) ↔ (valid a ≡ false)
+  unfolding tableRows
+  row-11 z =
+      first-own 11 (not (valid a)) later (contrary (valid a) .0) (contrary (valid a) .1)
+      (first-never 12 (short a t) more 11 (λ h. omega arith) z)
+
+  pub row-12 : (first more ≡ 12 → ⊥) → (given ≡ 12) ↔ ((valid a ≡ true) × (short a t ≡ true))
+  unfolding tableRows
+  row-12 z =
+      first-later 11 (not (valid a)) later (contrary (valid a) .0) (contrary (valid a) .1) 12 (λ h. omega arith)
+      (λ v. first-own 12 (short a t) more Iff·rfl Iff·rfl z)
+
+  -- another number is that of the rows after them
+  pub after-12 : {Z : Type 0} (m : ℕ) → (m ≡ 11 → ⊥) → (m ≡ 12 → ⊥) → ((valid a ≡ true) → (short a t ≡ false) → (first more ≡ m) ↔ Z)
+      → (given ≡ m) ↔ ((valid a ≡ true) × (short a t ≡ false) × Z)
+  unfolding tableRows
+  after-12 m n11 n12 z =
+      Iff·trans
+      (first-later 11 (not (valid a)) later (contrary (valid a) .0) (contrary (valid a) .1) m (λ h. n11 (sym h))
+      (λ v. first-later 12 (short a t) more Iff·rfl Iff·rfl m (λ h. n12 (sym h)) (z v)))
+      (λ (v, (s, x)). (v, s, x), λ (v, s, x). (v, (s, x)))
 
 -- a number of rows 11 to 13
 abbrev Early : ℕ → Type 0
@@ -31,94 +62,43 @@ module _ (a : Automaton) (t : List ℕ) (c : Configuration) (rows : List (ℕ ×
   abbrev n : ℕ
   n = first (callRows a t c ++ rows)
 
-  abbrev Invalid : Type 0
-  Invalid = valid a ≡ false
-
-  abbrev Short : Type 0
-  Short = (valid a ≡ true) × (short a t ≡ true)
-
-  abbrev Inconsistent : Type 0
-  Inconsistent = (valid a ≡ true) × (short a t ≡ false) × (consistent a c ≡ false)
-
-  -- one of these conditions holds
-  cases : {R : Type 0} → (Invalid → R) → (Short → R) → (Inconsistent → R) → (Clear a t c → R) → R
-  cases invalid short′ inconsistent clear =
-      by (valid a)
-      (λ v. by (short a t)
-      (λ s. short′ (v, s))
-      (λ s. by (consistent a c)
-      (λ k. clear (record { record-valid = v; table-long = s; configuration-consistent = k }))
-      (λ k. inconsistent (v, s, k))))
-      invalid
-
-  -- each number, where its condition holds
-  invalid-11 : Invalid → n ≡ 11
-  unfolding tableRows configurationRows callRows first
-  invalid-11 v = rw v
-
-  short-12 : Short → n ≡ 12
-  unfolding tableRows configurationRows callRows first
-  short-12 (v, s) = rw (v, s)
-
-  inconsistent-13 : Inconsistent → n ≡ 13
-  unfolding tableRows configurationRows callRows first
-  inconsistent-13 (v, s, k) = rw (v, s, k)
-
-  clear-on : Clear a t c → n ≡ first rows
-  clear-on k = rows-pass a t c (k .record-valid) (k .table-long) (k .configuration-consistent) rows
+  abbrev from-13 : List (ℕ × Bool)
+  from-13 = (13, not (consistent a c)) ∷ rows
 
   -- a number that none of rows 11 to 13 has is that of the rows after them
-  beyond : (m : ℕ) → (Early m → ⊥) → (n ≡ m) ↔ (Clear a t c × (first rows ≡ m))
-  beyond m late = (
-    λ h. cases
-        (λ v. let z = invalid-11 v in absurd (late (omega arith, omega arith)))
-        (λ s. let z = short-12 s in absurd (late (omega arith, omega arith)))
-        (λ i. let z = inconsistent-13 i in absurd (late (omega arith, omega arith)))
-        (λ k. (k, sym (clear-on k) ∙ h)),
-    λ h. clear-on (h .0) ∙ h .1,
-  )
+  beyond : {Z : Type 0} (m : ℕ) → (Early m → ⊥) → (Clear a t c → (first rows ≡ m) ↔ Z) → (n ≡ m) ↔ (Clear a t c × Z)
+  unfolding tableRows configurationRows callRows
+  beyond m late z =
+      Iff·trans
+      (after-12 a t from-13 m (λ h. late (omega arith, omega arith)) (λ h. late (omega arith, omega arith))
+      (λ v s. first-later 13 (not (consistent a c)) rows (contrary (consistent a c) .0) (contrary (consistent a c) .1) m
+      (λ h. late (omega arith, omega arith))
+      (λ k. z (record { record-valid = v; table-long = s; configuration-consistent = k })))) (
+        λ (v, s, (k, x)). (record { record-valid = v; table-long = s; configuration-consistent = k }, x),
+        λ (k, x). (k .record-valid, k .table-long, (k .configuration-consistent, x)),
+      )
 
   call-rows : (Early (first rows) → ⊥) → CallRows a t c n
+  unfolding tableRows configurationRows callRows
   call-rows late =
-      let clear-late : (m : ℕ) → Early m → Clear a t c → n ≡ m → ⊥ = λ m b k h.
-      let z = clear-on k in late (omega arith, omega arith) in
+      let never : (m : ℕ) → Early m → (13 ≡ m → ⊥) → first from-13 ≡ m → ⊥ = λ m b n13.
+      first-never 13 (not (consistent a c)) rows m n13 (λ h. late (omega arith, omega arith)) in
       record {
-        row-11 = (
-          λ h. cases (λ v. v)
-              (λ s. absurd (omega (arith, short-12 s)))
-              (λ i. absurd (omega (arith, inconsistent-13 i)))
-              (λ k. absurd (clear-late 11 (omega arith, omega arith) k h)),
-          invalid-11,
-        );
-        row-12 = (
-          λ h. cases (λ v. absurd (omega (arith, invalid-11 v)))
-              (λ s. s)
-              (λ i. absurd (omega (arith, inconsistent-13 i)))
-              (λ k. absurd (clear-late 12 (omega arith, omega arith) k h)),
-          short-12,
-        );
-        row-13 = (
-          λ h. cases (λ v. absurd (omega (arith, invalid-11 v)))
-              (λ s. absurd (omega (arith, short-12 s)))
-              (λ i. i)
-              (λ k. absurd (clear-late 13 (omega arith, omega arith) k h)),
-          inconsistent-13,
-        );
+        row-11 = row-11 a t from-13 (never 11 (omega arith, omega arith) (λ h. omega arith));
+        row-12 = row-12 a t from-13 (never 12 (omega arith, omega arith) (λ h. omega arith));
+        row-13 = after-12 a t from-13 13 (λ h. omega arith) (λ h. omega arith)
+            (λ v s. first-own 13 (not (consistent a c)) rows (contrary (consistent a c) .0) (contrary (consistent a c) .1)
+            (λ h. late (omega arith, omega arith)));
       }
 
 pub status-rows-as-worded : StatusRowsAsWorded
 unfolding callRefusal tableRows configurationRows callRows first
 status-rows-as-worded a t c =
-    let b = beyond a t c [] 0 (λ l. omega arith) in
+    let b = beyond a t c [] 0 (λ l. omega arith) (λ k. Iff·rfl) in
     record {
       first-rows = call-rows a t c [] (λ l. omega arith);
       accepted = (λ h. b .0 h .0, λ k. b .1 (k, refl));
     }
-
--- a condition that another stands for, where no row of 11 to 13 holds
-module _ {N K X Y : Type 0} where
-  instead : N ↔ (K × X) → (K → X ↔ Y) → N ↔ (K × Y)
-  instead f g = (λ n. let p = f .0 n in (p .0, g (p .0) .0 (p .1)), λ p. f .1 (p .0, g (p .0) .1 (p .1)))
 
 -- one event
 module _ (a : Automaton) (t : List ℕ) (c : Configuration) (e : ℕ) where
@@ -135,9 +115,9 @@ receive-rows-as-worded a t c e =
     let rows = eventRows (byTable a t) a (positionOf c) e in
     record {
       first-rows = call-rows a t c rows (event-late a t c e);
-      row-14 = instead (beyond a t c rows 14 (λ l. omega arith)) (λ k. event-rows a t c e k .row-14);
-      row-15 = instead (beyond a t c rows 15 (λ l. omega arith)) (λ k. event-rows a t c e k .row-15);
-      accepted = instead (beyond a t c rows 0 (λ l. omega arith)) (λ k. event-rows a t c e k .accepted);
+      row-14 = beyond a t c rows 14 (λ l. omega arith) (λ k. event-rows a t c e k .row-14);
+      row-15 = beyond a t c rows 15 (λ l. omega arith) (λ k. event-rows a t c e k .row-15);
+      accepted = beyond a t c rows 0 (λ l. omega arith) (λ k. event-rows a t c e k .accepted);
     }
 
 -- a day
@@ -178,6 +158,6 @@ run-rows-as-worded a t c events out =
     let day = run-row (length out) events (c .held) in
     record {
       first-rows = call-rows a t c rows (run-late (length out) events (c .held));
-      row-16 = instead (beyond a t c rows 16 (λ l. omega arith)) (λ _. day .row-16);
-      accepted = instead (beyond a t c rows 0 (λ l. omega arith)) (λ _. day .accepted);
+      row-16 = beyond a t c rows 16 (λ l. omega arith) (λ _. day .row-16);
+      accepted = beyond a t c rows 0 (λ l. omega arith) (λ _. day .accepted);
     }

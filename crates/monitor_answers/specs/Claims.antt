@@ -6,13 +6,14 @@ use mathlib.Core.Logic.{_↔_}
 use mathlib.Core.Bool.{true, false}
 use mathlib.Core.List.{List}
 use lib.ListN.{length}
+use Rattle.base.specs.Pad.{UsedTo}
 use Rattle.automaton.specs.declared.Automaton.{Automaton}
 use Rattle.automaton.specs.Automaton.{valid}
 use Rattle.solver_sets.specs.Table.{short}
 use Rattle.configuration.specs.declared.Configuration.{Configuration}
 use Rattle.configuration.specs.Configuration.{consistent}
 use Rattle.monitor_rule.specs.Claims.{Unknown, Full, Admitted}
-use Rattle.monitor_answers.specs.Answers.{callRefusal, receiveRefusal, tooShort, runRefusal}
+use Rattle.monitor_answers.specs.Answers.{callRefusal, receiveRefusal, received, tooShort, runRefusal}
 
 -- rows 11 to 13, the same for each call; n is the number that it gives
 pub record CallRows (a : Automaton) (t : List ℕ) (c : Configuration) (n : ℕ) : Type 0 where
@@ -43,6 +44,13 @@ pub record ReceiveRows (a : Automaton) (t : List ℕ) (c : Configuration) (e : �
 
 abbrev pub ReceiveRowsAsWorded : Type 0
 ReceiveRowsAsWorded = (a : Automaton) (t : List ℕ) (c : Configuration) (e : ℕ) → ReceiveRows a t c e
+
+-- an event's answer, refused or not, has seven places for what is emitted; those past the count
+-- hold 0
+abbrev pub EmittedPadded : Type 0
+EmittedPadded =
+    (a : Automaton) (t : List ℕ) (c : Configuration) (e : ℕ) → let r = received a t c e in
+    (r .count ≤ 7) × UsedTo 7 (r .count) (r .emitted)
 
 -- row 16, the published function's too: an output of this size is shorter than events plus held
 pub record RoomAsked (size : ℕ) (events : List ℕ) (held : ℕ) : Type 0 where

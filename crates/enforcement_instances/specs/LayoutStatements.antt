@@ -15,16 +15,19 @@ use Rattle.monitor_answers.specs.Answers.{received, ran}
 use Rattle.enforcement.specs.Calls.{Call, replies}
 use Rattle.enforcement.specs.Claims.{Enforced}
 use Rattle.enforcement_cases.specs.Cases.{automatonW}
-use Rattle.c_layout.specs.Offsets.{maxSymbols, automatonSize, automatonStates, automatonSymbols, automatonCapacity, automatonInitial}
+use Rattle.c_layout.specs.Offsets.{maxSymbols, automatonSize, automatonStates}
+use Rattle.c_layout.specs.Offsets.{automatonSymbols, automatonCapacity, automatonInitial}
 use Rattle.c_layout.specs.Offsets.{automatonClasses, automatonAccepting, automatonNext}
-use Rattle.c_layout.specs.Offsets.{configurationSize, configurationState, configurationHeld, configurationBuffer, numberSize, statusSize}
+use Rattle.c_layout.specs.Offsets.{configurationSize, configurationState, configurationHeld}
+use Rattle.c_layout.specs.Offsets.{configurationBuffer, numberSize, statusSize}
 use Rattle.c_layout.specs.Offsets.{maxEmitted, receivedSize, receivedEmitted, receivedCount, receivedWinning}
 use Rattle.c_layout.specs.Offsets.{ranSize, ranLength, ranRefused, verdictSize, verdictMayRest, verdictCanRest}
-use Rattle.c_layout.specs.Layout.{byteAt, part, automatonBytes, automatonOf, configurationBytes, configurationOf, numberBytes, numberOf}
+use Rattle.c_layout.specs.Layout.{byteAt, part, automatonBytes, automatonOf}
+use Rattle.c_layout.specs.Layout.{configurationBytes, configurationOf, numberBytes, numberOf}
 use Rattle.c_layout.specs.Answers.{statusBytes, verdictBytes}
 use Rattle.c_layout.specs.Calls.{initialBytes, receivedLeft, ranLeft, receiveLeaves, runLeaves}
 use Rattle.enforcement_bytes.specs.ByteCalls.{laid, leavesAll}
-use Rattle.enforcement_instances.proofs.Statements.{filled, tableW, at}
+use Rattle.enforcement_instances.specs.Statements.{filled, tableW, at}
 
 -- W's record in bytes
 abbrev pub recordW : List ℕ
@@ -37,7 +40,14 @@ heldPage = configurationBytes (configuration (at 1 (2 ∷ [])))
 -- W's answer to Sign with Page and Receipt held; a day's, with 300 bytes of output and 2 events
 -- refused; the game's, where rest is only to be reached; and a yes
 abbrev pub signed : Received
-signed = record { refusal = 0; configuration = configuration (at 1 []); emitted = pad maxEmitted (0 ∷ 2 ∷ 3 ∷ []); count = 3; winning = true }
+signed =
+    record {
+      refusal = 0;
+      configuration = configuration (at 1 []);
+      emitted = pad maxEmitted (0 ∷ 2 ∷ 3 ∷ []);
+      count = 3;
+      winning = true;
+    }
 
 abbrev pub longRun : Ran
 longRun = record { refusal = 0; configuration = configuration (at 1 []); length = 300; refused = 2 }
@@ -65,7 +75,8 @@ pub record Placed : Type 0 where
   pub state : byteAt heldPage configurationState ≡ 1
   pub held : byteAt heldPage configurationHeld ≡ 1
   pub buffer : byteAt heldPage (configurationBuffer + 0) ≡ 2
-  pub configuration-out : byteAt (filled configurationSize 7) configurationHeld ≡ configurationOf (filled configurationSize 7) .held
+  pub configuration-out : byteAt (filled configurationSize 7) configurationHeld
+      ≡ configurationOf (filled configurationSize 7) .held
   pub number-size : length (numberBytes numberSize 60001) ≡ numberSize
   pub number-low-first : byteAt (numberBytes numberSize 60001) (0 + 1) ≡ 234
   pub number-value : numberOf (part 0 numberSize (numberBytes numberSize 60001)) ≡ 60001
@@ -117,7 +128,9 @@ pub record Layouts : Type 0 where
   pub run-handed-on : configurationOf (runLeaves recordW tableW atZero (0 ∷ 2 ∷ []) (filled 2 9) .configuration)
       ≡ ran (automatonOf recordW) tableW (configurationOf atZero) (0 ∷ 2 ∷ []) (filled 2 9) .configuration
   -- what a call leaves beside its answer
-  pub left-as-answered : (receivedLeft signed .refusal ≡ 0) × (ranLeft longRun (7 ∷ []) .refusal ≡ 0) × (ranLeft longRun (7 ∷ []) .output ≡ 7 ∷ [])
+  pub left-as-answered : (receivedLeft signed .refusal ≡ 0)
+      × (ranLeft longRun (7 ∷ []) .refusal ≡ 0)
+      × (ranLeft longRun (7 ∷ []) .output ≡ 7 ∷ [])
   -- calls through the interface over W's bytes
   pub as-by-value : (xs : List Call) → leavesAll recordW tableW atZero xs
       ≡ map laid (replies (automatonOf recordW) tableW (configurationOf atZero) xs)

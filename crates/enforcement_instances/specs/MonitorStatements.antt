@@ -3,7 +3,7 @@ use Prim.Native.Nat.{ℕ, _<_, _≤_}
 use mathlib.Core.Path.{_≡_}
 use mathlib.Core.Bool.{true, false}
 use mathlib.Core.List.{List, [], _∷_, _++_, map}
-use lib.ListN.{length}
+use lib.ListN.{length, getD}
 use Rattle.automaton.specs.declared.Automaton.{Automaton}
 use Rattle.automaton.specs.Automaton.{controllable, accepts, reached, valid, assembled}
 use Rattle.solver_sets.specs.Table.{short, table, Solved}
@@ -16,13 +16,14 @@ use Rattle.monitor_rule.specs.Step.{byTable, eventRefusal}
 use Rattle.monitor_rule.specs.Claims.{Admitted, Longest}
 use Rattle.monitor_answers.specs.Answers.{tooShort, callRefusal, status, receiveRefusal, received, refusedRun, runRefusal}
 use Rattle.enforcement.specs.Store.{Store, empty, positionAt, store, storeAll, event, events, feed, feedAll, refusedOf}
-use Rattle.enforcement.specs.Calls.{Call, receiveCall, runCall, Reply, receive, refusalIn, replies, configurationAfter, emittedAll, expected, fedBy}
+use Rattle.enforcement.specs.Calls.{Call, receiveCall, runCall, Reply, receive, refusalIn}
+use Rattle.enforcement.specs.Calls.{replies, configurationAfter, emittedAll, expected, fedBy}
 use Rattle.enforcement.specs.Moments.{Moment, emittedAt}
 use Rattle.enforcement.specs.Strategy.{Strategy, play, Lost, lostBound}
 use Rattle.enforcement.specs.Claims.{Enforced, acceptedEvents, winningAfter}
 use Rattle.enforcement.specs.Answers.{SaysWinning, SameAnswers}
 use Rattle.enforcement_cases.specs.Cases.{automatonV, automatonW, answer}
-use Rattle.enforcement_instances.proofs.Statements.{filled, tableW, at}
+use Rattle.enforcement_instances.specs.Statements.{filled, tableW, at}
 
 -- V's record with 40 states
 abbrev pub wideV : Automaton
@@ -58,7 +59,8 @@ pub record Rows : Type 0 where
   pub event-0 : rowW (at 0 []) 2 ≡ 0
   pub receive-11 : receiveRefusal wideV (table automatonV) startV 0 ≡ 11
   pub receive-0 : receiveRefusal automatonV (table automatonV) startV 1 ≡ 0
-  pub receive-only-0 : (e : ℕ) → receiveRefusal automatonW tableW (configuration (at 0 (2 ∷ 2 ∷ []))) e ≡ 0 → Admitted automatonW 2 e
+  pub receive-only-0 : (e : ℕ) → receiveRefusal automatonW tableW (configuration (at 0 (2 ∷ 2 ∷ []))) e ≡ 0
+      → Admitted automatonW 2 e
   pub run-11 : runRefusal wideV (table automatonV) startV (0 ∷ 1 ∷ []) (9 ∷ []) ≡ 11
   pub run-0 : runRefusal automatonV (table automatonV) startV (0 ∷ 1 ∷ []) (9 ∷ 9 ∷ []) ≡ 0
   pub run-only-0 : (out : List ℕ) → runRefusal automatonV (table automatonV) startV (0 ∷ 1 ∷ []) out ≡ 0 → 2 ≤ length out
@@ -157,7 +159,8 @@ pub record Fields : Type 0 where
   pub fed : let z = storeAll automatonW empty (2 ∷ 0 ∷ []) in (z .output ≡ 0 ∷ []) × (positionAt automatonW z ≡ at 1 (2 ∷ []))
   -- winning at first, and after Page, W is so after Withdraw, and its output, Sign and Withdraw,
   -- leads to an accepting state
-  pub initially : (winningAfter automatonW tableW withdraw ≡ true) × (accepts automatonW (reached automatonW 0 (0 ∷ 1 ∷ [])) ≡ true)
+  pub initially : (winningAfter automatonW tableW withdraw ≡ true)
+      × (accepts automatonW (reached automatonW 0 (0 ∷ 1 ∷ [])) ≡ true)
   pub later : (winningAfter automatonW tableW withdraw ≡ true) × (accepts automatonW (reached automatonW 0 (0 ∷ 1 ∷ [])) ≡ true)
   -- whoever lets the Page go after Sign, inside the day, is driven out by at most two events
   pub strategies : (us : List ℕ)
@@ -198,4 +201,6 @@ pub record Enforcing : Type 0 where
   pub flag-stays : (xs : List Call) → SaysWinning automatonW tableW (afterW xs)
   -- Page leaves W winning, and so it stays
   pub once-winning-said : SaysWinning automatonW tableW (afterW calls)
+  -- Sign with Page and Receipt held emits three, and the fourth place holds 0
+  pub emitted-padded : getD (received automatonW tableW (configuration (at 0 (2 ∷ 3 ∷ []))) 0 .emitted) 3 0 ≡ 0
   pub others-ignored : SameAnswers automatonW tableW (tableW ++ 9 ∷ []) (initialOf automatonW)

@@ -63,7 +63,8 @@ pub record Solving : Type 1 where
   pub numbered : index automatonW (2 ∷ 3 ∷ []) < buffersCount automatonW
   pub one-to-one : (w : List ℕ) → Buffer automatonW w → index automatonW w ≡ index automatonW (2 ∷ 3 ∷ []) → w ≡ 2 ∷ 3 ∷ []
   pub onto : (w : List ℕ) × Buffer automatonW w × (index automatonW w ≡ 5)
-  pub table-is-solved : (length (table automatonW) ≡ 2 * buffersCount automatonW) × Solved automatonW (table automatonW ++ 9 ∷ 9 ∷ [])
+  pub table-is-solved : (length (table automatonW) ≡ 2 * buffersCount automatonW)
+      × Solved automatonW (table automatonW ++ 9 ∷ 9 ∷ [])
   pub left : solvedTable automatonW (filled 16 9) ≡ tableW
   pub leaves-solved : Solved automatonW tableW
   -- by Definition 6 itself: with Page and Receipt held W may rest in state 0, and not in state 2

@@ -1,0 +1,30 @@
+-- What the calls over a list of clients leave, as they answer.
+use Prim.Native.Nat.{ℕ}
+use mathlib.Core.Path.{_≡_, refl, _∙_, ap}
+use mathlib.Core.List.{List}
+use Rattle.clients_answers.specs.Clients.{receiveForRefusal, ranFor}
+use Rattle.clients_answers.proofs.Kept.{others-kept}
+use Rattle.clients_answers.proofs.Worded.{client-rows-as-worded}
+use Rattle.c_layout.specs.Layout.{automatonOf, numberBytes}
+use Rattle.c_layout.specs.Answers.{receivedForBytes, ranForBytes}
+use Rattle.c_layout.specs.Calls.{receivedForLeft, ranForLeft, receiveForLeaves, runForLeaves}
+use Rattle.c_layout.specs.Claims.{ClientsLeftAsAnswered}
+
+pub clients-left-as-answered : ClientsLeftAsAnswered
+unfolding receiveForLeaves runForLeaves receivedForLeft ranForLeft receivedForBytes ranForBytes numberBytes ranFor
+clients-left-as-answered record-bytes t cs =
+    let a = automatonOf record-bytes in
+    let kept = others-kept a t cs in
+    let answered = client-rows-as-worded a t cs .answered in
+    record {
+      event-refusal = answered;
+      event-list = λ i e. refl;
+      run-refusal = λ vs out. refl;
+      run-list = λ vs out. refl;
+      run-output = λ vs out. refl;
+      event-refused = λ i e refused.
+          let n : receiveForRefusal a t cs i e ≡ 0 → ⊥ = λ z. refused (answered i e ∙ z) in
+          (kept .refused-event i e n, ap receivedForBytes (kept .refused-answer i e n));
+      run-refused = λ vs out refused.
+          (kept .refused-day vs out refused, ap ranForBytes (kept .refused-ran vs out refused), kept .refused-output vs out refused);
+    }

@@ -1,0 +1,10 @@
+pub mod Isolation
+pub mod Days
+pub mod Refusals
+pub mod Room
+pub mod Loop
+pub mod Single
+pub mod Parting
+pub mod Worded
+pub mod Kept
+pub mod Eventwise

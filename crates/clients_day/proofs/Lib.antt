@@ -1,0 +1,3 @@
+pub mod Holding
+pub mod Processing
+pub mod Running

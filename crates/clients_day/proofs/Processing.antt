@@ -1,0 +1,146 @@
+-- Where the loop over a day's events stands, and the ways round it and out of it.
+use Prim.Native.Nat.{ℕ, _+_, _<_, _≤_}
+use mathlib.Core.Path.{_≡_, refl, sym, _∙_, ap}
+use mathlib.Core.Bool.{true}
+use mathlib.Core.List.{List}
+use native.Mathlib.Omega.{arith}
+use lib.ListN.{length, getD, set, drop, length-set}
+use lib.Dec.{eqb}
+use Rattle.base.proofs.Bools.{by}
+use Rattle.automaton.specs.declared.Automaton.{Automaton}
+use Rattle.configuration.specs.declared.Configuration.{Configuration}
+use Rattle.configuration.specs.Configuration.{consistent}
+use Rattle.monitor_answers.specs.Turns.{turnRefusal, turnedBuffer}
+use Rattle.monitor_loop.specs.declared.Limits.{Limits}
+use Rattle.monitor_loop.specs.Lending.{Lends, TurnRequires}
+use Rattle.clients_answers.specs.Clients.{none, heldIn, heldInAll}
+use Rattle.clients_answers.specs.Loop.{Day, dayFrom}
+use Rattle.clients_answers.proofs.Loop.{step-in, step-out, step-end, held-one, turn-keeps}
+use Rattle.clients_entry.specs.declared.Taken.{Taken}
+use Rattle.clients_entry.specs.Entries.{takenOf, Taking, eventOf}
+use Rattle.clients_day.specs.Days.{DayRequires, Days}
+use Rattle.clients_entry.specs.declared.Event.{Event}
+
+module _ (l : Limits) (classes next ranks t : List ℕ) (cs : List Configuration) (vs out : List ℕ) where
+  -- i events are passed; the list so far, and the output so far
+  pub record Stand (own : Automaton) : Type 0 where
+    pub i : ℕ
+    pub written : ℕ
+    pub refused : ℕ
+    pub clients : List Configuration
+    pub output : List ℕ
+    pub upto : i ≤ length vs
+    pub follows : (a : Automaton) → Lends a l next ranks t → classes ≡ a .classes
+        → dayFrom a t cs out 0 0 vs ≡ dayFrom a t clients output written refused (drop i vs)
+    pub same-count : length clients ≡ length cs
+    pub same-size : length output ≡ length out
+    pub room : written + heldInAll own clients ≤ i + heldInAll own cs
+    pub counted : refused ≤ i
+
+  module _ (g : DayRequires l classes next ranks t cs vs (length out)) where
+    abbrev pub Standing : Type 0
+    Standing = Stand (g .automaton)
+
+    unfoldable pub stand-begins : Standing
+    stand-begins =
+        record {
+          i = 0;
+          written = 0;
+          refused = 0;
+          clients = cs;
+          output = out;
+          upto = omega arith;
+          follows = λ a o s. refl;
+          same-count = refl;
+          same-size = refl;
+          room = omega arith;
+          counted = omega arith;
+        }
+
+    module _ (s : Standing) where
+      pub written-fits : s .written ≤ length out
+      written-fits = omega (arith, s .room, s .upto, g .room)
+
+      -- an event more
+      module _ (h : s .i < length vs) (d : Event) (ed : d ≡ eventOf (getD vs (s .i) 0)) where
+        -- of a client that is there
+        module _ (b : d .client < length (s .clients)) where
+          abbrev c : Configuration
+          c = getD (s .clients) (d .client) none
+
+          held-is : consistent (g .automaton) c ≡ true → c .held ≡ heldIn (g .automaton) c
+          unfolding heldIn
+          held-is k = rw k
+
+          pub take-asks : TurnRequires l classes next ranks t c (s .written) (length (s .output))
+          take-asks =
+              record {
+                automaton = g .automaton;
+                lends = g .lends;
+                classes-are = g .classes-are;
+                room = λ k. omega (arith, held-is k, held-one (g .automaton) t (s .clients) (d .client) b, s .room, g .room, s .same-size);
+              }
+
+          module _ (r : Taken) (zs : List ℕ) (f : Taking l classes next ranks t c (d .symbol) (s .written) (s .output) r zs) where
+            abbrev own : r ≡ takenOf (g .automaton) t c (d .symbol) (s .written)
+            own = f (g .automaton) (g .lends) (g .classes-are) .0
+
+            pub refused-once : r .refused ≤ 1
+            unfolding takenOf
+            refused-once = rw own (by (eqb (turnRefusal (g .automaton) t c (d .symbol)) 0) (λ k. rw k (omega arith)) (λ k. rw k (omega arith)))
+
+            abbrev clients-then : List Configuration
+            clients-then = set (s .clients) (d .client) (r .configuration)
+
+            pub led : (a : Automaton) → r ≡ takenOf a t c (d .symbol) (s .written) → zs ≡ turnedBuffer a t c (d .symbol) (s .written) (s .output)
+                → dayFrom a t (s .clients) (s .output) (s .written) (s .refused) (drop (s .i) vs)
+                ≡ dayFrom a t clients-then zs (r .written) (s .refused + r .refused) (drop (s .i + 1) vs)
+            unfolding takenOf turnedBuffer eventOf
+            led a er ez =
+                rw (er, ez, ed) (step-in a t vs (s .i) (s .clients) (s .output) (s .written) (s .refused) h (rw ed at b))
+
+            pub kept : r .written + heldInAll (g .automaton) clients-then ≤ (s .i + heldInAll (g .automaton) cs) + 1
+            unfolding takenOf
+            kept = rw own (turn-keeps (g .automaton) t (s .clients) (d .client) (d .symbol) (s .written) _ b (s .room))
+
+            unfoldable pub stand-in : length zs ≡ length (s .output) → Standing
+            stand-in long =
+                record {
+                  i = s .i + 1;
+                  written = r .written;
+                  refused = s .refused + r .refused;
+                  clients = clients-then;
+                  output = zs;
+                  upto = omega (arith, h);
+                  follows = λ a o e. s .follows a o e ∙ led a (f a o e .0) (f a o e .1);
+                  same-count = length-set (s .clients) (d .client) (r .configuration) ∙ s .same-count;
+                  same-size = long ∙ s .same-size;
+                  room = omega (arith, kept);
+                  counted = omega (arith, s .counted, refused-once);
+                }
+
+        -- of none
+        unfoldable pub stand-out : length (s .clients) ≤ d .client → Standing
+        unfolding eventOf
+        stand-out b =
+            record {
+              i = s .i + 1;
+              written = s .written;
+              refused = s .refused + 1;
+              clients = s .clients;
+              output = s .output;
+              upto = omega (arith, h);
+              follows = λ a o e.
+                  s .follows a o e ∙ step-out a t vs (s .i) (s .clients) (s .output) (s .written) (s .refused) h (rw ed at b);
+              same-count = s .same-count;
+              same-size = s .same-size;
+              room = omega (arith, s .room);
+              counted = omega (arith, s .counted);
+            }
+
+      -- the end
+      pub stand-ends : length vs ≤ s .i
+          → Days l classes next ranks t cs vs out (record { refusal = 0; length = s .written; refused = s .refused }) (s .clients) (s .output)
+      stand-ends h a o e =
+          let w = s .follows a o e ∙ step-end a t vs (s .i) (s .clients) (s .output) (s .written) (s .refused) h in
+          (rw w, ap (λ (x : Day). x .clients) (sym w), ap (λ (x : Day). x .out) (sym w))

@@ -1,0 +1,11 @@
+pub mod Sums
+pub mod Parts
+pub mod Fed
+pub mod Published
+pub mod Turning
+pub mod Linked
+pub mod Replied
+pub mod Meetings
+pub mod Demand3
+pub mod Ignored
+pub mod Flags

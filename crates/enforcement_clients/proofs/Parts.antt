@@ -1,0 +1,233 @@
+-- A client's part of a list of calls, over any automaton, table and configurations.
+use Prim.Native.Nat.{ℕ, _<_, _≤_}
+use mathlib.Core.Path.{_≡_, refl, sym, _∙_, ap, ap₂}
+use mathlib.Core.Bool.{true, false, cond, and-false}
+use mathlib.Core.List.{List, [], _∷_, _++_, append-nil}
+use lib.ListN.{length, getD, take, drop}
+use lib.Seq.{length-front}
+use lib.Dec.{eqb, ltb}
+use borrow.Author.Tests.{ltb-true, ltb-false, lt-ltb, le-ltb, ne-eqb, eq-eqb}
+use Rattle.base.proofs.Bools.{by, and-pair, clash}
+use Rattle.automaton.specs.declared.Automaton.{Automaton}
+use Rattle.configuration.specs.declared.Configuration.{Configuration}
+use Rattle.monitor_answers.specs.Turns.{turnNext}
+use Rattle.clients_answers.specs.Listed.{Stepping, outcomes, changedBy, eventsOf, partOf, alone, afterAlone}
+use Rattle.clients_answers.specs.Clients.{none, named, listRefusal, Outcome, monitored, receivedFor, receivedClients}
+use Rattle.clients_answers.specs.Clients.{runForRefusal, dayOutcomes, ranClients}
+use Rattle.clients_answers.specs.Claims.{outcomeOf}
+use Rattle.clients_answers.proofs.Isolation.{isolated, changed-count}
+use Rattle.clients_answers.proofs.Refusals.{list-clear}
+use Rattle.clients_answers.proofs.Parting.{part-none}
+use Rattle.clients_answers.proofs.Single.{events-alone}
+use Rattle.enforcement_clients.specs.ClientCalls.{ClientCall, receiveFor, runFor, lentBy, eventsBy, leaves, leavesAll}
+use Rattle.enforcement_clients.specs.ClientCalls.{wholeRefusal, reaches, ownBy, ownAll, watching, seenBy, seenAll}
+use Rattle.enforcement_clients.specs.Claims.{broughtTo, EventsBroughtAsWorded, BroughtAsAnswered, CallsNoninterference}
+use Rattle.enforcement_clients.proofs.Sums.{not-lent, was-lent, lent-at}
+
+-- a record alone, over one list of events and then another
+module _ {C O : Type 0} (k : Stepping C O) where
+  alone-append : (es fs : List ℕ) (c : C) → alone k c (es ++ fs) ≡ alone k c es ++ alone k (afterAlone k c es) fs
+  unfolding alone afterAlone
+  alone-append [] fs c = refl
+  alone-append (e ∷ es) fs c = ap (λ os. k .says c e ∷ os) (alone-append es fs (k .next c e))
+
+  after-append : (es fs : List ℕ) (c : C) → afterAlone k c (es ++ fs) ≡ afterAlone k (afterAlone k c es) fs
+  unfolding afterAlone
+  after-append [] fs c = refl
+  after-append (e ∷ es) fs c = after-append es fs (k .next c e)
+
+module _ (a : Automaton) (t : List ℕ) where
+  -- the lent part afterwards
+  abbrev pub lentAfter : List Configuration → ClientCall → List Configuration
+  lentAfter cs x =
+      let lent = take (lentBy x) cs in
+      cond (eqb (wholeRefusal a t cs x) 0) (changedBy (monitored a t) lent (eventsBy x)) lent
+
+  pub leaves-is : (cs : List Configuration) (x : ClientCall) → leaves a t cs x ≡ lentAfter cs x ++ drop (lentBy x) cs
+  unfolding leaves wholeRefusal lentBy eventsBy receivedClients ranClients
+  leaves-is cs (receiveFor n i e) = refl
+  leaves-is cs (runFor n vs out) = refl
+
+  pub after-count : (cs : List Configuration) (x : ClientCall) → length (lentAfter cs x) ≡ length (take (lentBy x) cs)
+  after-count cs x =
+      by (eqb (wholeRefusal a t cs x) 0)
+      (λ h. rw h (changed-count (monitored a t) (eventsBy x) (take (lentBy x) cs)))
+      (λ h. rw h)
+
+  pub leaves-count : (cs : List Configuration) (x : ClientCall) → length (leaves a t cs x) ≡ length cs
+  leaves-count cs x = rw (leaves-is cs x) (length-front cs (lentAfter cs x) (lentBy x) (after-count cs x))
+
+  -- whoever watches, the configurations go the same way
+  module _ {O : Type 0} (says : Configuration → ℕ → O) (absent : O) where
+    abbrev k : Stepping Configuration O
+    k = watching a t says absent
+
+    after-same : (es : List ℕ) (c : Configuration) → afterAlone (monitored a t) c es ≡ afterAlone k c es
+    unfolding afterAlone
+    after-same [] c = refl
+    after-same (e ∷ es) c = after-same es (turnNext a t c e)
+
+    -- one call
+    module _ (cs : List Configuration) (g : ℕ) (l : g < length cs) (x : ClientCall) where
+      abbrev lent : List Configuration
+      lent = take (lentBy x) cs
+
+      abbrev own : List ℕ
+      own = eventsOf g (eventsBy x)
+
+      -- that reaches the client
+      reached : reaches a t cs g x ≡ true → (eqb (wholeRefusal a t cs x) 0 ≡ true) × (g < length lent)
+      unfolding reaches
+      reached h = let p = and-pair _ _ h in (p .0, ltb-true g (length lent) (p .1))
+
+      went : (eqb (wholeRefusal a t cs x) 0 ≡ true) × (g < length lent) → getD (lentAfter cs x) g none ≡ afterAlone k (getD cs g none) own
+      went r =
+          rw (r .0)
+          (isolated (monitored a t) (eventsBy x) lent g (r .1) .last ∙
+          after-same own (getD lent g none) ∙
+          ap (λ c. afterAlone k c own) (lent-at (lentBy x) cs g none (r .1)))
+
+      unreached : reaches a t cs g x ≡ false → getD (lentAfter cs x ++ drop (lentBy x) cs) g none ≡ getD cs g none
+      unfolding reaches
+      unreached h =
+          by (ltb g (length lent))
+          (λ b.
+          let m = ltb-true g (length lent) b in
+          by (eqb (wholeRefusal a t cs x) 0)
+          (λ r. absurd (clash refl (rw (b, r) at h)))
+          (λ r. was-lent (lentBy x) cs (lentAfter cs x) g none (after-count cs x) m ∙ rw r (lent-at (lentBy x) cs g none m)))
+          (λ b. not-lent (lentBy x) cs (lentAfter cs x) g none (after-count cs x) (ltb-false g (length lent) b))
+
+      one-last : getD (leaves a t cs x) g none ≡ afterAlone k (getD cs g none) (ownBy a t cs g x)
+      unfolding ownBy afterAlone
+      one-last =
+          by (reaches a t cs g x)
+          (λ h.
+          let r = reached h in
+          rw (h, leaves-is cs x, was-lent (lentBy x) cs (lentAfter cs x) g none (after-count cs x) (r .1)) (went r))
+          (λ h. rw (h, leaves-is cs x) (unreached h))
+
+      one-seen : seenBy a t says absent cs g x ≡ alone k (getD cs g none) (ownBy a t cs g x)
+      unfolding seenBy ownBy alone
+      one-seen =
+          by (reaches a t cs g x)
+          (λ h.
+          let b = reached h .1 in
+          rw h (isolated k (eventsBy x) lent g b .brought ∙ ap (λ c. alone k c own) (lent-at (lentBy x) cs g none b)))
+          (λ h. rw h)
+
+    -- all calls
+    pub record Parted (cs : List Configuration) (g : ℕ) (xs : List ClientCall) : Type 0 where
+      pub seen : seenAll a t says absent cs g xs ≡ alone k (getD cs g none) (ownAll a t cs g xs)
+      pub last : getD (leavesAll a t cs xs) g none ≡ afterAlone k (getD cs g none) (ownAll a t cs g xs)
+
+    pub parted : (xs : List ClientCall) (cs : List Configuration) (g : ℕ) → g < length cs → Parted cs g xs
+    unfolding seenAll leavesAll ownAll alone afterAlone
+    parted [] cs g l = record { seen = refl; last = refl }
+    parted (x ∷ xs) cs g l =
+        let p = parted xs (leaves a t cs x) g (rw (leaves-count cs x) l) in
+        let here = one-last cs g l x in
+        let now = ownBy a t cs g x in
+        let rest = ownAll a t (leaves a t cs x) g xs in
+        let c = getD cs g none in
+        record {
+          seen = ap₂ _++_ (one-seen cs g l x) (p .seen ∙ ap (λ d. alone k d rest) here) ∙ sym (alone-append k now rest c);
+          last = p .last ∙ ap (λ d. afterAlone k d rest) here ∙ sym (after-append k now rest c);
+        }
+
+pub calls-noninterference : CallsNoninterference
+unfolding broughtTo
+calls-noninterference a t cs ds xs ys g h gl hl same events =
+    let p = parted a t (monitored a t .says) (monitored a t .absent) xs cs g gl in
+    let q = parted a t (monitored a t .says) (monitored a t .absent) ys ds h hl in
+    (p .seen ∙ rw (same, events) (sym (q .seen)), p .last ∙ rw (same, events) (sym (q .last)))
+
+-- one call after another
+module _ (a : Automaton) (t : List ℕ) (cs : List Configuration) (g : ℕ) where
+  own-one : (x : ClientCall) → ownAll a t cs g (x ∷ []) ≡ ownBy a t cs g x
+  unfolding ownAll
+  own-one x = append-nil (ownBy a t cs g x)
+
+  own-first : (x : ClientCall) (xs : List ClientCall) → ownAll a t cs g (x ∷ xs) ≡ ownAll a t cs g (x ∷ []) ++ ownAll a t (leaves a t cs x) g xs
+  unfolding ownAll
+  own-first x xs = rw (append-nil (ownBy a t cs g x))
+
+  -- a call that reaches the client, one that is refused, and one that does not lend it
+  reaching : (x : ClientCall) → wholeRefusal a t cs x ≡ 0 → g < length (take (lentBy x) cs) → reaches a t cs g x ≡ true
+  unfolding reaches
+  reaching x z l = rw (z, lt-ltb g (length (take (lentBy x) cs)) l)
+
+  own-reached : (x : ClientCall) → wholeRefusal a t cs x ≡ 0 → g < length (take (lentBy x) cs) → ownAll a t cs g (x ∷ []) ≡ eventsOf g (eventsBy x)
+  unfolding ownBy
+  own-reached x z l = own-one x ∙ rw (reaching x z l)
+
+  own-refused : (x : ClientCall) → (wholeRefusal a t cs x ≡ 0 → ⊥) → ownAll a t cs g (x ∷ []) ≡ []
+  unfolding ownBy reaches
+  own-refused x z = own-one x ∙ rw (ne-eqb (wholeRefusal a t cs x) 0 z)
+
+  own-not-lent : (x : ClientCall) → length (take (lentBy x) cs) ≤ g → ownAll a t cs g (x ∷ []) ≡ []
+  unfolding ownBy reaches
+  own-not-lent x l =
+      own-one x ∙ rw (le-ltb g (length (take (lentBy x) cs)) l, and-false (eqb (wholeRefusal a t cs x) 0))
+
+  own-other : (n i e : ℕ) → (i ≡ g → ⊥) → ownAll a t cs g (receiveFor n i e ∷ []) ≡ []
+  unfolding ownBy eventsBy eventsOf
+  own-other n i e z =
+      own-one (receiveFor n i e) ∙ rw (ne-eqb i g z) (by (reaches a t cs g (receiveFor n i e)) (λ h. rw h) (λ h. rw h))
+
+pub events-brought-as-worded : EventsBroughtAsWorded
+unfolding ownAll wholeRefusal lentBy eventsBy eventsOf
+events-brought-as-worded a t cs g =
+    record {
+      nothing = refl;
+      first = own-first a t cs g;
+      own-event = λ n e z l. own-reached a t cs g (receiveFor n g e) z l ∙ rw (eq-eqb g g refl);
+      other-event = own-other a t cs g;
+      day = λ n vs out z l. own-reached a t cs g (runFor n vs out) z l;
+      refused-event = λ n i e z. own-refused a t cs g (receiveFor n i e) z;
+      refused-day = λ n vs out z. own-refused a t cs g (runFor n vs out) z;
+      not-lent = own-not-lent a t cs g;
+    }
+
+module _ (a : Automaton) (t : List ℕ) (cs : List Configuration) (g : ℕ) where
+  abbrev seen : ClientCall → List Outcome
+  seen x = seenBy a t (monitored a t .says) (monitored a t .absent) cs g x
+
+  brought-one : (x : ClientCall) → broughtTo a t cs g (x ∷ []) ≡ seen x
+  unfolding broughtTo seenAll
+  brought-one x = append-nil (seen x)
+
+  brought-first : (x : ClientCall) (xs : List ClientCall)
+      → broughtTo a t cs g (x ∷ xs) ≡ broughtTo a t cs g (x ∷ []) ++ broughtTo a t (leaves a t cs x) g xs
+  unfolding broughtTo seenAll
+  brought-first x xs = rw (append-nil (seen x))
+
+  brought-event : (n e : ℕ) → listRefusal a t (length (take n cs)) ≡ 0 → g < length (take n cs)
+      → broughtTo a t cs g (receiveFor n g e ∷ []) ≡ outcomeOf (receivedFor a t (take n cs) g e) ∷ []
+  unfolding seenBy wholeRefusal lentBy eventsBy outcomes partOf
+  brought-event n e z l =
+      let alone-is = events-alone a t (take n cs) (list-clear a t (length (take n cs)) z) g e l in
+      let answered = alone-is .answer in
+      brought-one (receiveFor n g e) ∙
+      rw (reaching a t cs g (receiveFor n g e) z l, eq-eqb g g refl, answered)
+      (ap (λ (o : Outcome). o ∷ []) (alone-is .inside))
+
+  brought-day : (n : ℕ) (vs out : List ℕ) → g < length (take n cs)
+      → broughtTo a t cs g (runFor n vs out ∷ []) ≡ partOf g (named vs) (dayOutcomes a t (take n cs) vs out)
+  unfolding seenBy reaches wholeRefusal lentBy eventsBy dayOutcomes partOf
+  brought-day n vs out l =
+      brought-one (runFor n vs out) ∙
+      rw (lt-ltb g (length (take n cs)) l)
+      (by (eqb (runForRefusal a t (take n cs) vs out) 0)
+      (λ h. rw h)
+      (λ h. rw h (sym (part-none g (named vs)))))
+
+pub brought-as-answered : BroughtAsAnswered
+unfolding broughtTo seenAll
+brought-as-answered a t cs g =
+    record {
+      nothing = refl;
+      first = brought-first a t cs g;
+      event = brought-event a t cs g;
+      day = brought-day a t cs g;
+    }

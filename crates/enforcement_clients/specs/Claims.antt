@@ -1,0 +1,158 @@
+-- Demand 3 over a list of clients (document 02, Card 1), and noninterference over lists of calls.
+use Prim.Native.Nat.{ℕ, _<_, _≤_}
+use mathlib.Core.Path.{_≡_}
+use mathlib.Core.Bool.{true}
+use mathlib.Core.List.{List, [], _∷_, _++_, map}
+use lib.ListN.{length, getD, take}
+use Rattle.base.specs.All.{AllOf}
+use Rattle.automaton.specs.declared.Automaton.{Automaton}
+use Rattle.automaton.specs.Automaton.{valid}
+use Rattle.solver_sets.specs.Table.{short, Solved}
+use Rattle.solver_answers.specs.Solving.{solveRefusal, solvedTable}
+use Rattle.configuration.specs.declared.Configuration.{Configuration}
+use Rattle.configuration.specs.Configuration.{initialOf, consistent}
+use Rattle.monitor_answers.specs.Answers.{isWinning, status}
+use Rattle.enforcement.specs.Store.{Store, empty, storeAll}
+use Rattle.enforcement.specs.Calls.{receiveCall, configurationAfter, configurationAt}
+use Rattle.enforcement.specs.Moments.{Moment, emittedAt, moments}
+use Rattle.enforcement.specs.Claims.{Enforced, winningAfter, Stays, LongerIsLost}
+use Rattle.enforcement.specs.Answers.{SaysWinning, SameBits}
+use Rattle.clients_answers.specs.Listed.{eventsOf, partOf}
+use Rattle.clients_answers.specs.Clients.{none, initialClients, named, listRefusal, Outcome, monitored, emittedOf}
+use Rattle.clients_answers.specs.Clients.{receivedFor, receivedClients, runForRefusal, dayOutcomes}
+use Rattle.clients_answers.specs.Claims.{outcomeOf}
+use Rattle.enforcement_clients.specs.ClientCalls.{ClientCall, receiveFor, runFor, lentBy, leaves, replies, leavesAll}
+use Rattle.enforcement_clients.specs.ClientCalls.{ownAll, seenAll, momentsOf}
+use Rattle.enforcement_clients.specs.Functions.{unfed, expectedAll, fedAll, eventsTo, refusalsOf, configurationsAt}
+
+-- The events that a list of calls brings a client, in words: of each call that no row refuses as a
+-- whole and that lends the client's configuration, the client's own events, in their order.
+pub record EventsBrought (a : Automaton) (t : List ℕ) (cs : List Configuration) (g : ℕ) : Type 0 where
+  pub nothing : ownAll a t cs g [] ≡ []
+  pub first : (x : ClientCall) (xs : List ClientCall)
+      → ownAll a t cs g (x ∷ xs) ≡ ownAll a t cs g (x ∷ []) ++ ownAll a t (leaves a t cs x) g xs
+  pub own-event : (n e : ℕ) → listRefusal a t (length (take n cs)) ≡ 0 → g < length (take n cs)
+      → ownAll a t cs g (receiveFor n g e ∷ []) ≡ e ∷ []
+  pub other-event : (n i e : ℕ) → (i ≡ g → ⊥) → ownAll a t cs g (receiveFor n i e ∷ []) ≡ []
+  pub day : (n : ℕ) (vs out : List ℕ) → runForRefusal a t (take n cs) vs out ≡ 0 → g < length (take n cs)
+      → ownAll a t cs g (runFor n vs out ∷ []) ≡ eventsOf g (named vs)
+  pub refused-event : (n i e : ℕ) → (listRefusal a t (length (take n cs)) ≡ 0 → ⊥) → ownAll a t cs g (receiveFor n i e ∷ []) ≡ []
+  pub refused-day : (n : ℕ) (vs out : List ℕ) → (runForRefusal a t (take n cs) vs out ≡ 0 → ⊥)
+      → ownAll a t cs g (runFor n vs out ∷ []) ≡ []
+  pub not-lent : (x : ClientCall) → length (take (lentBy x) cs) ≤ g → ownAll a t cs g (x ∷ []) ≡ []
+
+abbrev pub EventsBroughtAsWorded : Type 0
+EventsBroughtAsWorded = (a : Automaton) (t : List ℕ) (cs : List Configuration) (g : ℕ) → EventsBrought a t cs g
+
+-- what a client's events bring it in a list of calls, one by one
+unfoldable pub broughtTo : Automaton → List ℕ → List Configuration → ℕ → List ClientCall → List Outcome
+broughtTo a t = seenAll a t (monitored a t .says) (monitored a t .absent)
+
+-- It is what the calls answer: to an event the row and the symbols of its answer; in a day the
+-- client's part of what the day's events bring.
+pub record BroughtAnswered (a : Automaton) (t : List ℕ) (cs : List Configuration) (g : ℕ) : Type 0 where
+  pub nothing : broughtTo a t cs g [] ≡ []
+  pub first : (x : ClientCall) (xs : List ClientCall)
+      → broughtTo a t cs g (x ∷ xs) ≡ broughtTo a t cs g (x ∷ []) ++ broughtTo a t (leaves a t cs x) g xs
+  pub event : (n e : ℕ) → listRefusal a t (length (take n cs)) ≡ 0 → g < length (take n cs)
+      → broughtTo a t cs g (receiveFor n g e ∷ []) ≡ outcomeOf (receivedFor a t (take n cs) g e) ∷ []
+  pub day : (n : ℕ) (vs out : List ℕ) → g < length (take n cs)
+      → broughtTo a t cs g (runFor n vs out ∷ []) ≡ partOf g (named vs) (dayOutcomes a t (take n cs) vs out)
+
+abbrev pub BroughtAsAnswered : Type 0
+BroughtAsAnswered = (a : Automaton) (t : List ℕ) (cs : List Configuration) (g : ℕ) → BroughtAnswered a t cs g
+
+-- Two lists of calls, events and days mixed, over one automaton and table (of any contents), that
+-- bring a client with the same configuration the same events: each of them brings the same row and
+-- emits the same, and the last configuration is the same.
+abbrev pub CallsNoninterference : Type 0
+CallsNoninterference =
+    (a : Automaton) (t : List ℕ) (cs ds : List Configuration) (xs ys : List ClientCall) (g h : ℕ)
+    → g < length cs → h < length ds → getD cs g none ≡ getD ds h none → ownAll a t cs g xs ≡ ownAll a t ds h ys
+    → (broughtTo a t cs g xs ≡ broughtTo a t ds h ys)
+    × (getD (leavesAll a t cs xs) g none ≡ getD (leavesAll a t ds ys) h none)
+
+-- Nothing of a table is read but its bits below n at each buffer's S: over any table, any
+-- configurations and any calls.
+abbrev pub ClientsOthersIgnored : Type 0
+ClientsOthersIgnored =
+    (a : Automaton) (t u : List ℕ) → short a t ≡ short a u → SameBits a t u → (cs : List Configuration) (calls : List ClientCall)
+    → (replies a t cs calls ≡ replies a u cs calls) × (leavesAll a t cs calls ≡ leavesAll a u cs calls)
+
+-- What is said of a client's winning, from any configurations. Over any table: what an accepted
+-- event's answer says is what `status` answers for the configuration that it leaves.
+abbrev pub ClientsFlagIsStatus : Type 0
+ClientsFlagIsStatus =
+    (a : Automaton) (t : List ℕ) (cs : List Configuration) (g e : ℕ) → receivedFor a t cs g e .refusal ≡ 0
+    → status a t (getD (receivedClients a t cs g e) g none) ≡ record { refusal = 0; winning = receivedFor a t cs g e .winning }
+
+-- Over a solved table: once `status` answers winning for a client, it does so after any calls on
+-- the list, and so does each event of that client that is accepted then.
+pub record ClientSaysWinning (a : Automaton) (t : List ℕ) (cs : List Configuration) (g : ℕ) : Type 0 where
+  pub told : status a t (getD cs g none) .winning ≡ true
+  pub flagged : (e : ℕ) → receivedFor a t cs g e .refusal ≡ 0 → receivedFor a t cs g e .winning ≡ true
+
+abbrev pub ClientsFlagStays : Type 0
+ClientsFlagStays =
+    (a : Automaton) (t : List ℕ) → Solved a t → (cs : List Configuration) (g : ℕ) → g < length cs
+    → status a t (getD cs g none) .winning ≡ true
+    → (calls : List ClientCall) → ClientSaysWinning a t (leavesAll a t cs calls) g
+
+-- A client, from the initial configurations over a solved table: its function has been fed its own
+-- events and nothing else; each of them is refused by the function's row or by none; what the
+-- client received, end to end, is its function's output, and its configuration the one that its
+-- function stands for; its accepted events, as they are met in the list, are those of the same
+-- events brought to a monitor of its own; and so all of demand 3 holds of them: accepted alone,
+-- winning stays, the rival.
+pub record OwnEnforced (a : Automaton) (t : List ℕ) (count : ℕ) (calls : List ClientCall) (g : ℕ) : Type 0 where
+  pub function : fedAll a count unfed calls g ≡ storeAll a empty (eventsTo a count unfed g calls)
+  pub brought : ownAll a t (initialClients a count) g calls ≡ eventsTo a count unfed g calls
+  pub rows : map (λ (x : Outcome). x .refusal) (broughtTo a t (initialClients a count) g calls)
+      ≡ refusalsOf a empty (eventsTo a count unfed g calls)
+  pub received : emittedOf (broughtTo a t (initialClients a count) g calls) ≡ fedAll a count unfed calls g .output
+  pub last : getD (leavesAll a t (initialClients a count) calls) g none ≡ configurationAt a (fedAll a count unfed calls g)
+  pub as-alone : getD (leavesAll a t (initialClients a count) calls) g none
+      ≡ configurationAfter a t (initialOf a) (map receiveCall (eventsTo a count unfed g calls))
+  pub last-consistent : consistent a (getD (leavesAll a t (initialClients a count) calls) g none) ≡ true
+  pub same-moments : momentsOf a t (initialClients a count) g calls
+      ≡ moments a t (initialOf a) (map receiveCall (eventsTo a count unfed g calls))
+  pub enforced : Enforced a t (map receiveCall (eventsTo a count unfed g calls))
+
+-- The same said of the client's accepted events as they are met in the list, s being its function
+-- and c its configuration in the end.
+pub record MetEnforced (a : Automaton) (t : List ℕ) (ms : List Moment) (s : Store) (c : Configuration) : Type 0 where
+  -- fed the accepted events alone, the function ends with the same output and buffer
+  pub alone : storeAll a empty (map (λ (m : Moment). m .event) ms) ≡ s
+  pub emitted : emittedAt a t ms ≡ s .output
+  -- once winning, winning after each later one, and the output then leads to an accepting state
+  pub initially : isWinning a t (initialOf a) ≡ true → Stays a t ms
+  pub later : (before : List Moment) (m : Moment) (after : List Moment) → ms ≡ before ++ m ∷ after
+      → winningAfter a t m ≡ true → Stays a t (m ∷ after)
+  -- .. and so the calls on its configuration say
+  pub said-initially : isWinning a t (initialOf a) ≡ true → SaysWinning a t c
+  pub said : (before : List Moment) (m : Moment) (after : List Moment) → ms ≡ before ++ m ∷ after
+      → winningAfter a t m ≡ true → SaysWinning a t c
+  -- every strategy that emits a longer front part at one of them is lost
+  pub strategies : AllOf (LongerIsLost a t) ms
+
+-- Demand 3 over any list of calls on a list of clients: every call's whole reply is the published
+-- functions'; the whole list is what they stand for; and each client is enforced.
+pub record ClientsEnforced (a : Automaton) (t : List ℕ) (count : ℕ) (calls : List ClientCall) : Type 0 where
+  pub each-reply : replies a t (initialClients a count) calls ≡ expectedAll a count unfed calls
+  pub last-clients : leavesAll a t (initialClients a count) calls ≡ configurationsAt a count (fedAll a count unfed calls)
+  pub own : (g : ℕ) → g < count → OwnEnforced a t count calls g
+  pub met : (g : ℕ) → g < count
+      → MetEnforced a t (momentsOf a t (initialClients a count) g calls) (fedAll a count unfed calls g)
+      (getD (leavesAll a t (initialClients a count) calls) g none)
+
+-- for any count, also one that row 20 refuses
+abbrev pub ClientsDemand3 : Type 0
+ClientsDemand3 =
+    (a : Automaton) (t : List ℕ) → valid a ≡ true → Solved a t → (count : ℕ) (calls : List ClientCall)
+    → ClientsEnforced a t count calls
+
+-- over what the solver leaves
+abbrev pub ClientsDemand3Solved : Type 0
+ClientsDemand3Solved =
+    (a : Automaton) (t : List ℕ) → solveRefusal a t ≡ 0 → (count : ℕ) (calls : List ClientCall)
+    → ClientsEnforced a (solvedTable a t) count calls

@@ -1,0 +1,4 @@
+pub mod ClientCalls
+pub mod Functions
+pub mod Published
+pub mod Claims

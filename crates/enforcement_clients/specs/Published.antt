@@ -1,0 +1,104 @@
+-- The published functions in document 02's words: what they answer to a call that lends n, and
+-- what each of them is after it, from what it was before. (What one function makes of its own
+-- event is `FollowsPublished`, of crate `enforcement`.) Of the calls over the list only how a
+-- day's numbers are read is used (`named`, pinned by `NumbersAsWorded`).
+use Prim.Native.Nat.{ℕ, suc, _+_, _<_, _≤_}
+use mathlib.Core.Path.{_≡_}
+use mathlib.Core.Logic.{_⊎_, _↔_}
+use mathlib.Core.Bool.{false}
+use mathlib.Core.List.{List, [], _∷_, _++_}
+use lib.ListN.{length, drop, replicate}
+use Rattle.base.specs.Pad.{pad}
+use Rattle.automaton.specs.declared.Automaton.{Automaton}
+use Rattle.monitor_rule.specs.Step.{bySets}
+use Rattle.monitor_rule.specs.Claims.{Unknown, Full, Admitted}
+use Rattle.enforcement.specs.Store.{stateOf, store}
+use Rattle.enforcement.specs.Calls.{since}
+use Rattle.clients_answers.specs.Clients.{named}
+use Rattle.clients_answers.specs.Claims.{WrongCount, RightCount, sumBelow}
+use Rattle.enforcement_clients.specs.ClientCalls.{receiveFor, runFor, receive, run, refusalIn}
+use Rattle.enforcement_clients.specs.Functions.{Functions, fedOwn, fedIn, putOut, refusedDay, expectedIn}
+
+-- One event: k is how many the call asks to lend, n how many it lends, i the client, e the symbol.
+pub record EventAsPublished (a : Automaton) (n : ℕ) (ss : Functions) (k i e : ℕ) : Type 0 where
+  -- row 20, a list of none or over 500; row 19, a client's number not below the count; then 14 and
+  -- 15, by the client's own buffer
+  pub row-20 : (refusalIn (expectedIn a n ss (receiveFor k i e)) ≡ 20) ↔ WrongCount n
+  pub row-19 : (refusalIn (expectedIn a n ss (receiveFor k i e)) ≡ 19) ↔ (RightCount n × (n ≤ i))
+  pub row-14 : (refusalIn (expectedIn a n ss (receiveFor k i e)) ≡ 14) ↔ (RightCount n × (i < n) × Unknown a e)
+  pub row-15 : (refusalIn (expectedIn a n ss (receiveFor k i e)) ≡ 15)
+      ↔ (RightCount n × (i < n) × Full a (length (ss i .buffer)) e)
+  pub accepted : (refusalIn (expectedIn a n ss (receiveFor k i e)) ≡ 0)
+      ↔ (RightCount n × (i < n) × Admitted a (length (ss i .buffer)) e)
+  -- it is fed to its client's function and to no other; a call that 20 refuses, or 19, brings none
+  -- of them an event
+  pub fed : RightCount n → i < n → fedIn a n ss (receiveFor k i e) i ≡ store a (ss i) e
+  pub others : (g : ℕ) → (g ≡ i → ⊥) → fedIn a n ss (receiveFor k i e) g ≡ ss g
+  pub wrong-count : (g : ℕ) → WrongCount n → fedIn a n ss (receiveFor k i e) g ≡ ss g
+  pub stranger : (g : ℕ) → n ≤ i → fedIn a n ss (receiveFor k i e) g ≡ ss g
+  -- the answer to an accepted one: what the client's function put out then, and whether its state
+  -- lies in S of its buffer
+  pub answer : RightCount n → i < n → Admitted a (length (ss i .buffer)) e
+      → let z = store a (ss i) e in
+      expectedIn a n ss (receiveFor k i e)
+      ≡ receive (record {
+        refusal = 0;
+        emitted = pad 7 (since (ss i) z);
+        count = length (since (ss i) z);
+        winning = bySets a (z .buffer) (stateOf a z);
+      })
+  -- and to a refused one
+  pub refused : (m : ℕ) → (m ≡ 0 → ⊥) → refusalIn (expectedIn a n ss (receiveFor k i e)) ≡ m
+      → expectedIn a n ss (receiveFor k i e)
+      ≡ receive (record { refusal = m; emitted = replicate 7 0; count = 0; winning = false })
+
+-- Events with their clients' numbers, one after the other: each is fed to its client's function
+-- and to no other, one for a client that is not there to none; what the functions put out stands
+-- in the order of the events; those are counted that a row refuses, 19 among them.
+pub record EventsAsPublished (a : Automaton) (n : ℕ) (ss : Functions) : Type 0 where
+  pub none-fed : (g : ℕ) → fedOwn a n ss [] g ≡ ss g
+  pub first-fed : (x : ℕ × ℕ) (xs : List (ℕ × ℕ)) (g : ℕ)
+      → fedOwn a n ss (x ∷ xs) g ≡ fedOwn a n (fedOwn a n ss (x ∷ [])) xs g
+  pub own-fed : (i e : ℕ) → i < n → fedOwn a n ss ((i, e) ∷ []) i ≡ store a (ss i) e
+  pub other-kept : (i e g : ℕ) → (g ≡ i → ⊥) → fedOwn a n ss ((i, e) ∷ []) g ≡ ss g
+  pub stranger-kept : (i e g : ℕ) → n ≤ i → fedOwn a n ss ((i, e) ∷ []) g ≡ ss g
+  pub none-put : putOut a n ss [] ≡ []
+  pub own-put : (i e : ℕ) (xs : List (ℕ × ℕ)) → i < n
+      → putOut a n ss ((i, e) ∷ xs) ≡ since (ss i) (store a (ss i) e) ++ putOut a n (fedOwn a n ss ((i, e) ∷ [])) xs
+  pub stranger-put : (i e : ℕ) (xs : List (ℕ × ℕ)) → n ≤ i → putOut a n ss ((i, e) ∷ xs) ≡ putOut a n ss xs
+  pub none-counted : refusedDay a n ss [] ≡ 0
+  pub counted : (i e : ℕ) (xs : List (ℕ × ℕ)) → i < n → Unknown a e ⊎ Full a (length (ss i .buffer)) e
+      → refusedDay a n ss ((i, e) ∷ xs) ≡ suc (refusedDay a n ss xs)
+  pub not-counted : (i e : ℕ) (xs : List (ℕ × ℕ)) → i < n → Admitted a (length (ss i .buffer)) e
+      → refusedDay a n ss ((i, e) ∷ xs) ≡ refusedDay a n (fedOwn a n ss ((i, e) ∷ [])) xs
+  pub stranger-counted : (i e : ℕ) (xs : List (ℕ × ℕ)) → n ≤ i
+      → refusedDay a n ss ((i, e) ∷ xs) ≡ suc (refusedDay a n ss xs)
+
+-- A day: its events' numbers vs and the output lent to it.
+pub record DayAsPublished (a : Automaton) (n : ℕ) (ss : Functions) (k : ℕ) (vs out : List ℕ) : Type 0 where
+  -- row 20; row 16, the output shorter than all the day's events and all that the functions hold
+  pub row-20 : (refusalIn (expectedIn a n ss (runFor k vs out)) ≡ 20) ↔ WrongCount n
+  pub row-16 : (refusalIn (expectedIn a n ss (runFor k vs out)) ≡ 16)
+      ↔ (RightCount n × (length out < length vs + sumBelow n (λ g. length (ss g .buffer))))
+  pub accepted : (refusalIn (expectedIn a n ss (runFor k vs out)) ≡ 0)
+      ↔ (RightCount n × (length vs + sumBelow n (λ g. length (ss g .buffer)) ≤ length out))
+  -- refused, it brings none of them an event, writes nothing and counts nothing
+  pub refused : (m : ℕ) → (m ≡ 0 → ⊥) → refusalIn (expectedIn a n ss (runFor k vs out)) ≡ m
+      → ((g : ℕ) → fedIn a n ss (runFor k vs out) g ≡ ss g)
+      × (expectedIn a n ss (runFor k vs out) ≡ run (record { refusal = m; length = 0; refused = 0 }) out)
+  -- else all its events, in order
+  pub fed : refusalIn (expectedIn a n ss (runFor k vs out)) ≡ 0
+      → (g : ℕ) → fedIn a n ss (runFor k vs out) g ≡ fedOwn a n ss (named vs) g
+  pub answer : refusalIn (expectedIn a n ss (runFor k vs out)) ≡ 0
+      → let new = putOut a n ss (named vs) in
+      expectedIn a n ss (runFor k vs out)
+      ≡ run (record { refusal = 0; length = length new; refused = refusedDay a n ss (named vs) }) (new ++ drop (length new) out)
+
+pub record ClientsAsPublished (a : Automaton) (n : ℕ) (ss : Functions) : Type 0 where
+  pub event : (k i e : ℕ) → EventAsPublished a n ss k i e
+  pub events : EventsAsPublished a n ss
+  pub day : (k : ℕ) (vs out : List ℕ) → DayAsPublished a n ss k vs out
+
+-- so it is of every automaton, however many are lent and whatever the functions hold
+abbrev pub ClientsFollowPublished : Type 0
+ClientsFollowPublished = (a : Automaton) (n : ℕ) (ss : Functions) → ClientsAsPublished a n ss

@@ -1,0 +1,5 @@
+pub mod Computing
+pub mod ListInstances
+pub mod CallInstances
+pub mod PublishedInstances
+pub mod LayoutInstances

@@ -1,0 +1,4 @@
+pub mod ListStatements
+pub mod CallStatements
+pub mod PublishedStatements
+pub mod LayoutStatements

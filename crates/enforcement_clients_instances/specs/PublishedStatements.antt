@@ -1,0 +1,80 @@
+-- The claim on the published functions of a list of clients at sheet W, hypotheses met.
+use Prim.Native.Nat.{ℕ, zero, suc, _<_, _≤_}
+use mathlib.Core.Path.{_≡_}
+use mathlib.Core.List.{List, [], _∷_}
+use lib.ListN.{length}
+use Rattle.enforcement_cases.specs.Cases.{automatonW}
+use Rattle.enforcement_instances.specs.Statements.{filled}
+use Rattle.enforcement_instances.specs.MonitorStatements.{storeOf, twoHeld}
+use Rattle.clients_answers.specs.Claims.{WrongCount}
+use Rattle.enforcement_clients.specs.ClientCalls.{receiveFor, runFor, receive, refusalIn}
+use Rattle.enforcement_clients.specs.Functions.{Functions, fedOwn, fedIn, putOut, refusedDay, expectedIn}
+use Rattle.enforcement_clients_instances.specs.ListStatements.{sent, answerFor}
+use Rattle.enforcement_clients_instances.specs.CallStatements.{refused, ran}
+
+-- client 0's function holds two Pages; every other put out Sign and holds nothing
+abbrev pub family : Functions
+family zero = twoHeld
+family (suc g) = storeOf (0 ∷ []) []
+
+-- the rows by which they refuse an event, and a day, where n are lent
+abbrev pub rowOf : ℕ → ℕ → ℕ → ℕ
+rowOf n i e = refusalIn (expectedIn automatonW n family (receiveFor n i e))
+
+abbrev pub dayRowOf : ℕ → List ℕ → List ℕ → ℕ
+dayRowOf n vs out = refusalIn (expectedIn automatonW n family (runFor n vs out))
+
+-- one event
+pub record EventFields : Type 0 where
+  pub row-20 : rowOf 0 0 0 ≡ 20
+  pub row-20-many : rowOf 501 0 0 ≡ 20
+  pub row-19 : rowOf 2 2 9 ≡ 19
+  pub row-14 : rowOf 2 0 4 ≡ 14
+  pub row-15 : rowOf 2 0 3 ≡ 15
+  pub accepted : rowOf 2 1 3 ≡ 0
+  pub last-of-500 : rowOf 500 499 2 ≡ 0
+  -- and the other way
+  pub only-20 : (n i e : ℕ) → rowOf n i e ≡ 20 → WrongCount n
+  pub only-19 : (n i e : ℕ) → rowOf n i e ≡ 19 → n ≤ i
+  pub only-14 : (n i e : ℕ) → rowOf n i e ≡ 14 → 4 ≤ e
+  pub only-15 : (n i e : ℕ) → rowOf n i e ≡ 15 → 2 ≤ length (family i .buffer)
+  pub only-0 : (n i : ℕ) → rowOf n i 2 ≡ 0 → length (family i .buffer) < 2
+  -- client 1's Page is held, and client 0's function is what it was; so is each where the call is
+  -- refused by 20 or 19
+  pub fed : fedIn automatonW 2 family (receiveFor 2 1 2) 1 ≡ storeOf (0 ∷ []) (2 ∷ [])
+  pub others : fedIn automatonW 2 family (receiveFor 2 1 2) 0 ≡ twoHeld
+  pub wrong-count : fedIn automatonW 501 family (receiveFor 501 1 2) 1 ≡ storeOf (0 ∷ []) []
+  pub stranger : fedIn automatonW 2 family (receiveFor 2 2 2) 2 ≡ storeOf (0 ∷ []) []
+  -- client 1's Receipt goes at once; client 0's finds the buffer full
+  pub answer : expectedIn automatonW 2 family (receiveFor 2 1 3) ≡ receive (answerFor (3 ∷ []))
+  pub answer-refused : expectedIn automatonW 2 family (receiveFor 2 0 3) ≡ refused 15
+
+-- Page of client 1, Sign of a client 5, Receipt of client 1, Page of client 0, and of client 1 a
+-- kind that there is not
+abbrev pub xs : List (ℕ × ℕ)
+xs = (1, 2) ∷ (5, 0) ∷ (1, 3) ∷ (0, 2) ∷ (1, 4) ∷ []
+
+-- events one after the other: client 1's Page and Receipt go together; three are refused
+pub record EventsFields : Type 0 where
+  pub none-fed : fedOwn automatonW 2 family [] 0 ≡ twoHeld
+  pub fed : fedOwn automatonW 2 family ((0, 2) ∷ (5, 0) ∷ (1, 2) ∷ []) 1 ≡ storeOf (0 ∷ []) (2 ∷ [])
+  pub fed-other : fedOwn automatonW 2 family ((0, 2) ∷ (5, 0) ∷ (1, 2) ∷ []) 0 ≡ twoHeld
+  pub put : putOut automatonW 2 family xs ≡ 2 ∷ 3 ∷ []
+  pub counted : refusedDay automatonW 2 family xs ≡ 3
+
+-- a day of Page and Receipt of client 1, with two held by client 0's function
+pub record DayFields : Type 0 where
+  pub row-20 : dayRowOf 0 (sent 1 2 ∷ []) [] ≡ 20
+  pub row-20-many : dayRowOf 501 (sent 1 2 ∷ []) [] ≡ 20
+  pub row-16 : dayRowOf 2 (sent 1 2 ∷ sent 1 3 ∷ []) (filled 3 9) ≡ 16
+  pub accepted : dayRowOf 2 (sent 1 2 ∷ sent 1 3 ∷ []) (filled 4 9) ≡ 0
+  -- and the other way
+  pub only-20 : (n : ℕ) (vs out : List ℕ) → dayRowOf n vs out ≡ 20 → WrongCount n
+  pub only-16 : (out : List ℕ) → dayRowOf 2 (sent 1 2 ∷ sent 1 3 ∷ []) out ≡ 16 → length out < 4
+  pub only-0 : (out : List ℕ) → dayRowOf 2 (sent 1 2 ∷ sent 1 3 ∷ []) out ≡ 0 → 4 ≤ length out
+  -- refused by 16
+  pub refused-fed : (g : ℕ) → fedIn automatonW 2 family (runFor 2 (sent 1 2 ∷ sent 1 3 ∷ []) (filled 3 9)) g ≡ family g
+  pub refused : expectedIn automatonW 2 family (runFor 2 (sent 1 2 ∷ sent 1 3 ∷ []) (filled 3 9)) ≡ ran 16 0 0 (9 ∷ 9 ∷ 9 ∷ [])
+  -- accepted
+  pub fed : fedIn automatonW 2 family (runFor 2 (sent 1 2 ∷ sent 1 3 ∷ []) (filled 4 9)) 1 ≡ storeOf (0 ∷ 2 ∷ 3 ∷ []) []
+  pub answer : expectedIn automatonW 2 family (runFor 2 (sent 1 2 ∷ sent 1 3 ∷ []) (filled 4 9)) ≡ ran 0 2 0 (2 ∷ 3 ∷ 9 ∷ 9 ∷ [])
