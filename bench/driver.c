@@ -704,16 +704,22 @@ static void paired_events(void)
     }
 }
 
+static void measure_any(const char *name)
+{
+    any_events();
+    measure(name);
+}
+
 /* Random sheets with 32 states and 16 kinds, k of them controllable, and a hold of b. */
-static void measure_random(unsigned k, unsigned b, const unsigned *seeds, unsigned many)
+static void measure_random(void (*measure_sheet)(const char *), unsigned k, unsigned b, const unsigned *seeds,
+                           unsigned many)
 {
     char name[32];
     for (unsigned i = 0; i < many; i++) {
         seed = 1000 + seeds[i];
         make_record(record, 32, 16, b, k, 1);
-        any_events();
         snprintf(name, sizeof name, "k %u B %u, %u", k, b, seeds[i]);
-        measure(name);
+        measure_sheet(name);
     }
 }
 
@@ -783,16 +789,9 @@ static void measure_clients(const char *name, work make_events)
     fflush(stdout);
 }
 
-/* The random sheets of measure_random. */
-static void measure_random_clients(unsigned k, unsigned b, const unsigned *seeds, unsigned many)
+static void measure_any_clients(const char *name)
 {
-    char name[32];
-    for (unsigned i = 0; i < many; i++) {
-        seed = 1000 + seeds[i];
-        make_record(record, 32, 16, b, k, 1);
-        snprintf(name, sizeof name, "k %u B %u, %u", k, b, seeds[i]);
-        measure_clients(name, any_client_events);
-    }
+    measure_clients(name, any_client_events);
 }
 
 /* Sheet W of document 01, and the seeds of the random sheets. */
@@ -806,12 +805,12 @@ static void time_clients(void)
          "             |    ns    /C |    ns    /C |    ns    /C |    ns    /C | put out refused");
     seed = 1;
     jaxhophasi_read(w, sizeof w, record, place);
-    measure_clients("W", any_client_events);
+    measure_any_clients("W");
     measure_clients("W, paired", paired_client_events);
-    measure_random_clients(0, 6, seeds, 1);
-    measure_random_clients(1, 5, seeds, 1);
-    measure_random_clients(8, 2, seeds, 2);
-    measure_random_clients(8, 6, seeds, 3);
+    measure_random(measure_any_clients, 0, 6, seeds, 1);
+    measure_random(measure_any_clients, 1, 5, seeds, 1);
+    measure_random(measure_any_clients, 8, 2, seeds, 2);
+    measure_random(measure_any_clients, 8, 6, seeds, 3);
 }
 
 static int time_all(void)
@@ -828,15 +827,14 @@ static int time_all(void)
          "             | places         us    /C  /C-r |    ns    /C  /C-v |    ns    /C | put out refused");
     seed = 1;
     jaxhophasi_read(w, sizeof w, record, place);
-    any_events();
-    measure("W");
+    measure_any("W");
     paired_events();
     measure("W, paired");
-    measure_random(0, 6, seeds, 3);
-    measure_random(1, 5, seeds, 3);
+    measure_random(measure_any, 0, 6, seeds, 3);
+    measure_random(measure_any, 1, 5, seeds, 3);
     for (unsigned b = 1; b < 5; b++)
-        measure_random(8, b, seeds, 3);
-    measure_random(8, 6, seeds, 5);
+        measure_random(measure_any, 8, b, seeds, 3);
+    measure_random(measure_any, 8, 6, seeds, 5);
     time_clients();
     return 0;
 }

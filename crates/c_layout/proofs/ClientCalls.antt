@@ -1,7 +1,5 @@
 -- What the calls over a list of clients leave, as they answer.
-use Prim.Native.Nat.{ℕ}
 use mathlib.Core.Path.{_≡_, refl, _∙_, ap}
-use mathlib.Core.List.{List}
 use Rattle.clients_answers.specs.Clients.{receiveForRefusal, ranFor}
 use Rattle.clients_answers.proofs.Kept.{others-kept}
 use Rattle.clients_answers.proofs.Worded.{client-rows-as-worded}

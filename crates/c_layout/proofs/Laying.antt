@@ -11,8 +11,6 @@ use Rattle.base.specs.Pad.{pad}
 use Rattle.base.proofs.Padding.{pad-sets, pad-stored}
 use Rattle.automaton.specs.declared.Automaton.{Automaton}
 use Rattle.configuration.specs.declared.Configuration.{Configuration}
-use Rattle.monitor_answers.specs.declared.Received.{Received}
-use Rattle.monitor_answers.specs.declared.Ran.{Ran}
 use Rattle.c_layout.specs.Offsets.{maxStates, maxSymbols, maxNext, maxCapacity, maxEmitted}
 use Rattle.c_layout.specs.Offsets.{automatonSize, automatonStates, automatonSymbols, automatonCapacity, automatonInitial}
 use Rattle.c_layout.specs.Offsets.{automatonClasses, automatonAccepting, automatonNext}

@@ -114,7 +114,7 @@ fn passed_over(c: Configuration, at: usize) -> Taken
 
 // One event of a day, for any configuration: rows 13 to 15, and the step of an accepted one, which
 // writes from a place on. (The step is inlined here, as it is into the loop over one
-// configuration's events: with a call of `monitor_loop::turn` a day took up to 1.3 times as long.)
+// configuration's events: with a call of `monitor_loop::turn` a day took 1.20 to 1.38 of C.)
 pub fn take<'a>(
     limits: Limits,
     classes: &'a [u8; 16],

@@ -1,18 +1,18 @@
 -- What is said of a client's winning, from any configurations.
-use Prim.Native.Nat.{ℕ, _<_}
+use Prim.Native.Nat.{ℕ}
 use mathlib.Core.Path.{_≡_, refl, sym, _∙_, ap}
 use mathlib.Core.List.{List, [], _∷_, map}
-use lib.ListN.{length, getD}
+use lib.ListN.{getD}
 use Rattle.automaton.specs.declared.Automaton.{Automaton}
 use Rattle.configuration.specs.declared.Configuration.{Configuration}
-use Rattle.monitor_answers.specs.Answers.{status, received}
+use Rattle.monitor_answers.specs.Answers.{received}
 use Rattle.monitor_answers.proofs.Refusals.{clear}
 use Rattle.monitor_answers.proofs.Turns.{Opened}
 use Rattle.enforcement.specs.Calls.{receiveCall, reply, handedBack, configurationAfter}
 use Rattle.enforcement.specs.Answers.{SaysWinning}
 use Rattle.enforcement.proofs.Answers.{status-refusal, flag-is-status, flag-stays}
 use Rattle.clients_answers.specs.Listed.{afterAlone}
-use Rattle.clients_answers.specs.Clients.{none, monitored, receiveForRefusal, receivedFor, receivedClients}
+use Rattle.clients_answers.specs.Clients.{none, monitored, receivedFor}
 use Rattle.clients_answers.specs.Claims.{AsReceived}
 use Rattle.clients_answers.proofs.Single.{same-next, events-alone}
 use Rattle.clients_answers.proofs.Worded.{client-rows-as-worded}

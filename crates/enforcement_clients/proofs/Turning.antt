@@ -1,20 +1,17 @@
 -- One event for a configuration that a function stands for, over a solved table.
 use Prim.Native.Nat.{ℕ}
 use mathlib.Core.Path.{_≡_, sym, _∙_, ap}
-use mathlib.Core.Bool.{true, false}
+use mathlib.Core.Bool.{true}
 use mathlib.Core.List.{List, [], _∷_}
-use lib.ListN.{length}
 use lib.Dec.{eqb}
-use borrow.Author.Tests.{eqb-true, eqb-false, le-ltb}
+use borrow.Author.Tests.{eqb-true, eqb-false}
 use Rattle.base.proofs.Bools.{by}
 use Rattle.automaton.specs.declared.Automaton.{Automaton}
 use Rattle.automaton.specs.Automaton.{valid}
-use Rattle.solver_sets.specs.Table.{short, Solved}
+use Rattle.solver_sets.specs.Table.{Solved}
 use Rattle.solver_sets.proofs.Total.{total}
 use Rattle.configuration.specs.declared.Configuration.{Configuration}
-use Rattle.configuration.specs.Configuration.{positionOf}
-use Rattle.monitor_rule.specs.Step.{bySets, byTable, effectFrom, eventRefusal}
-use Rattle.monitor_rule.proofs.Effects.{effect-agrees}
+use Rattle.monitor_rule.specs.Step.{bySets, byTable, eventRefusal}
 use Rattle.monitor_rule.proofs.Solved.{solved-agree}
 use Rattle.monitor_answers.specs.Answers.{isWinning}
 use Rattle.monitor_answers.specs.Turns.{turnRefusal, turnEmitted, turnNext}

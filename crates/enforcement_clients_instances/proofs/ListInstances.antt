@@ -8,12 +8,10 @@ use native.Mathlib.Omega.{arith}
 use lib.ListN.{length, getD, take, drop, length-replicate, getD-replicate}
 use Rattle.base.specs.Pad.{pad}
 use Rattle.base.proofs.Bools.{either}
-use Rattle.automaton.specs.Automaton.{valid}
 use Rattle.solver_sets.specs.Table.{short, table}
 use Rattle.solver_sets.proofs.Tables.{short-as-worded}
 use Rattle.configuration.specs.declared.Configuration.{Configuration}
 use Rattle.configuration.specs.Configuration.{configuration, consistent, initialOf}
-use Rattle.monitor_answers.specs.declared.Received.{Received}
 use Rattle.monitor_answers.specs.Answers.{tableRows, callRows, receiveRefusal, refusedEvent, received}
 use Rattle.enforcement_cases.specs.Cases.{automatonV, automatonW, answer}
 use Rattle.enforcement_instances.specs.Statements.{filled, tableW, at}
@@ -22,7 +20,6 @@ use Rattle.enforcement_instances.proofs.Sheets.{valid-w, buffers-w}
 use Rattle.enforcement_instances.proofs.MonitorInstances.{invalid-wide}
 use Rattle.clients_answers.specs.Listed.{eventsOf, partOf, alone, afterAlone, outcome, outcomes, changedBy}
 use Rattle.clients_answers.specs.Clients.{none, named, Outcome, initialClients, monitored, emittedOf, heldIn, heldInAll}
-use Rattle.clients_answers.specs.declared.ReceivedFor.{ReceivedFor}
 use Rattle.clients_answers.specs.declared.RanFor.{RanFor}
 use Rattle.clients_answers.specs.Clients.{receiveForRefusal, refusedFor, receivedFor, answerOf, receivedClients}
 use Rattle.clients_answers.specs.Clients.{runForRefusal, dayOutcomes, ranFor, ranClients, ranForBuffer, refusedRunFor}

@@ -1,13 +1,11 @@
 -- The claims on what the calls over a list of clients leave through the interface for C, at W's
 -- bytes and the list of two.
-use Prim.Native.Nat.{ℕ, _+_}
+use Prim.Native.Nat.{_+_}
 use mathlib.Core.Path.{_≡_}
-use mathlib.Core.Bool.{true}
 use mathlib.Core.List.{List, [], _∷_}
 use lib.ListN.{length, replicate}
 use Rattle.configuration.specs.declared.Configuration.{Configuration}
 use Rattle.configuration.specs.Configuration.{configuration}
-use Rattle.enforcement_cases.specs.Cases.{automatonW}
 use Rattle.enforcement_instances.specs.Statements.{filled, tableW, at}
 use Rattle.enforcement_instances.specs.LayoutStatements.{recordW, anyBytes}
 use Rattle.clients_answers.specs.declared.RanFor.{RanFor}

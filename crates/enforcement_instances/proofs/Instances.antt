@@ -14,7 +14,7 @@ use Rattle.base.specs.Masks.{has, mask}
 use Rattle.varint.specs.Varint.{groups, read}
 use Rattle.varint.proofs.Trips.{reads-back, fewest}
 use Rattle.automaton.specs.Arrays.{controllableIn}
-use Rattle.automaton.specs.Automaton.{controllable, controllables, accepts, step, shaped}
+use Rattle.automaton.specs.Automaton.{controllable, controllables, accepts, step}
 use Rattle.automaton_format.proofs.Trips.{written-reads-back, read-again}
 use Rattle.automaton_format.proofs.Faults.{refused-inside}
 use Rattle.solver_sets.specs.Sets.{acceptingSet, admits, stays, refine, settle, settled, setsOf, emptySets, into, setsFor}
@@ -30,14 +30,14 @@ use Rattle.enforcement_cases.specs.Cases.{bytesV, automatonV, automatonW}
 use Rattle.game.specs.Game.{tooLargeIn, gameRefusal}
 use Rattle.game.proofs.Worded.{as-worded}
 use Rattle.game.proofs.Agreement.{agrees, verdict-agrees}
-use Rattle.configuration.specs.Configuration.{heldEvents, controllableSymbol, placeStands, bufferStands, consistentIn, configuration}
+use Rattle.configuration.specs.Configuration.{heldEvents, controllableSymbol, placeStands, bufferStands, consistentIn}
 use Rattle.text.specs.Decimal.{ascii}
 use Rattle.notation.proofs.Laws.{never-longer, room-in-text, read-small, cases-read}
 use Rattle.notation_unpack.proofs.Trips.{line-reads-back, packs-shortest, line-bounded, packed-reads-back, cases-unpacked}
 use Rattle.day_transcript.proofs.Cases.{long-refused}
 use Rattle.day_transcript.proofs.Bounds.{transcript-bounded}
 use Rattle.enforcement_instances.proofs.Sheets.{valid-w, read-v, valid-v, solves-w, buffers-w, table-w, solved-w}
-use Rattle.enforcement_instances.specs.Statements.{filled, paddedV, bytesPadded, tableW, onePage, Encodings, Solving, Judging, textV, Texts}
+use Rattle.enforcement_instances.specs.Statements.{filled, paddedV, bytesPadded, onePage, Encodings, Solving, Judging, textV, Texts}
 
 two-bytes : Rattle.varint.specs.Claims.AreBytes (128 ∷ 0 ∷ [])
 two-bytes zero h = omega arith

@@ -5,7 +5,7 @@ use mathlib.Core.Bool.{Bool}
 use mathlib.Core.List.{List, _++_}
 use native.Mathlib.Omega.{arith}
 use lib.Dec.{eqb}
-use borrow.Author.Tests.{eqb-true, eqb-false}
+use borrow.Author.Tests.{eqb-true}
 use Rattle.base.specs.Rows.{first}
 use Rattle.base.proofs.Bools.{by}
 use Rattle.base.proofs.Refusals.{first-clear}
@@ -18,7 +18,7 @@ use Rattle.monitor_rule.specs.Step.{byTable, eventRows, eventRefusal}
 use Rattle.monitor_rule.proofs.Effects.{OccursAt, effect-length}
 use Rattle.monitor_answers.specs.Answers.{callRows, callRefusal, receiveRefusal, received, runRefusal}
 use Rattle.monitor_answers.specs.Claims.{EmittedPadded}
-use Rattle.monitor_answers.proofs.Refusals.{Clear, clear, place, rows-pass, rows-stand}
+use Rattle.monitor_answers.proofs.Refusals.{Clear, clear, place, rows-pass}
 
 module _ (a : Automaton) (t : List ℕ) (c : Configuration) where
   -- where no row stands, none of the first rows does
