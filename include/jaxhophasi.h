@@ -3,10 +3,10 @@
  *
  * Link target/staticlib/libjaxhophasi.a, which `rt staticlib jaxhophasi` writes (Linux on x86-64).
  *
- * Every function returns the number of refusal, 0 where nothing is refused. A refused call writes
- * nothing but its answer, in which every count, length and yes-or-no is 0; the lent carried state
- * or list of them, table and output keep their contents. A refused read leaves an all-zero record
- * and the place of the fault.
+ * Every function returns the number of refusal, 0 where nothing is refused. In a refused call's
+ * answer every count, length and yes-or-no is 0; the lent carried state or list of them, table and
+ * output keep their contents (the same bytes may be stored again). A refused read leaves an
+ * all-zero record and the place of the fault.
  *
  * What is lent: a fixed array is a plain pointer to as many bytes as its constant says; a list is
  * a pointer and then the number of its elements. A list may be of any length and all of it may

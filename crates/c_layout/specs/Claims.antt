@@ -16,7 +16,8 @@ use Rattle.monitor_answers.specs.declared.Ran.{Ran}
 use Rattle.monitor_answers.specs.Answers.{received, ran}
 use Rattle.clients_answers.specs.declared.ReceivedFor.{ReceivedFor}
 use Rattle.clients_answers.specs.declared.RanFor.{RanFor}
-use Rattle.clients_answers.specs.Clients.{receiveForRefusal, receivedClients, runForRefusal, ranClients, ranForBuffer}
+use Rattle.clients_answers.specs.Clients.{receiveForRefusal, receivedFor, receivedClients}
+use Rattle.clients_answers.specs.Clients.{runForRefusal, ranFor, ranClients, ranForBuffer}
 use Rattle.c_layout.specs.Offsets.{maxStates, maxSymbols, maxCapacity, maxEmitted}
 use Rattle.c_layout.specs.Offsets.{automatonSize, automatonStates, automatonSymbols, automatonCapacity, automatonInitial}
 use Rattle.c_layout.specs.Offsets.{automatonClasses, automatonAccepting, automatonNext}
@@ -120,16 +121,21 @@ pub record LeftAsAnswered : Type 0 where
   pub run-configuration : (r : Ran) (out : List ℕ) → ranLeft r out .configuration ≡ configurationBytes (r .configuration)
   pub run-output : (r : Ran) (out : List ℕ) → ranLeft r out .output ≡ out
 
--- over a list of clients: the refusal, the list and a day's output as they are
+-- over a list of clients: the refusal, the list and a day's output as they are, the answer at the
+-- header's places
 pub record LeftForAsAnswered (record-bytes t : List ℕ) (cs : List Configuration) : Type 0 where
   pub event-refusal : (i e : ℕ) → receiveForLeaves record-bytes t cs i e .refusal
       ≡ receiveForRefusal (automatonOf record-bytes) t cs i e
   pub event-list : (i e : ℕ) → receiveForLeaves record-bytes t cs i e .configurations
       ≡ receivedClients (automatonOf record-bytes) t cs i e
+  pub event-answer : (i e : ℕ) → let r = receivedFor (automatonOf record-bytes) t cs i e in
+      ReceivedIn (r .emitted) (r .count) (r .winning) (receiveForLeaves record-bytes t cs i e .answer)
   pub run-refusal : (vs out : List ℕ) → runForLeaves record-bytes t cs vs out .refusal
       ≡ runForRefusal (automatonOf record-bytes) t cs vs out
   pub run-list : (vs out : List ℕ) → runForLeaves record-bytes t cs vs out .configurations
       ≡ ranClients (automatonOf record-bytes) t cs vs out
+  pub run-answer : (vs out : List ℕ) → let r = ranFor (automatonOf record-bytes) t cs vs out in
+      RanIn (r .length) (r .refused) (runForLeaves record-bytes t cs vs out .answer)
   pub run-output : (vs out : List ℕ) → runForLeaves record-bytes t cs vs out .output
       ≡ ranForBuffer (automatonOf record-bytes) t cs vs out
   -- refused, everything lent stays, and of the answer every byte is 0

@@ -37,8 +37,8 @@ module _ {C O : Type 0} (k : Stepping C O) where
       let own : getD (changed k cs (x .0) (x .1)) g (k .none) ≡ k .next (getD cs g (k .none)) (x .1) = rw e (changed-own cs g (x .1) l) in
       let here : outcome k cs (x .0) (x .1) ≡ k .says (getD cs g (k .none)) (x .1) = rw e (outcome-own cs g (x .1) l) in
       record {
-        brought = rw (h, here) (ap (λ (os : List O). k .says (getD cs g (k .none)) (x .1) ∷ os)
-            (p .brought ∙ ap (λ (c : C). alone k c (eventsOf g xs)) own));
+        part = rw (h, here) (ap (λ (os : List O). k .says (getD cs g (k .none)) (x .1) ∷ os)
+            (p .part ∙ ap (λ (c : C). alone k c (eventsOf g xs)) own));
         last = rw h (p .last ∙ ap (λ (c : C). afterAlone k c (eventsOf g xs)) own);
         count = p .count ∙ changed-length cs (x .0) (x .1);
       }
@@ -50,14 +50,14 @@ module _ {C O : Type 0} (k : Stepping C O) where
   isolated-other cs x xs g n h p =
       let kept = changed-other cs (x .0) (x .1) g (λ q. n (sym q)) in
       record {
-        brought = rw h (p .brought ∙ ap (λ (c : C). alone k c (eventsOf g xs)) kept);
+        part = rw h (p .part ∙ ap (λ (c : C). alone k c (eventsOf g xs)) kept);
         last = rw h (p .last ∙ ap (λ (c : C). afterAlone k c (eventsOf g xs)) kept);
         count = p .count ∙ changed-length cs (x .0) (x .1);
       }
 
   pub isolated : (xs : List (ℕ × ℕ)) (cs : List C) (g : ℕ) → g < length cs → Isolated k cs xs g
   unfolding partOf outcomes eventsOf alone changedBy afterAlone
-  isolated [] cs g l = record { brought = refl; last = refl; count = refl }
+  isolated [] cs g l = record { part = refl; last = refl; count = refl }
   isolated (x ∷ xs) cs g l =
       let more = isolated xs (changed k cs (x .0) (x .1)) g (rw (changed-length cs (x .0) (x .1)) l) in
       by (eqb (x .0) g)

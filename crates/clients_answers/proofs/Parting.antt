@@ -46,8 +46,8 @@ noninterference a t cs ds vs ws out room g h long gl hl same events n16 m16 =
     let q = isolated (monitored a t) (named ws) ds h hl in
     record {
       refusal = ours ∙ both ∙ sym theirs;
-      brought = by (eqb (listRefusal a t (length ds)) 0)
-          (λ z. rw (ours, both, theirs, z) (p .brought ∙ (rw (same, events) (sym (q .brought)))))
+      part = by (eqb (listRefusal a t (length ds)) 0)
+          (λ z. rw (ours, both, theirs, z) (p .part ∙ (rw (same, events) (sym (q .part)))))
           (λ z. rw (ours, both, theirs, z) (part-none g (named vs) ∙ sym (part-none h (named ws))));
       last = by (eqb (listRefusal a t (length ds)) 0)
           (λ z. rw (ours, both, theirs, z) (p .last ∙ (rw (same, events) (sym (q .last)))))

@@ -30,7 +30,7 @@ use Rattle.clients_answers.specs.Clients.{runForRefusal, dayOutcomes, re
 pub record SameForClient (a : Automaton) (t : List ℕ) (cs : List Configuration) (vs out : List ℕ) (g : ℕ)
     (ds : List Configuration) (ws out′ : List ℕ) (h : ℕ) : Type 0 where
   pub refusal : runForRefusal a t cs vs out ≡ runForRefusal a t ds ws out′
-  pub brought : partOf g (named vs) (dayOutcomes a t cs vs out) ≡ partOf h (named ws) (dayOutcomes a t ds ws out′)
+  pub part : partOf g (named vs) (dayOutcomes a t cs vs out) ≡ partOf h (named ws) (dayOutcomes a t ds ws out′)
   pub last : getD (ranClients a t cs vs out) g none ≡ getD (ranClients a t ds ws out′) h none
 
 abbrev pub Noninterference : Type 0

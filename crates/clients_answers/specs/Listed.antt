@@ -34,7 +34,7 @@ unfoldable pub changedBy : {C O : Type 0} → Stepping C O → List C → List (
 changedBy k cs [] = cs
 changedBy k cs (x ∷ xs) = changedBy k (changed k cs (x .0) (x .1)) xs
 
--- the record g's own events among them, and what they brought
+-- the record g's own events among them, and its part of what came of all
 unfoldable pub eventsOf : ℕ → List (ℕ × ℕ) → List ℕ
 eventsOf g [] = []
 eventsOf g (x ∷ xs) = cond (eqb (x .0) g) (x .1 ∷ eventsOf g xs) (eventsOf g xs)
@@ -56,7 +56,7 @@ afterAlone k c (e ∷ es) = afterAlone k (k .next c e) es
 -- Whatever the step, the list and the events: the part of a record is what it would be alone, over
 -- its own events.
 pub record Isolated {C O : Type 0} (k : Stepping C O) (cs : List C) (xs : List (ℕ × ℕ)) (g : ℕ) : Type 0 where
-  pub brought : partOf g xs (outcomes k cs xs) ≡ alone k (getD cs g (k .none)) (eventsOf g xs)
+  pub part : partOf g xs (outcomes k cs xs) ≡ alone k (getD cs g (k .none)) (eventsOf g xs)
   pub last : getD (changedBy k cs xs) g (k .none) ≡ afterAlone k (getD cs g (k .none)) (eventsOf g xs)
   pub count : length (changedBy k cs xs) ≡ length cs
 
@@ -64,8 +64,8 @@ abbrev pub Isolation : Type 1
 Isolation =
     (C O : Type 0) (k : Stepping C O) (cs : List C) (xs : List (ℕ × ℕ)) (g : ℕ) → g < length cs → Isolated k cs xs g
 
--- A record's own events in words: those that name it, in their order; and its part of what all
--- events brought is what those did, in the same order.
+-- A record's own events in words: those that name it, in their order; and its part of what came of
+-- all events is what came of those, in the same order.
 pub record OwnEvents (O : Type 0) (g : ℕ) : Type 0 where
   pub no-event : eventsOf g [] ≡ []
   pub own : (e : ℕ) (xs : List (ℕ × ℕ)) → eventsOf g ((g, e) ∷ xs) ≡ e ∷ eventsOf g xs

@@ -11,10 +11,11 @@ use Rattle.solver_sets.specs.Table.{Solved}
 use Rattle.configuration.specs.declared.Configuration.{Configuration}
 use Rattle.clients_answers.specs.Clients.{initialClients}
 use Rattle.enforcement_clients.specs.ClientCalls.{ClientCall, receiveFor, runFor, lentBy, ClientReply, receive, run}
-use Rattle.enforcement_clients.specs.ClientCalls.{reply, leaves, leavesAll}
+use Rattle.enforcement_clients.specs.ClientCalls.{replies, leavesAll}
 use Rattle.enforcement_clients.specs.Claims.{ClientsEnforced}
 use Rattle.c_layout.specs.Layout.{automatonOf, configurationOf}
-use Rattle.c_layout.specs.Calls.{initialBytes, LeftFor, receivedForLeft, ranForLeft, receiveForLeaves, runForLeaves}
+use Rattle.c_layout.specs.Answers.{receivedForBytes, ranForBytes}
+use Rattle.c_layout.specs.Calls.{initialBytes, LeftFor, receiveForLeaves, runForLeaves}
 
 -- what a call leaves over the lent record, the table and as many of the caller's configurations as
 -- it lends: by the definitions that the contracts of `jaxhophasi_receive_for` and
@@ -27,31 +28,36 @@ leavesFor record-bytes t cs (runFor n vs out) = runForLeaves record-bytes t (tak
 unfoldable pub nextFor : List ℕ → List ℕ → List Configuration → ClientCall → List Configuration
 nextFor record-bytes t cs x = leavesFor record-bytes t cs x .configurations ++ drop (lentBy x) cs
 
--- one after the other, each over the configurations that the last one left
-unfoldable pub leavesForAll : List ℕ → List ℕ → List Configuration → List ClientCall → List LeftFor
-leavesForAll record-bytes t cs [] = []
-leavesForAll record-bytes t cs (x ∷ xs) =
-    leavesFor record-bytes t cs x ∷ leavesForAll record-bytes t (nextFor record-bytes t cs x) xs
+-- what is left beside the list: the refusal, and the bytes lent for the answer and for the output
+pub record BesideList : Type 0 where
+  pub refusal : ℕ
+  pub answer : List ℕ
+  pub output : List ℕ
 
--- and the configurations after all
+abbrev pub besideList : LeftFor → BesideList
+besideList x = record { refusal = x .refusal; answer = x .answer; output = x .output }
+
+-- one call after the other, each over the configurations that the last one left: what is left
+-- beside them, and the configurations after all
+unfoldable pub besideAll : List ℕ → List ℕ → List Configuration → List ClientCall → List BesideList
+besideAll record-bytes t cs [] = []
+besideAll record-bytes t cs (x ∷ xs) =
+    besideList (leavesFor record-bytes t cs x) ∷ besideAll record-bytes t (nextFor record-bytes t cs x) xs
+
 unfoldable pub nextForAll : List ℕ → List ℕ → List Configuration → List ClientCall → List Configuration
 nextForAll record-bytes t cs [] = cs
 nextForAll record-bytes t cs (x ∷ xs) = nextForAll record-bytes t (nextFor record-bytes t cs x) xs
 
--- a reply of the calls by value, as it lies in bytes, beside the lent part of the list
-unfoldable pub laidFor : ClientReply → List Configuration → LeftFor
-laidFor (receive x) cs = receivedForLeft x cs
-laidFor (run x out) cs = ranForLeft x cs out
+-- a reply of the calls by value, as it lies in bytes
+unfoldable pub laidFor : ClientReply → BesideList
+laidFor (receive x) = record { refusal = x .refusal; answer = receivedForBytes x; output = [] }
+laidFor (run x out) = record { refusal = x .refusal; answer = ranForBytes x; output = out }
 
-unfoldable pub laidForAll : Automaton → List ℕ → List Configuration → List ClientCall → List LeftFor
-laidForAll a t cs [] = []
-laidForAll a t cs (x ∷ xs) =
-    laidFor (reply a t cs x) (take (lentBy x) (leaves a t cs x)) ∷ laidForAll a t (leaves a t cs x) xs
-
--- It is that list of calls by value, laid out, over any record, table and configurations ..
+-- It is that list of calls by value, laid out, over any record, table and configurations: the
+-- replies; and the configurations after all calls, so, the calls being any, after each ..
 pub record ListByValue (record-bytes t : List ℕ) (cs : List Configuration) (calls : List ClientCall) : Type 0 where
-  pub left : leavesForAll record-bytes t cs calls ≡ laidForAll (automatonOf record-bytes) t cs calls
-  pub last : nextForAll record-bytes t cs calls ≡ leavesAll (automatonOf record-bytes) t cs calls
+  pub each-reply : besideAll record-bytes t cs calls ≡ map laidFor (replies (automatonOf record-bytes) t cs calls)
+  pub list : nextForAll record-bytes t cs calls ≡ leavesAll (automatonOf record-bytes) t cs calls
 
 abbrev pub ClientsByValue : Type 0
 ClientsByValue =

@@ -25,7 +25,7 @@ use Rattle.enforcement.proofs.Demand3.{demand3}
 use Rattle.clients_answers.specs.Clients.{none, initialClients, Outcome, monitored, emittedOf}
 use Rattle.enforcement_clients.specs.ClientCalls.{ClientCall, leavesAll, meetings, momentsOf}
 use Rattle.enforcement_clients.specs.Functions.{Functions, unfed, fedAll, eventsTo, refusalsOf}
-use Rattle.enforcement_clients.specs.Claims.{broughtTo, OwnEnforced, MetEnforced, ClientsDemand3, ClientsDemand3Solved}
+use Rattle.enforcement_clients.specs.Claims.{outcomesTo, OwnEnforced, MetEnforced, ClientsDemand3, ClientsDemand3Solved}
 use Rattle.enforcement_clients.proofs.Parts.{parted}
 use Rattle.enforcement_clients.proofs.Fed.{function-is}
 use Rattle.enforcement_clients.proofs.Replied.{Together, from-first, all-linked}
@@ -82,14 +82,14 @@ module _ (a : Automaton) (t : List ℕ) (v : valid a ≡ true) (sv : Solved a t)
     met-is =
         rw (parted a t {O = Configuration × ℕ} (λ c e. (c, e)) (none, 0) calls cs g below .seen, k .own g, begins) (moments-are a t v sv own)
 
-    received-is : emittedOf (broughtTo a t cs g calls) ≡ ss g .output
-    unfolding broughtTo
+    received-is : emittedOf (outcomesTo a t cs g calls) ≡ ss g .output
+    unfolding outcomesTo
     received-is =
         rw (parted a t (monitored a t .says) (monitored a t .absent) calls cs g below .seen, k .own g, begins, function, initially a)
         (sym (output-is a t v sv own empty (initial-sound a v)))
 
-    rows-is : map (λ (x : Outcome). x .refusal) (broughtTo a t cs g calls) ≡ refusalsOf a empty own
-    unfolding broughtTo
+    rows-is : map (λ (x : Outcome). x .refusal) (outcomesTo a t cs g calls) ≡ refusalsOf a empty own
+    unfolding outcomesTo
     rows-is =
         rw (parted a t (monitored a t .says) (monitored a t .absent) calls cs g below .seen, k .own g, begins, initially a)
         (rows-are a t v sv own empty (initial-sound a v))

@@ -14,7 +14,7 @@ use Rattle.enforcement.proofs.Alone.{store-append}
 use Rattle.clients_answers.specs.Listed.{eventsOf}
 use Rattle.clients_answers.specs.Claims.{WrongCount, RightCount}
 use Rattle.enforcement_clients.specs.ClientCalls.{ClientCall, eventsBy}
-use Rattle.enforcement_clients.specs.Functions.{Functions, fedOwn, badCount, refusalOf, fedIn, strangers, refusedDay}
+use Rattle.enforcement_clients.specs.Functions.{Functions, fedOwn, badCount, refusalOf, fedIn, absentees, refusedDay}
 use Rattle.enforcement_clients.specs.Functions.{lentOf, fed, fedAll, eventsIn, eventsTo}
 use Rattle.enforcement_clients.proofs.Sums.{sum-same, sum-more, sum-none}
 
@@ -67,8 +67,8 @@ module _ (a : Automaton) (n : ℕ) (ss : Functions) where
       (λ h. fed-above ((i, e) ∷ []) g (ltb-false g n h))
 
   -- one for a client that is not there: for none
-  pub fed-stranger : (i e g : ℕ) → n ≤ i → fedOwn a n ss ((i, e) ∷ []) g ≡ ss g
-  fed-stranger i e g l =
+  pub fed-absent : (i e g : ℕ) → n ≤ i → fedOwn a n ss ((i, e) ∷ []) g ≡ ss g
+  fed-absent i e g l =
       by (eqb g i)
       (λ q. let z = eqb-true g i q in fed-above ((i, e) ∷ []) g (omega arith))
       (λ q. fed-other i e g (eqb-false g i q))
@@ -92,30 +92,30 @@ module _ (a : Automaton) (n : ℕ) (ss : Functions) (i e : ℕ) (xs : List (ℕ 
   unfolding eventsOf refusedOf
   own-refuses l = rw (fed-itself a n ss i e l, eq-eqb i i refl)
 
-  no-stranger : i < n → strangers n ((i, e) ∷ xs) ≡ strangers n xs
-  unfolding strangers
-  no-stranger l = rw (lt-leb n i l) (omega arith)
+  no-absent : i < n → absentees n ((i, e) ∷ xs) ≡ absentees n xs
+  unfolding absentees
+  no-absent l = rw (lt-leb n i l) (omega arith)
 
-  one-stranger : n ≤ i → strangers n ((i, e) ∷ xs) ≡ 1 + strangers n xs
-  unfolding strangers
-  one-stranger l = rw (le-leb n i l)
+  one-absent : n ≤ i → absentees n ((i, e) ∷ xs) ≡ 1 + absentees n xs
+  unfolding absentees
+  one-absent l = rw (le-leb n i l)
 
   pub day-counts : i < n → refusedDay a n ss ((i, e) ∷ xs) ≡ cond (eqb (refusalAt a (ss i) e) 0) 0 1 + refusedDay a n next xs
   unfolding refusedDay
   day-counts l =
       let s = sum-more n i (cond (eqb (refusalAt a (ss i) e) 0) 0 1)
       (λ g. refusedOf a (ss g) (eventsOf g ((i, e) ∷ xs))) (λ g. refusedOf a (next g) (eventsOf g xs)) l (λ g b m. other-refuses g m) (own-refuses l) in
-      omega (arith, s, no-stranger l)
+      omega (arith, s, no-absent l)
 
-  pub day-stranger : n ≤ i → refusedDay a n ss ((i, e) ∷ xs) ≡ 1 + refusedDay a n next xs
+  pub day-absent : n ≤ i → refusedDay a n ss ((i, e) ∷ xs) ≡ 1 + refusedDay a n next xs
   unfolding refusedDay
-  day-stranger l =
+  day-absent l =
       let s = sum-same n (λ g. refusedOf a (ss g) (eventsOf g ((i, e) ∷ xs))) (λ g. refusedOf a (next g) (eventsOf g xs))
       (λ g b. other-refuses g (λ q. absurd (omega arith))) in
-      omega (arith, s, one-stranger l)
+      omega (arith, s, one-absent l)
 
 pub day-none : (a : Automaton) (n : ℕ) (ss : Functions) → refusedDay a n ss [] ≡ 0
-unfolding refusedDay strangers eventsOf refusedOf
+unfolding refusedDay absentees eventsOf refusedOf
 day-none a n ss = omega (arith, sum-none n)
 
 -- a call

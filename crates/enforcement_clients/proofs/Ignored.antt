@@ -83,8 +83,8 @@ module _ (a : Automaton) (t u : List ℕ) (s : short a t ≡ short a u) (b : Sam
     clear-same : ListClear a t n → ListClear a u n
     clear-same k = record { record-valid = k .record-valid; table-long = sym s ∙ k .table-long; count-right = k .count-right }
 
-    stranger-answer : (w : List ℕ) → ListClear a w n → n ≤ i → receivedFor a w cs i e ≡ refusedFor 19
-    stranger-answer w k l = event-refused a w cs 19 (λ z. omega arith) i e (client-rows-as-worded a w cs .event i e .row-19 .1 (k, l)) .0
+    absent-answer : (w : List ℕ) → ListClear a w n → n ≤ i → receivedFor a w cs i e ≡ refusedFor 19
+    absent-answer w k l = event-refused a w cs 19 (λ z. omega arith) i e (client-rows-as-worded a w cs .event i e .row-19 .1 (k, l)) .0
 
     refused-answer : (w : List ℕ) (m : ℕ) → listRefusal a w n ≡ m → (m ≡ 0 → ⊥) → receivedFor a w cs i e ≡ refusedFor m
     unfolding receiveForRefusal
@@ -102,7 +102,7 @@ module _ (a : Automaton) (t u : List ℕ) (s : short a t ≡ short a u) (b : Sam
         events-alone a t cs k i e l .answer ∙
         ap answerOf (others-ignored a t u s b (getD cs i none) .receives e) ∙
         sym (events-alone a u cs (clear-same k) i e l .answer))
-        (λ g. let l = ltb-false i n g in stranger-answer t k l ∙ sym (stranger-answer u (clear-same k) l)))
+        (λ g. let l = ltb-false i n g in absent-answer t k l ∙ sym (absent-answer u (clear-same k) l)))
         (λ h. let z = eqb-false m 0 h in refused-answer t m refl z ∙ sym (refused-answer u m (sym (list-same n)) z))
 
     left-same : receivedClients a t cs i e ≡ receivedClients a u cs i e

@@ -1,3 +1,4 @@
+pub mod InTurn
 pub mod Sums
 pub mod Parts
 pub mod Fed

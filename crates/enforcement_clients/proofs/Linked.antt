@@ -24,7 +24,7 @@ use Rattle.clients_answers.proofs.Isolation.{isolated, changed-count}
 use Rattle.clients_answers.proofs.Room.{outcome-in, outcome-beyond}
 use Rattle.enforcement_clients.specs.Functions.{Functions, fedOwn, putOut, refusedDay}
 use Rattle.enforcement_clients.proofs.Sums.{sum-same}
-use Rattle.enforcement_clients.proofs.Fed.{fed-below, fed-above, fed-itself, day-counts, day-stranger, day-none}
+use Rattle.enforcement_clients.proofs.Fed.{fed-below, fed-above, fed-itself, day-counts, day-absent, day-none}
 use Rattle.enforcement_clients.proofs.Turning.{turn-row, turn-next, turn-put, turn-sound}
 
 module _ (a : Automaton) (t : List ℕ) (v : valid a ≡ true) (sv : Solved a t) where
@@ -117,4 +117,4 @@ module _ (a : Automaton) (t : List ℕ) (v : valid a ≡ true) (sv : Solved a t)
       rw (outcome-below n cs ss k i e l, more) (sym (day-counts a n ss i e xs l)))
       (λ h.
       let l = ltb-false i n h in
-      rw (outcome-above n cs ss k i e l, more) (sym (day-stranger a n ss i e xs l)))
+      rw (outcome-above n cs ss k i e l, more) (sym (day-absent a n ss i e xs l)))

@@ -21,7 +21,7 @@ use Rattle.clients_answers.proofs.Parting.{part-none}
 use Rattle.clients_answers.proofs.Single.{events-alone}
 use Rattle.enforcement_clients.specs.ClientCalls.{ClientCall, receiveFor, runFor, lentBy, eventsBy, leaves, leavesAll}
 use Rattle.enforcement_clients.specs.ClientCalls.{wholeRefusal, reaches, ownBy, ownAll, watching, seenBy, seenAll}
-use Rattle.enforcement_clients.specs.Claims.{broughtTo, EventsBroughtAsWorded, BroughtAsAnswered, CallsNoninterference}
+use Rattle.enforcement_clients.specs.Claims.{outcomesTo, EventsBroughtAsWorded, OutcomesAsAnswered, CallsNoninterference}
 use Rattle.enforcement_clients.proofs.Sums.{not-lent, was-lent, lent-at}
 
 -- a record alone, over one list of events and then another
@@ -113,7 +113,7 @@ module _ (a : Automaton) (t : List ℕ) where
           by (reaches a t cs g x)
           (λ h.
           let b = reached h .1 in
-          rw h (isolated k (eventsBy x) lent g b .brought ∙ ap (λ c. alone k c own) (lent-at (lentBy x) cs g none b)))
+          rw h (isolated k (eventsBy x) lent g b .part ∙ ap (λ c. alone k c own) (lent-at (lentBy x) cs g none b)))
           (λ h. rw h)
 
     -- all calls
@@ -136,7 +136,7 @@ module _ (a : Automaton) (t : List ℕ) where
         }
 
 pub calls-noninterference : CallsNoninterference
-unfolding broughtTo
+unfolding outcomesTo
 calls-noninterference a t cs ds xs ys g h gl hl same events =
     let p = parted a t (monitored a t .says) (monitored a t .absent) xs cs g gl in
     let q = parted a t (monitored a t .says) (monitored a t .absent) ys ds h hl in
@@ -193,41 +193,41 @@ module _ (a : Automaton) (t : List ℕ) (cs : List Configuration) (g : ℕ) wher
   abbrev seen : ClientCall → List Outcome
   seen x = seenBy a t (monitored a t .says) (monitored a t .absent) cs g x
 
-  brought-one : (x : ClientCall) → broughtTo a t cs g (x ∷ []) ≡ seen x
-  unfolding broughtTo seenAll
-  brought-one x = append-nil (seen x)
+  outcomes-one : (x : ClientCall) → outcomesTo a t cs g (x ∷ []) ≡ seen x
+  unfolding outcomesTo seenAll
+  outcomes-one x = append-nil (seen x)
 
-  brought-first : (x : ClientCall) (xs : List ClientCall)
-      → broughtTo a t cs g (x ∷ xs) ≡ broughtTo a t cs g (x ∷ []) ++ broughtTo a t (leaves a t cs x) g xs
-  unfolding broughtTo seenAll
-  brought-first x xs = rw (append-nil (seen x))
+  outcomes-first : (x : ClientCall) (xs : List ClientCall)
+      → outcomesTo a t cs g (x ∷ xs) ≡ outcomesTo a t cs g (x ∷ []) ++ outcomesTo a t (leaves a t cs x) g xs
+  unfolding outcomesTo seenAll
+  outcomes-first x xs = rw (append-nil (seen x))
 
-  brought-event : (n e : ℕ) → listRefusal a t (length (take n cs)) ≡ 0 → g < length (take n cs)
-      → broughtTo a t cs g (receiveFor n g e ∷ []) ≡ outcomeOf (receivedFor a t (take n cs) g e) ∷ []
+  outcomes-event : (n e : ℕ) → listRefusal a t (length (take n cs)) ≡ 0 → g < length (take n cs)
+      → outcomesTo a t cs g (receiveFor n g e ∷ []) ≡ outcomeOf (receivedFor a t (take n cs) g e) ∷ []
   unfolding seenBy wholeRefusal lentBy eventsBy outcomes partOf
-  brought-event n e z l =
+  outcomes-event n e z l =
       let alone-is = events-alone a t (take n cs) (list-clear a t (length (take n cs)) z) g e l in
       let answered = alone-is .answer in
-      brought-one (receiveFor n g e) ∙
+      outcomes-one (receiveFor n g e) ∙
       rw (reaching a t cs g (receiveFor n g e) z l, eq-eqb g g refl, answered)
       (ap (λ (o : Outcome). o ∷ []) (alone-is .inside))
 
-  brought-day : (n : ℕ) (vs out : List ℕ) → g < length (take n cs)
-      → broughtTo a t cs g (runFor n vs out ∷ []) ≡ partOf g (named vs) (dayOutcomes a t (take n cs) vs out)
+  outcomes-day : (n : ℕ) (vs out : List ℕ) → g < length (take n cs)
+      → outcomesTo a t cs g (runFor n vs out ∷ []) ≡ partOf g (named vs) (dayOutcomes a t (take n cs) vs out)
   unfolding seenBy reaches wholeRefusal lentBy eventsBy dayOutcomes partOf
-  brought-day n vs out l =
-      brought-one (runFor n vs out) ∙
+  outcomes-day n vs out l =
+      outcomes-one (runFor n vs out) ∙
       rw (lt-ltb g (length (take n cs)) l)
       (by (eqb (runForRefusal a t (take n cs) vs out) 0)
       (λ h. rw h)
       (λ h. rw h (sym (part-none g (named vs)))))
 
-pub brought-as-answered : BroughtAsAnswered
-unfolding broughtTo seenAll
-brought-as-answered a t cs g =
+pub outcomes-as-answered : OutcomesAsAnswered
+unfolding outcomesTo seenAll
+outcomes-as-answered a t cs g =
     record {
       nothing = refl;
-      first = brought-first a t cs g;
-      event = brought-event a t cs g;
-      day = brought-day a t cs g;
+      first = outcomes-first a t cs g;
+      event = outcomes-event a t cs g;
+      day = outcomes-day a t cs g;
     }

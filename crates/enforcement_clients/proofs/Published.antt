@@ -23,8 +23,8 @@ use Rattle.enforcement_clients.specs.ClientCalls.{ClientCall, eventsBy, 
 use Rattle.enforcement_clients.specs.Functions.{Functions, fedOwn, badCount, noRoom, refusalOf, fedIn, putOut, refusedDay, eventRefusalOf, expectedIn}
 use Rattle.enforcement_clients.specs.Published.{EventAsPublished, EventsAsPublished, DayAsPublished, ClientsFollowPublished}
 use Rattle.enforcement_clients.proofs.Fed.{count-wrong, count-right, wrong-bad, right-good}
-use Rattle.enforcement_clients.proofs.Fed.{fed-none, fed-itself, fed-other, fed-stranger, fed-first}
-use Rattle.enforcement_clients.proofs.Fed.{day-counts, day-stranger, day-none, fed-passes, fed-refuses}
+use Rattle.enforcement_clients.proofs.Fed.{fed-none, fed-itself, fed-other, fed-absent, fed-first}
+use Rattle.enforcement_clients.proofs.Fed.{day-counts, day-absent, day-none, fed-passes, fed-refuses}
 
 -- one event
 module _ (a : Automaton) (n : ℕ) (ss : Functions) (k i e : ℕ) where
@@ -39,21 +39,21 @@ module _ (a : Automaton) (n : ℕ) (ss : Functions) (k i e : ℕ) where
 
   -- too many or none are lent, or the client is not there, or it is
   cases : {R : Type 0} → (WrongCount n → R) → (RightCount n × (n ≤ i) → R) → (RightCount n × (i < n) → R) → R
-  cases wrong stranger there =
+  cases wrong absent there =
       by (badCount n)
       (λ b. wrong (count-wrong n b))
       (λ b.
       let r = count-right n b in
-      by (leb n i) (λ m. stranger (r, leb-true n i m)) (λ m. there (r, leb-false n i m)))
+      by (leb n i) (λ m. absent (r, leb-true n i m)) (λ m. there (r, leb-false n i m)))
 
   -- its number, where that holds
   wrong-20 : WrongCount n → eventRefusalOf a n ss i e ≡ 20
   unfolding eventRefusalOf
   wrong-20 w = rw (wrong-bad n w)
 
-  stranger-19 : RightCount n × (n ≤ i) → eventRefusalOf a n ss i e ≡ 19
+  absent-19 : RightCount n × (n ≤ i) → eventRefusalOf a n ss i e ≡ 19
   unfolding eventRefusalOf
-  stranger-19 (r, l) = rw (right-good n r, le-leb n i l)
+  absent-19 (r, l) = rw (right-good n r, le-leb n i l)
 
   there-own : RightCount n × (i < n) → eventRefusalOf a n ss i e ≡ own
   unfolding eventRefusalOf
@@ -67,7 +67,7 @@ module _ (a : Automaton) (n : ℕ) (ss : Functions) (k i e : ℕ) where
   -- a number below 16 is the event's own
   of-own : {X : Type 0} (m : ℕ) → m < 16 → (own ≡ m) ↔ X → (eventRefusalOf a n ss i e ≡ m) ↔ (RightCount n × (i < n) × X)
   of-own m l f = (
-    λ h. cases (λ w. absurd (omega (arith, wrong-20 w))) (λ s. absurd (omega (arith, stranger-19 s))) (λ p. (p .0, p .1, f .0 (sym (there-own p) ∙ h))),
+    λ h. cases (λ w. absurd (omega (arith, wrong-20 w))) (λ s. absurd (omega (arith, absent-19 s))) (λ p. (p .0, p .1, f .0 (sym (there-own p) ∙ h))),
     λ (r, b, x). there-own (r, b) ∙ f .1 x,
   )
 
@@ -75,7 +75,7 @@ module _ (a : Automaton) (n : ℕ) (ss : Functions) (k i e : ℕ) where
   rows = event-rows-as-worded (bySets a) a (positionAt a (ss i)) e
 
   given-20 : eventRefusalOf a n ss i e ≡ 20 → WrongCount n
-  given-20 h = cases (λ w. w) (λ s. absurd (omega (arith, stranger-19 s))) (λ p. absurd (omega (arith, there-own p, own-small)))
+  given-20 h = cases (λ w. w) (λ s. absurd (omega (arith, absent-19 s))) (λ p. absurd (omega (arith, there-own p, own-small)))
 
   given-19 : eventRefusalOf a n ss i e ≡ 19 → RightCount n × (n ≤ i)
   given-19 h = cases (λ w. absurd (omega (arith, wrong-20 w))) (λ s. s) (λ p. absurd (omega (arith, there-own p, own-small)))
@@ -93,14 +93,14 @@ module _ (a : Automaton) (n : ℕ) (ss : Functions) (k i e : ℕ) where
   unfolding fedIn refusalOf
   wrong-count g w = rw (wrong-bad n w)
 
-  stranger : (g : ℕ) → n ≤ i → after g ≡ ss g
+  absent : (g : ℕ) → n ≤ i → after g ≡ ss g
   unfolding fedIn refusalOf eventsBy
-  stranger g l = by (badCount n) (λ b. rw b) (λ b. rw b (fed-stranger a n ss i e g l))
+  absent g l = by (badCount n) (λ b. rw b) (λ b. rw b (fed-absent a n ss i e g l))
 
   -- a refused one leaves its client's function as it was
   refused-kept : (eventRefusalOf a n ss i e ≡ 0 → ⊥) → after i ≡ ss i
   refused-kept z =
-      cases (wrong-count i) (λ (r, l). stranger i l) (λ (r, l). fed r l ∙ store-refuses a (ss i) e (λ h. z (there-own (r, l) ∙ h)))
+      cases (wrong-count i) (λ (r, l). absent i l) (λ (r, l). fed r l ∙ store-refuses a (ss i) e (λ h. z (there-own (r, l) ∙ h)))
 
   answered : RightCount n → i < n → Admitted a (length (ss i .buffer)) e
       → let z = store a (ss i) e in
@@ -119,14 +119,14 @@ module _ (a : Automaton) (n : ℕ) (ss : Functions) (k i e : ℕ) where
   event-as-published =
       record {
         row-20 = (given-20, wrong-20);
-        row-19 = (given-19, stranger-19);
+        row-19 = (given-19, absent-19);
         row-14 = of-own 14 (omega arith) (rows .row-14);
         row-15 = of-own 15 (omega arith) (rows .row-15);
         accepted = of-own 0 (omega arith) (rows .accepted);
         fed = fed;
         others = others;
         wrong-count = wrong-count;
-        stranger = stranger;
+        absent = absent;
         answer = answered;
         refused = refused;
       }
@@ -145,10 +145,10 @@ module _ (a : Automaton) (n : ℕ) (ss : Functions) where
     kept : ((g : ℕ) → next g ≡ ss g) → next ≡ ss
     kept h = λ j g. h g j
 
-    stranger-put : n ≤ i → putOut a n ss ((i, e) ∷ xs) ≡ putOut a n ss xs
+    absent-put : n ≤ i → putOut a n ss ((i, e) ∷ xs) ≡ putOut a n ss xs
     unfolding putOut
-    stranger-put l =
-        let same = kept (λ g. fed-stranger a n ss i e g l) in
+    absent-put l =
+        let same = kept (λ g. fed-absent a n ss i e g l) in
         ap (λ (z : Functions). since (ss i) (z i) ++ putOut a n z xs) same ∙ ap (λ out. out ++ putOut a n ss xs) (since-same (ss i))
 
     -- an event that its client's function refuses
@@ -174,10 +174,10 @@ module _ (a : Automaton) (n : ℕ) (ss : Functions) where
         let z = event-rows-as-worded (bySets a) a (positionAt a (ss i)) e .accepted .1 f in
         day-counts a n ss i e xs l ∙ rw z (omega arith)
 
-    stranger-counted : n ≤ i → refusedDay a n ss ((i, e) ∷ xs) ≡ suc (refusedDay a n ss xs)
-    stranger-counted l =
-        let same = ap (λ (r : Functions). refusedDay a n r xs) (kept (λ g. fed-stranger a n ss i e g l)) in
-        omega (arith, day-stranger a n ss i e xs l, same)
+    absent-counted : n ≤ i → refusedDay a n ss ((i, e) ∷ xs) ≡ suc (refusedDay a n ss xs)
+    absent-counted l =
+        let same = ap (λ (r : Functions). refusedDay a n r xs) (kept (λ g. fed-absent a n ss i e g l)) in
+        omega (arith, day-absent a n ss i e xs l, same)
 
   events-as-published : EventsAsPublished a n ss
   unfolding putOut
@@ -187,14 +187,14 @@ module _ (a : Automaton) (n : ℕ) (ss : Functions) where
         first-fed = fed-first a n ss;
         own-fed = fed-itself a n ss;
         other-kept = fed-other a n ss;
-        stranger-kept = fed-stranger a n ss;
+        absent-kept = fed-absent a n ss;
         none-put = refl;
         own-put = own-put;
-        stranger-put = stranger-put;
+        absent-put = absent-put;
         none-counted = day-none a n ss;
         counted = counted;
         not-counted = not-counted;
-        stranger-counted = stranger-counted;
+        absent-counted = absent-counted;
       }
 
 -- a day

@@ -1,5 +1,5 @@
 -- Demand 3 over a list of clients (document 02, Card 1), and noninterference over lists of calls.
-use Prim.Native.Nat.{ℕ, _<_, _≤_}
+use Prim.Native.Nat.{ℕ, _<_, _≤_, min}
 use mathlib.Core.Path.{_≡_}
 use mathlib.Core.Bool.{true}
 use mathlib.Core.List.{List, [], _∷_, _++_, map}
@@ -21,9 +21,37 @@ use Rattle.clients_answers.specs.Listed.{eventsOf, partOf}
 use Rattle.clients_answers.specs.Clients.{none, initialClients, named, listRefusal, Outcome, monitored, emittedOf}
 use Rattle.clients_answers.specs.Clients.{receivedFor, receivedClients, runForRefusal, dayOutcomes}
 use Rattle.clients_answers.specs.Claims.{outcomeOf}
-use Rattle.enforcement_clients.specs.ClientCalls.{ClientCall, receiveFor, runFor, lentBy, leaves, replies, leavesAll}
+use Rattle.enforcement_clients.specs.ClientCalls.{ClientCall, receiveFor, runFor, lentBy, reply, leaves, replies, leavesAll}
 use Rattle.enforcement_clients.specs.ClientCalls.{ownAll, seenAll, momentsOf}
-use Rattle.enforcement_clients.specs.Functions.{unfed, expectedAll, fedAll, eventsTo, refusalsOf, configurationsAt}
+use Rattle.enforcement_clients.specs.Functions.{Functions, unfed, fedIn, expectedIn, expectedAll, fedAll}
+use Rattle.enforcement_clients.specs.Functions.{eventsTo, refusalsOf, configurationsAt}
+
+-- Calls one after the other: each is answered over the configurations that those before it left ..
+pub record InTurn (a : Automaton) (t : List ℕ) (cs : List Configuration) : Type 0 where
+  pub none-answered : replies a t cs [] ≡ []
+  pub one-answered : (x : ClientCall) → replies a t cs (x ∷ []) ≡ reply a t cs x ∷ []
+  pub more-answered : (xs ys : List ClientCall)
+      → replies a t cs (xs ++ ys) ≡ replies a t cs xs ++ replies a t (leavesAll a t cs xs) ys
+  pub none-left : leavesAll a t cs [] ≡ cs
+  pub one-left : (x : ClientCall) → leavesAll a t cs (x ∷ []) ≡ leaves a t cs x
+  pub more-left : (xs ys : List ClientCall) → leavesAll a t cs (xs ++ ys) ≡ leavesAll a t (leavesAll a t cs xs) ys
+
+abbrev pub AnsweredInTurn : Type 0
+AnsweredInTurn = (a : Automaton) (t : List ℕ) (cs : List Configuration) → InTurn a t cs
+
+-- .. and the functions reply to each as those before it fed them. (A call lends what it says, or
+-- all there are.)
+pub record FunctionsInTurn (a : Automaton) (count : ℕ) (ss : Functions) : Type 0 where
+  pub none-expected : expectedAll a count ss [] ≡ []
+  pub one-expected : (x : ClientCall) → expectedAll a count ss (x ∷ []) ≡ expectedIn a (min (lentBy x) count) ss x ∷ []
+  pub more-expected : (xs ys : List ClientCall)
+      → expectedAll a count ss (xs ++ ys) ≡ expectedAll a count ss xs ++ expectedAll a count (fedAll a count ss xs) ys
+  pub none-fed : fedAll a count ss [] ≡ ss
+  pub one-fed : (x : ClientCall) (g : ℕ) → fedAll a count ss (x ∷ []) g ≡ fedIn a (min (lentBy x) count) ss x g
+  pub more-fed : (xs ys : List ClientCall) → fedAll a count ss (xs ++ ys) ≡ fedAll a count (fedAll a count ss xs) ys
+
+abbrev pub ExpectedInTurn : Type 0
+ExpectedInTurn = (a : Automaton) (count : ℕ) (ss : Functions) → FunctionsInTurn a count ss
 
 -- The events that a list of calls brings a client, in words: of each call that no row refuses as a
 -- whole and that lends the client's configuration, the client's own events, in their order.
@@ -44,23 +72,23 @@ pub record EventsBrought (a : Automaton) (t : List ℕ) (cs : List Configuration
 abbrev pub EventsBroughtAsWorded : Type 0
 EventsBroughtAsWorded = (a : Automaton) (t : List ℕ) (cs : List Configuration) (g : ℕ) → EventsBrought a t cs g
 
--- what a client's events bring it in a list of calls, one by one
-unfoldable pub broughtTo : Automaton → List ℕ → List Configuration → ℕ → List ClientCall → List Outcome
-broughtTo a t = seenAll a t (monitored a t .says) (monitored a t .absent)
+-- what comes of a client's events in a list of calls, one by one
+unfoldable pub outcomesTo : Automaton → List ℕ → List Configuration → ℕ → List ClientCall → List Outcome
+outcomesTo a t = seenAll a t (monitored a t .says) (monitored a t .absent)
 
 -- It is what the calls answer: to an event the row and the symbols of its answer; in a day the
 -- client's part of what the day's events bring.
-pub record BroughtAnswered (a : Automaton) (t : List ℕ) (cs : List Configuration) (g : ℕ) : Type 0 where
-  pub nothing : broughtTo a t cs g [] ≡ []
+pub record OutcomesAnswered (a : Automaton) (t : List ℕ) (cs : List Configuration) (g : ℕ) : Type 0 where
+  pub nothing : outcomesTo a t cs g [] ≡ []
   pub first : (x : ClientCall) (xs : List ClientCall)
-      → broughtTo a t cs g (x ∷ xs) ≡ broughtTo a t cs g (x ∷ []) ++ broughtTo a t (leaves a t cs x) g xs
+      → outcomesTo a t cs g (x ∷ xs) ≡ outcomesTo a t cs g (x ∷ []) ++ outcomesTo a t (leaves a t cs x) g xs
   pub event : (n e : ℕ) → listRefusal a t (length (take n cs)) ≡ 0 → g < length (take n cs)
-      → broughtTo a t cs g (receiveFor n g e ∷ []) ≡ outcomeOf (receivedFor a t (take n cs) g e) ∷ []
+      → outcomesTo a t cs g (receiveFor n g e ∷ []) ≡ outcomeOf (receivedFor a t (take n cs) g e) ∷ []
   pub day : (n : ℕ) (vs out : List ℕ) → g < length (take n cs)
-      → broughtTo a t cs g (runFor n vs out ∷ []) ≡ partOf g (named vs) (dayOutcomes a t (take n cs) vs out)
+      → outcomesTo a t cs g (runFor n vs out ∷ []) ≡ partOf g (named vs) (dayOutcomes a t (take n cs) vs out)
 
-abbrev pub BroughtAsAnswered : Type 0
-BroughtAsAnswered = (a : Automaton) (t : List ℕ) (cs : List Configuration) (g : ℕ) → BroughtAnswered a t cs g
+abbrev pub OutcomesAsAnswered : Type 0
+OutcomesAsAnswered = (a : Automaton) (t : List ℕ) (cs : List Configuration) (g : ℕ) → OutcomesAnswered a t cs g
 
 -- Two lists of calls, events and days mixed, over one automaton and table (of any contents), that
 -- bring a client with the same configuration the same events: each of them brings the same row and
@@ -69,7 +97,7 @@ abbrev pub CallsNoninterference : Type 0
 CallsNoninterference =
     (a : Automaton) (t : List ℕ) (cs ds : List Configuration) (xs ys : List ClientCall) (g h : ℕ)
     → g < length cs → h < length ds → getD cs g none ≡ getD ds h none → ownAll a t cs g xs ≡ ownAll a t ds h ys
-    → (broughtTo a t cs g xs ≡ broughtTo a t ds h ys)
+    → (outcomesTo a t cs g xs ≡ outcomesTo a t ds h ys)
     × (getD (leavesAll a t cs xs) g none ≡ getD (leavesAll a t ds ys) h none)
 
 -- Nothing of a table is read but its bits below n at each buffer's S: over any table, any
@@ -107,9 +135,9 @@ ClientsFlagStays =
 pub record OwnEnforced (a : Automaton) (t : List ℕ) (count : ℕ) (calls : List ClientCall) (g : ℕ) : Type 0 where
   pub function : fedAll a count unfed calls g ≡ storeAll a empty (eventsTo a count unfed g calls)
   pub brought : ownAll a t (initialClients a count) g calls ≡ eventsTo a count unfed g calls
-  pub rows : map (λ (x : Outcome). x .refusal) (broughtTo a t (initialClients a count) g calls)
+  pub rows : map (λ (x : Outcome). x .refusal) (outcomesTo a t (initialClients a count) g calls)
       ≡ refusalsOf a empty (eventsTo a count unfed g calls)
-  pub received : emittedOf (broughtTo a t (initialClients a count) g calls) ≡ fedAll a count unfed calls g .output
+  pub received : emittedOf (outcomesTo a t (initialClients a count) g calls) ≡ fedAll a count unfed calls g .output
   pub last : getD (leavesAll a t (initialClients a count) calls) g none ≡ configurationAt a (fedAll a count unfed calls g)
   pub as-alone : getD (leavesAll a t (initialClients a count) calls) g none
       ≡ configurationAfter a t (initialOf a) (map receiveCall (eventsTo a count unfed g calls))

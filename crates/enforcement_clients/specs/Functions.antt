@@ -54,13 +54,13 @@ putOut a n ss (x ∷ xs) =
     since (ss (x .0)) (fedOwn a n ss (x ∷ []) (x .0)) ++ putOut a n (fedOwn a n ss (x ∷ [])) xs
 
 -- row 19: the events whose number is not below n
-unfoldable pub strangers : ℕ → List (ℕ × ℕ) → ℕ
-strangers n [] = 0
-strangers n (x ∷ xs) = cond (leb n (x .0)) 1 0 + strangers n xs
+unfoldable pub absentees : ℕ → List (ℕ × ℕ) → ℕ
+absentees n [] = 0
+absentees n (x ∷ xs) = cond (leb n (x .0)) 1 0 + absentees n xs
 
 -- the events that they refuse, and 19's, together
 unfoldable pub refusedDay : Automaton → ℕ → Functions → List (ℕ × ℕ) → ℕ
-refusedDay a n ss xs = sumBelow n (λ g. refusedOf a (ss g) (eventsOf g xs)) + strangers n xs
+refusedDay a n ss xs = sumBelow n (λ g. refusedOf a (ss g) (eventsOf g xs)) + absentees n xs
 
 -- the row of one event: 20, 19, then its client's own function's
 unfoldable pub eventRefusalOf : Automaton → ℕ → Functions → ℕ → ℕ → ℕ

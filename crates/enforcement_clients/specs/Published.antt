@@ -35,7 +35,7 @@ pub record EventAsPublished (a : Automaton) (n : ℕ) (ss : Functions) (k i e : 
   pub fed : RightCount n → i < n → fedIn a n ss (receiveFor k i e) i ≡ store a (ss i) e
   pub others : (g : ℕ) → (g ≡ i → ⊥) → fedIn a n ss (receiveFor k i e) g ≡ ss g
   pub wrong-count : (g : ℕ) → WrongCount n → fedIn a n ss (receiveFor k i e) g ≡ ss g
-  pub stranger : (g : ℕ) → n ≤ i → fedIn a n ss (receiveFor k i e) g ≡ ss g
+  pub absent : (g : ℕ) → n ≤ i → fedIn a n ss (receiveFor k i e) g ≡ ss g
   -- the answer to an accepted one: what the client's function put out then, and whether its state
   -- lies in S of its buffer
   pub answer : RightCount n → i < n → Admitted a (length (ss i .buffer)) e
@@ -61,17 +61,17 @@ pub record EventsAsPublished (a : Automaton) (n : ℕ) (ss : Functions) : Type 0
       → fedOwn a n ss (x ∷ xs) g ≡ fedOwn a n (fedOwn a n ss (x ∷ [])) xs g
   pub own-fed : (i e : ℕ) → i < n → fedOwn a n ss ((i, e) ∷ []) i ≡ store a (ss i) e
   pub other-kept : (i e g : ℕ) → (g ≡ i → ⊥) → fedOwn a n ss ((i, e) ∷ []) g ≡ ss g
-  pub stranger-kept : (i e g : ℕ) → n ≤ i → fedOwn a n ss ((i, e) ∷ []) g ≡ ss g
+  pub absent-kept : (i e g : ℕ) → n ≤ i → fedOwn a n ss ((i, e) ∷ []) g ≡ ss g
   pub none-put : putOut a n ss [] ≡ []
   pub own-put : (i e : ℕ) (xs : List (ℕ × ℕ)) → i < n
       → putOut a n ss ((i, e) ∷ xs) ≡ since (ss i) (store a (ss i) e) ++ putOut a n (fedOwn a n ss ((i, e) ∷ [])) xs
-  pub stranger-put : (i e : ℕ) (xs : List (ℕ × ℕ)) → n ≤ i → putOut a n ss ((i, e) ∷ xs) ≡ putOut a n ss xs
+  pub absent-put : (i e : ℕ) (xs : List (ℕ × ℕ)) → n ≤ i → putOut a n ss ((i, e) ∷ xs) ≡ putOut a n ss xs
   pub none-counted : refusedDay a n ss [] ≡ 0
   pub counted : (i e : ℕ) (xs : List (ℕ × ℕ)) → i < n → Unknown a e ⊎ Full a (length (ss i .buffer)) e
       → refusedDay a n ss ((i, e) ∷ xs) ≡ suc (refusedDay a n ss xs)
   pub not-counted : (i e : ℕ) (xs : List (ℕ × ℕ)) → i < n → Admitted a (length (ss i .buffer)) e
       → refusedDay a n ss ((i, e) ∷ xs) ≡ refusedDay a n (fedOwn a n ss ((i, e) ∷ [])) xs
-  pub stranger-counted : (i e : ℕ) (xs : List (ℕ × ℕ)) → n ≤ i
+  pub absent-counted : (i e : ℕ) (xs : List (ℕ × ℕ)) → n ≤ i
       → refusedDay a n ss ((i, e) ∷ xs) ≡ suc (refusedDay a n ss xs)
 
 -- A day: its events' numbers vs and the output lent to it.

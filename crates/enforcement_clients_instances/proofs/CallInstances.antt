@@ -1,8 +1,8 @@
 -- The instances of the claims on lists of calls over a list of clients.
-use Prim.Native.Nat.{ℕ, _*_, _<_, _≤_}
+use Prim.Native.Nat.{ℕ, _*_, _<_, _≤_, min}
 use mathlib.Core.Path.{_≡_, refl, sym, _∙_, ap, subst}
 use mathlib.Core.Bool.{Bool, true, false, cond, not}
-use mathlib.Core.List.{List, [], _∷_, map}
+use mathlib.Core.List.{List, [], _∷_, _++_, map}
 use native.Mathlib.Omega.{arith}
 use lib.ListN.{length, getD, take}
 use Rattle.base.specs.Each.{each}
@@ -14,14 +14,14 @@ use Rattle.solver_sets.specs.Table.{Solved, short, index}
 use Rattle.solver_sets.proofs.Numbering.{numbered}
 use Rattle.configuration.specs.declared.Configuration.{Configuration}
 use Rattle.configuration.specs.Configuration.{configuration, initialOf}
-use Rattle.monitor_answers.specs.Answers.{tableRows, callRows, callRefusal, isWinning, status}
+use Rattle.monitor_answers.specs.Answers.{tableRows, callRows, callRefusal, isWinning, status, receiveRefusal, received}
 use Rattle.enforcement.specs.Store.{Store, empty, storeAll, feed, feedAll}
 use Rattle.enforcement.specs.Calls.{configurationAt, receiveCall, fedBy}
 use Rattle.enforcement.specs.Moments.{Moment, effectAt}
 use Rattle.enforcement.specs.Strategy.{Lost, lostBound}
 use Rattle.enforcement.specs.Claims.{winningAfter, outputAfter}
 use Rattle.enforcement.specs.Claims.{arrivalAt, strategyRelease, ourRelease, strategyOutput, strategyBuffer, LongerIsLost}
-use Rattle.enforcement.specs.Answers.{SameBits}
+use Rattle.enforcement.specs.Answers.{SaysWinning, SameBits}
 use Rattle.enforcement_cases.specs.Cases.{automatonV, automatonW}
 use Rattle.enforcement_cases.proofs.Cases.{marked-cases}
 use Rattle.enforcement_instances.specs.Statements.{filled, tableW, at}
@@ -31,10 +31,11 @@ use Rattle.enforcement_instances.proofs.MonitorInstances.{begins-winning}
 use Rattle.clients_answers.specs.declared.ReceivedFor.{ReceivedFor}
 use Rattle.clients_answers.specs.Listed.{eventsOf, partOf}
 use Rattle.clients_answers.specs.Clients.{none, initialClients, named, listRefusal, Outcome, receivedFor, runForRefusal, dayOutcomes}
-use Rattle.enforcement_clients.specs.ClientCalls.{ClientCall, receiveFor, lentBy, receive, leaves, replies, leavesAll, ownAll, momentsOf}
-use Rattle.enforcement_clients.specs.Functions.{unfed, expectedAll, fedAll, eventsTo, refusalsOf, configurationsAt}
-use Rattle.enforcement_clients.specs.Claims.{broughtTo, ClientsEnforced}
-use Rattle.enforcement_clients.proofs.Parts.{calls-noninterference, events-brought-as-worded, brought-as-answered}
+use Rattle.enforcement_clients.specs.ClientCalls.{ClientCall, receiveFor, lentBy, receive, reply, leaves, replies, leavesAll, ownAll, momentsOf}
+use Rattle.enforcement_clients.specs.Functions.{Functions, unfed, fedIn, expectedIn, expectedAll, fedAll, eventsTo, refusalsOf, configurationsAt}
+use Rattle.enforcement_clients.specs.Claims.{outcomesTo, ClientsEnforced}
+use Rattle.enforcement_clients.proofs.InTurn.{answered-in-turn, expected-in-turn}
+use Rattle.enforcement_clients.proofs.Parts.{calls-noninterference, events-brought-as-worded, outcomes-as-answered}
 use Rattle.enforcement_clients.proofs.Ignored.{clients-others-ignored}
 use Rattle.enforcement_clients.proofs.Flags.{clients-flag-is-status, clients-flag-stays}
 use Rattle.enforcement_clients.proofs.Demand3.{clients-demand3, clients-demand3-solved}
@@ -42,7 +43,7 @@ use Rattle.enforcement_clients_instances.proofs.Computing.{stepping, li
 use Rattle.enforcement_clients_instances.proofs.ListInstances.{alone-w}
 use Rattle.enforcement_clients_instances.specs.ListStatements.{sent, broken, waiting, here, brings, answerFor}
 use Rattle.enforcement_clients_instances.specs.CallStatements.{refused, ran, tableV, callsV, answerV, queryV, LaterWinning}
-use Rattle.enforcement_clients_instances.specs.CallStatements.{crowdCalls, noneCalls, Counts, callsHere, two, callsTwo, otherTable, Bringing, Beside, Reloaded}
+use Rattle.enforcement_clients_instances.specs.CallStatements.{crowdCalls, noneCalls, Counts, callsHere, two, callsTwo, signed, otherTable, Turns, Bringing, Beside, Reloaded}
 use Rattle.enforcement_clients_instances.specs.CallStatements.{calls, callReplies, ownEvents, page, receipt, sign, again, startW, Fields, OwnFields, MetFields}
 
 -- demand 3 of W's clients, for any count and calls
@@ -141,6 +142,15 @@ lost-again : LongerIsLost automatonW tableW again → Lost automatonW 0 eager (2
 unfolding stepping arrivalAt strategyRelease strategyOutput strategyBuffer lostBound accepts
 lost-again h = h eager longer
 
+-- Receipt is accepted then
+receipt-row : received automatonW tableW (configuration (at 1 (2 ∷ []))) 3 .refusal ≡ 0
+unfolding stepping received receiveRefusal callRefusal callRows tableRows
+receipt-row = rw valid-w refl
+
+told-last : SaysWinning automatonW tableW (configuration (at 1 (2 ∷ [])))
+    → received automatonW tableW (configuration (at 1 (2 ∷ []))) 3 .winning ≡ true
+told-last s = s .flagged 3 receipt-row
+
 pub met-fields : MetFields
 unfolding automatonW
 met-fields =
@@ -154,12 +164,11 @@ met-fields =
       later = fine-again (said .later (page ∷ receipt ∷ []) sign (again ∷ []) met-one sign-winning .1 .0);
       said-initially =
           subst (λ c. status automatonW tableW c .winning ≡ true) (own-fields .last) (said .said-initially begins-winning .told);
-      flagged-initially =
-          subst (λ c. (e : ℕ) → Rattle.monitor_answers.specs.Answers.received automatonW tableW c e .refusal ≡ 0 → Rattle.monitor_answers.specs.Answers.received automatonW tableW c e .winning ≡ true)
-          (own-fields .last) (said .said-initially begins-winning .flagged);
+      flagged-initially = told-last (rw (own-fields .last) at (said .said-initially begins-winning));
       said =
           subst (λ c. status automatonW tableW c .winning ≡ true) (own-fields .last)
           (said .said (page ∷ receipt ∷ []) sign (again ∷ []) met-one sign-winning .told);
+      flagged = told-last (rw (own-fields .last) at (said .said (page ∷ receipt ∷ []) sign (again ∷ []) met-one sign-winning));
       strategies = (lost .list, lost .uncontrollable, lost .short, lost .outside);
     }
 
@@ -242,9 +251,6 @@ events-two : eventsOf 1 (named (sent 0 3 ∷ sent 1 0 ∷ sent 9 9 ∷ [])) ≡ 
 unfolding listing
 events-two = refl
 
-abbrev signed : List Configuration
-signed = configuration (at 1 (2 ∷ 2 ∷ [])) ∷ configuration (at 1 (2 ∷ [])) ∷ []
-
 leaves-two : leaves automatonW tableW two (receiveFor 2 1 0) ≡ signed
 unfolding calling
 leaves-two = refl
@@ -266,13 +272,72 @@ one-lent : length (take (lentBy (receiveFor 1 1 3)) two) ≤ 1
 unfolding lentBy
 one-lent = omega arith
 
+-- calls one after the other
+reply-sign : reply automatonW tableW two (receiveFor 2 1 0) ≡ receive (answerFor (0 ∷ []))
+unfolding reply
+reply-sign = ap receive answer-sign
+
+reply-receipt : reply automatonW tableW signed (receiveFor 2 1 3) ≡ receive (answerFor (2 ∷ 3 ∷ []))
+unfolding reply
+reply-receipt = ap receive answer-receipt
+
+leaves-signed : leaves automatonW tableW signed (receiveFor 2 1 3) ≡ configuration (at 1 (2 ∷ 2 ∷ [])) ∷ configuration (at 1 []) ∷ []
+unfolding calling
+leaves-signed = refl
+
+-- the same of the functions
+abbrev signPage : List ClientCall
+signPage = receiveFor 7 1 0 ∷ receiveFor 2 1 2 ∷ []
+
+expected-sign : expectedIn automatonW (min (lentBy (receiveFor 7 1 0)) 2) unfed (receiveFor 7 1 0) ≡ receive (answerFor (0 ∷ []))
+unfolding feeding
+expected-sign = refl
+
+fed-sign : fedIn automatonW (min (lentBy (receiveFor 7 1 0)) 2) unfed (receiveFor 7 1 0) 1 ≡ storeOf (0 ∷ []) []
+unfolding feeding
+fed-sign = refl
+
+expected-later : expectedAll automatonW 2 unfed signPage ++ expectedAll automatonW 2 (fedAll automatonW 2 unfed signPage) (receiveFor 2 1 3 ∷ [])
+    ≡ receive (answerFor (0 ∷ [])) ∷ receive (answerFor []) ∷ receive (answerFor (2 ∷ 3 ∷ [])) ∷ []
+unfolding feeding
+expected-later = refl
+
+fed-later : fedAll automatonW 2 (fedAll automatonW 2 unfed signPage) (receiveFor 2 1 3 ∷ []) 1 ≡ storeOf (0 ∷ 2 ∷ 3 ∷ []) []
+unfolding feeding
+fed-later = refl
+
+pub turns : Turns
+turns =
+    let k = answered-in-turn automatonW tableW in
+    let one = k two .one-answered (receiveFor 2 1 0) ∙ ap (λ r. r ∷ []) reply-sign in
+    let left = k two .one-left (receiveFor 2 1 0) ∙ leaves-two in
+    let f = expected-in-turn automatonW 2 in
+    record {
+      none-answered = k two .none-answered;
+      one-answered = one;
+      more-answered =
+          k two .more-answered (receiveFor 2 1 0 ∷ []) (receiveFor 2 1 3 ∷ []) ∙
+          rw (one, left, k signed .one-answered (receiveFor 2 1 3), reply-receipt);
+      none-left = k two .none-left;
+      one-left = left;
+      more-left =
+          k two .more-left (receiveFor 2 1 0 ∷ []) (receiveFor 2 1 3 ∷ []) ∙
+          rw (left, k signed .one-left (receiveFor 2 1 3), leaves-signed);
+      none-expected = f unfed .none-expected;
+      one-expected = f unfed .one-expected (receiveFor 7 1 0) ∙ ap (λ r. r ∷ []) expected-sign;
+      more-expected = f unfed .more-expected signPage (receiveFor 2 1 3 ∷ []) ∙ expected-later;
+      none-fed = ap (λ (ss : Functions). ss 1) (f unfed .none-fed);
+      one-fed = f unfed .one-fed (receiveFor 7 1 0) 1 ∙ fed-sign;
+      more-fed = ap (λ (ss : Functions). ss 1) (f unfed .more-fed signPage (receiveFor 2 1 3 ∷ [])) ∙ fed-later;
+    }
+
 pub bringing : Bringing
 unfolding pad
 bringing =
     let own = events-brought-as-worded automatonW tableW two 1 in
     let later = events-brought-as-worded automatonW tableW signed 1 in
-    let said = brought-as-answered automatonW tableW two 1 in
-    let then = brought-as-answered automatonW tableW signed 1 in
+    let said = outcomes-as-answered automatonW tableW two 1 in
+    let then = outcomes-as-answered automatonW tableW signed 1 in
     let told : (r : ReceivedFor) → List Outcome = λ r. brings (r .refusal) (take (r .count) (r .emitted)) ∷ [] in
     let sign = said .event 2 0 clear-two (omega arith) ∙ ap told answer-sign in
     record {
@@ -286,10 +351,10 @@ bringing =
       first =
           own .first (receiveFor 2 1 0) (receiveFor 2 1 3 ∷ []) ∙
           rw (own .own-event 2 0 clear-two (omega arith), leaves-two, later .own-event 2 3 clear-two (omega arith));
-      brought-nothing = said .nothing;
-      brought-event = sign;
-      brought-day = said .day 2 (sent 0 3 ∷ sent 1 0 ∷ sent 9 9 ∷ []) (filled 6 9) (omega arith) ∙ outcomes-two;
-      brought-first =
+      outcomes-nothing = said .nothing;
+      outcomes-event = sign;
+      outcomes-day = said .day 2 (sent 0 3 ∷ sent 1 0 ∷ sent 9 9 ∷ []) (filled 6 9) (omega arith) ∙ outcomes-two;
+      outcomes-first =
           said .first (receiveFor 2 1 0) (receiveFor 2 1 3 ∷ []) ∙
           rw (sign, leaves-two, then .event 2 3 clear-two (omega arith) ∙ ap told answer-receipt);
     }
@@ -303,16 +368,16 @@ own-two : ownAll automatonW tableW two 1 callsTwo ≡ 0 ∷ 3 ∷ []
 unfolding calling
 own-two = refl
 
-brought-here : broughtTo automatonW tableW here 0 callsHere ≡ brings 0 (0 ∷ []) ∷ brings 0 (2 ∷ 3 ∷ []) ∷ []
+outcomes-here : outcomesTo automatonW tableW here 0 callsHere ≡ brings 0 (0 ∷ []) ∷ brings 0 (2 ∷ 3 ∷ []) ∷ []
 unfolding calling
-brought-here = refl
+outcomes-here = refl
 
-replies-here : replies automatonW tableW here callsHere
+pub replies-here : replies automatonW tableW here callsHere
     ≡ receive (answerFor (0 ∷ [])) ∷ refused 20 ∷ ran 0 3 1 (2 ∷ 3 ∷ 1 ∷ 9 ∷ 9 ∷ 9 ∷ 9 ∷ 9 ∷ 9 ∷ []) ∷ []
 unfolding calling
 replies-here = refl
 
-leaves-here : leavesAll automatonW tableW here callsHere ≡ configuration (at 1 []) ∷ broken ∷ configuration (at 0 []) ∷ []
+pub leaves-here : leavesAll automatonW tableW here callsHere ≡ configuration (at 1 []) ∷ broken ∷ configuration (at 0 []) ∷ []
 unfolding calling
 leaves-here = refl
 
@@ -321,9 +386,9 @@ broken-own : ownAll automatonW (filled 14 9) here 1 callsHere ≡ ownAll automat
 unfolding calling
 broken-own = refl
 
-broken-brought-here : broughtTo automatonW (filled 14 9) here 1 callsHere ≡ brings 13 [] ∷ []
+broken-outcomes-here : outcomesTo automatonW (filled 14 9) here 1 callsHere ≡ brings 13 [] ∷ []
 unfolding calling
-broken-brought-here = refl
+broken-outcomes-here = refl
 
 broken-last-here : getD (leavesAll automatonW (filled 14 9) here callsHere) 1 none ≡ broken
 unfolding calling
@@ -362,9 +427,9 @@ beside =
     let other = clients-others-ignored automatonW tableW otherTable both-long same-bits here callsHere in
     record {
       own = own-two;
-      brought = sym (same .0) ∙ brought-here;
+      outcomes = sym (same .0) ∙ outcomes-here;
       last = sym (same .1) ∙ ap (λ cs. getD cs 0 none) leaves-here;
-      broken-brought = sym (nines .0) ∙ broken-brought-here;
+      broken-outcomes = sym (nines .0) ∙ broken-outcomes-here;
       broken-last = sym (nines .1) ∙ broken-last-here;
       replies-other = sym (other .0) ∙ replies-here;
       clients-other = sym (other .1) ∙ leaves-here;
@@ -378,6 +443,10 @@ waits-winning = rw valid-w refl
 accepts-sign : receivedFor automatonW tableW here 0 0 ≡ answerFor (0 ∷ [])
 accepts-sign = alone-w .answer
 
+sign-after : receivedFor automatonW tableW (leavesAll automatonW tableW here callsHere) 0 0 .refusal ≡ 0
+unfolding listing
+sign-after = rw leaves-here (rw valid-w refl)
+
 pub reloaded : Reloaded
 reloaded =
     let stays = clients-flag-stays automatonW tableW solved-w here 0 (omega arith) waits-winning callsHere in
@@ -385,6 +454,6 @@ reloaded =
     record {
       before = waits-winning;
       after = stays .told;
-      flagged = stays .flagged;
+      flagged = stays .flagged 0 sign-after;
       flag-is-status = rw accepts-sign at told;
     }

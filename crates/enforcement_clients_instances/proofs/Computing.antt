@@ -23,9 +23,9 @@ use Rattle.clients_answers.specs.Clients.{heldIn, heldInAll, runForRefusal, day
 use Rattle.clients_answers.specs.Claims.{sumBelow, answers, clientsAfter, allEmitted, allRefused}
 use Rattle.enforcement_clients.specs.ClientCalls.{lentBy, eventsBy, refusalIn, reply, leaves, replies, leavesAll, wholeRefusal, reaches}
 use Rattle.enforcement_clients.specs.ClientCalls.{ownBy, ownAll, seenBy, seenAll, meetings, momentsFrom, momentsOf}
-use Rattle.enforcement_clients.specs.Functions.{fedOwn, badCount, noRoom, refusalOf, fedIn, putOut, strangers, refusedDay, eventRefusalOf}
+use Rattle.enforcement_clients.specs.Functions.{fedOwn, badCount, noRoom, refusalOf, fedIn, putOut, absentees, refusedDay, eventRefusalOf}
 use Rattle.enforcement_clients.specs.Functions.{expectedIn, lentOf, expected, fed, expectedAll, fedAll, eventsIn, eventsTo, configurationsAt}
-use Rattle.enforcement_clients.specs.Claims.{broughtTo}
+use Rattle.enforcement_clients.specs.Claims.{outcomesTo}
 
 -- the step of a client, without row 11's check, which is long (it is rewritten by what is known)
 unfoldable pub stepping : ℕ
@@ -51,7 +51,7 @@ listing = 0
 unfoldable pub calling : ℕ
 unfolding
     listing computing lentBy eventsBy refusalIn reply leaves replies leavesAll wholeRefusal reaches
-    ownBy ownAll seenBy seenAll meetings momentsFrom momentsOf broughtTo
+    ownBy ownAll seenBy seenAll meetings momentsFrom momentsOf outcomesTo
 calling = 0
 
 -- one published function, which reads no table
@@ -64,6 +64,6 @@ storing = 0
 -- all of them
 unfoldable pub feeding : ℕ
 unfolding
-    storing lentBy eventsBy refusalIn fedOwn badCount noRoom refusalOf fedIn putOut strangers refusedDay eventRefusalOf
+    storing lentBy eventsBy refusalIn fedOwn badCount noRoom refusalOf fedIn putOut absentees refusedDay eventRefusalOf
     expectedIn lentOf expected fed expectedAll fedAll eventsIn eventsTo configurationsAt
 feeding = 0

@@ -1,6 +1,6 @@
 -- The instances of the claims on the interface for C over a list of clients.
-use mathlib.Core.Path.{_≡_, refl, _∙_}
-use mathlib.Core.List.{[], _∷_}
+use mathlib.Core.Path.{_≡_, refl, _∙_, ap}
+use mathlib.Core.List.{[], _∷_, map}
 use native.Mathlib.Omega.{arith}
 use Rattle.base.specs.Pad.{pad}
 use Rattle.automaton.specs.declared.Automaton.{Automaton}
@@ -10,14 +10,16 @@ use Rattle.enforcement_instances.specs.Statements.{filled, tableW, at}
 use Rattle.enforcement_instances.proofs.Sheets.{valid-w, solved-w}
 use Rattle.enforcement_instances.specs.LayoutStatements.{recordW, anyBytes}
 use Rattle.enforcement_instances.proofs.LayoutInstances.{kept-w}
-use Rattle.clients_answers.specs.Clients.{receiveForRefusal, receivedClients, runForRefusal, ranClients, ranForBuffer}
+use Rattle.clients_answers.specs.Clients.{receiveForRefusal, receivedFor, receivedClients, runForRefusal, ranFor, ranClients, ranForBuffer}
 use Rattle.c_layout.specs.Layout.{automatonOf}
 use Rattle.c_layout.proofs.Offsets.{offsets-hold}
 use Rattle.c_layout.proofs.ClientCalls.{clients-left-as-answered}
+use Rattle.enforcement_bytes.specs.ClientByteCalls.{laidFor}
 use Rattle.enforcement_bytes.proofs.ClientByteCalls.{clients-by-value, client-bytes-enforced}
 use Rattle.enforcement_clients_instances.proofs.Computing.{listing}
-use Rattle.enforcement_clients_instances.specs.ListStatements.{sent, answerFor}
-use Rattle.enforcement_clients_instances.specs.CallStatements.{two, callsTwo, calls}
+use Rattle.enforcement_clients_instances.proofs.CallInstances.{replies-here, leaves-here, fields}
+use Rattle.enforcement_clients_instances.specs.ListStatements.{sent, here, answerFor}
+use Rattle.enforcement_clients_instances.specs.CallStatements.{two, callsHere, calls, callReplies}
 use Rattle.enforcement_clients_instances.specs.LayoutStatements.{ClientLayouts}
 
 -- what the calls by value say of W and the list of two
@@ -30,9 +32,13 @@ module _ (a : Automaton) (own : a ≡ automatonW) where
   unfolding listing
   sign-list = rw own (rw valid-w refl)
 
-  stranger-row : receiveForRefusal a tableW two 2 0 ≡ 19
+  sign-answer : receivedFor a tableW two 1 0 .count ≡ 1
   unfolding listing
-  stranger-row = rw own (rw valid-w refl)
+  sign-answer = rw own (rw valid-w refl)
+
+  absent-row : receiveForRefusal a tableW two 2 0 ≡ 19
+  unfolding listing
+  absent-row = rw own (rw valid-w refl)
 
   day-row : runForRefusal a tableW two (sent 1 0 ∷ []) (filled 4 9) ≡ 0
   unfolding listing
@@ -41,6 +47,10 @@ module _ (a : Automaton) (own : a ≡ automatonW) where
   day-list : ranClients a tableW two (sent 1 0 ∷ []) (filled 4 9) ≡ configuration (at 1 (2 ∷ 2 ∷ [])) ∷ configuration (at 1 (2 ∷ [])) ∷ []
   unfolding listing
   day-list = rw own (rw valid-w refl)
+
+  day-written : ranFor a tableW two (sent 1 0 ∷ []) (filled 4 9) .length ≡ 1
+  unfolding listing
+  day-written = rw own (rw valid-w refl)
 
   day-output : ranForBuffer a tableW two (sent 1 0 ∷ []) (filled 4 9) ≡ 0 ∷ 9 ∷ 9 ∷ 9 ∷ []
   unfolding listing
@@ -51,7 +61,7 @@ module _ (a : Automaton) (own : a ≡ automatonW) where
   short-row = rw own (rw valid-w refl)
 
 pub client-layouts : ClientLayouts
-unfolding pad
+unfolding pad laidFor
 client-layouts =
     let a = automatonOf recordW in
     let left = clients-left-as-answered recordW tableW two in
@@ -65,19 +75,24 @@ client-layouts =
       winning = r .winning .0 refl;
       ran-size = d .size;
       written = d .written .value (omega arith);
-      refused = d .refused .value (omega arith);
+      events-refused = d .refused .value (omega arith);
       event-refusal = left .event-refusal 1 0 ∙ sign-row a kept-w;
       event-list = left .event-list 1 0 ∙ sign-list a kept-w;
-      event-refused = left .event-refused 2 0 (λ h. omega (arith, left .event-refusal 2 0 ∙ stranger-row a kept-w));
+      event-answer = left .event-answer 1 0 .count ∙ sign-answer a kept-w;
+      event-refused = left .event-refused 2 0 (λ h. omega (arith, left .event-refusal 2 0 ∙ absent-row a kept-w));
       run-refusal = left .run-refusal (sent 1 0 ∷ []) (filled 4 9) ∙ day-row a kept-w;
       run-list = left .run-list (sent 1 0 ∷ []) (filled 4 9) ∙ day-list a kept-w;
+      run-answer =
+          left .run-answer (sent 1 0 ∷ []) (filled 4 9) .written .value (omega (arith, day-written a kept-w)) ∙ day-written a kept-w;
       run-output = left .run-output (sent 1 0 ∷ []) (filled 4 9) ∙ day-output a kept-w;
       run-refused =
           left .run-refused (sent 1 0 ∷ []) (filled 3 9)
           (λ h. omega (arith, left .run-refusal (sent 1 0 ∷ []) (filled 3 9) ∙ short-row a kept-w));
-      by-value = λ cs xs. clients-by-value recordW tableW cs xs .left;
-      by-value-last = clients-by-value recordW tableW two callsTwo .last;
+      by-value = clients-by-value recordW tableW here callsHere .each-reply ∙ rw kept-w (ap (map laidFor) replies-here);
+      by-value-list = clients-by-value recordW tableW here callsHere .list ∙ rw kept-w leaves-here;
       initial-list = enforced .0;
-      enforced-left = enforced .1 .left;
+      enforced-replies = enforced .1 .each-reply ∙ rw (enforced .0, kept-w) (ap (map laidFor) (fields .each-reply));
+      enforced-rows = refl;
+      enforced-list = enforced .1 .list ∙ rw (enforced .0, kept-w) (fields .last-clients);
       enforced = enforced .2;
     }

@@ -55,9 +55,9 @@ accepted-there : runForRefusal automatonW tableW there dayThere (filled 13 9) �
 unfolding listing
 accepted-there = rw valid-w refl
 
-brought-here : partOf 0 (named dayHere) (dayOutcomes automatonW tableW here dayHere (filled 10 9)) ≡ ownOutcomes
+part-here : partOf 0 (named dayHere) (dayOutcomes automatonW tableW here dayHere (filled 10 9)) ≡ ownOutcomes
 unfolding listing
-brought-here = rw valid-w refl
+part-here = rw valid-w refl
 
 last-here : getD (ranClients automatonW tableW here dayHere (filled 10 9)) 0 none ≡ configuration (at 1 (2 ∷ 2 ∷ []))
 unfolding listing
@@ -132,13 +132,13 @@ isolating =
     let one = event-noninterference automatonW tableW here there 0 2 0 refl (omega arith) (omega arith) refl in
     let broken-one = event-noninterference automatonW (filled 14 9) here beside 1 0 2 refl (omega arith) (omega arith) refl in
     record {
-      brought-here = brought-here;
+      part-here = part-here;
       last-here = last-here;
       refusal = sym (same .refusal) ∙ accepted-here;
-      brought = sym (same .brought) ∙ brought-here;
+      part = sym (same .part) ∙ part-here;
       last = sym (same .last) ∙ last-here;
       broken-here = broken-here;
-      broken-brought = sym (nines .brought) ∙ broken-here;
+      broken-part = sym (nines .part) ∙ broken-here;
       broken-last = sym (nines .last) ∙ broken-last-here;
       short = sym (short .refusal) ∙ short-here;
       short-last = sym (short .last) ∙ short-last-here;
@@ -178,11 +178,11 @@ pub any-step : AnyStep
 any-step =
     let said = isolation ℕ ℕ adding (10 ∷ 20 ∷ []) added 1 (omega arith) in
     record {
-      brought = said .brought ∙ ap (alone adding 20) own-added ∙ alone-added;
+      part = said .part ∙ ap (alone adding 20) own-added ∙ alone-added;
       last = said .last ∙ ap (afterAlone adding 20) own-added ∙ after-added;
       count = said .count;
       own = own-added;
-      part = part-added;
+      own-part = part-added;
     }
 
 -- the rows: what 11, 12 and 13 refuse
@@ -429,11 +429,11 @@ refused-broken : receiveForRefusal automatonW tableW here 1 2 ≡ 13
 refused-broken =
     client-rows-as-worded automatonW tableW here .event 1 2 .row-13 .1 (clear-w here (omega arith, omega arith), omega arith, broken-fails)
 
-refused-stranger : receiveForRefusal automatonW tableW here 3 0 ≡ 19
-refused-stranger = client-rows-as-worded automatonW tableW here .event 3 0 .row-19 .1 (clear-w here (omega arith, omega arith), omega arith)
+refused-absent : receiveForRefusal automatonW tableW here 3 0 ≡ 19
+refused-absent = client-rows-as-worded automatonW tableW here .event 3 0 .row-19 .1 (clear-w here (omega arith, omega arith), omega arith)
 
-passed-stranger : outcome (monitored automatonW tableW) here 3 0 .refusal ≡ 19
-passed-stranger = client-rows-as-worded automatonW tableW here .inside valid-w 3 0 .row-19 .1 (tt, omega arith)
+passed-absent : outcome (monitored automatonW tableW) here 3 0 .refusal ≡ 19
+passed-absent = client-rows-as-worded automatonW tableW here .inside valid-w 3 0 .row-19 .1 (tt, omega arith)
 
 no-room-here : runForRefusal automatonW tableW here dayHere (filled 9 9) ≡ 16
 unfolding listing
@@ -453,11 +453,11 @@ keeping =
       others = kept .others 0 0 1 (λ h. omega arith);
       other-end = kept .others 0 0 2 (λ h. omega arith);
       refused-13 = kept .refused-event 1 2 (not-0 _ 13 refused-broken (omega arith));
-      refused-19 = kept .refused-event 3 0 (not-0 _ 19 refused-stranger (omega arith));
-      passed-over = kept .passed-over 3 0 (not-0 _ 19 passed-stranger (omega arith));
+      refused-19 = kept .refused-event 3 0 (not-0 _ 19 refused-absent (omega arith));
+      passed-over = kept .passed-over 3 0 (not-0 _ 19 passed-absent (omega arith));
       refused-day = kept .refused-day dayHere (filled 9 9) (not-0 _ 16 no-room-here (omega arith));
       refused-output = kept .refused-output dayHere (filled 9 9) (not-0 _ 16 no-room-here (omega arith));
-      refused-answer = kept .refused-answer 3 0 (not-0 _ 19 refused-stranger (omega arith)) ∙ ap refusedFor refused-stranger;
+      refused-answer = kept .refused-answer 3 0 (not-0 _ 19 refused-absent (omega arith)) ∙ ap refusedFor refused-absent;
       refused-ran = kept .refused-ran dayHere (filled 9 9) (not-0 _ 16 no-room-here (omega arith)) ∙ ap refusedRunFor no-room-here;
       without = kept .without (sent 0 0 ∷ sent 1 2 ∷ []) (filled 3 9) 2 (omega arith) no-own;
       count-event = kept .count-event 0 0;

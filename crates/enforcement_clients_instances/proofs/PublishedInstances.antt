@@ -64,7 +64,7 @@ event-fields =
       fed = event 2 1 2 .fed (omega arith, omega arith) (omega arith) ∙ page-held;
       others = event 2 1 2 .others 0 (λ h. omega arith);
       wrong-count = event 501 1 2 .wrong-count 1 (inr (omega arith));
-      stranger = event 2 2 2 .stranger 2 (omega arith);
+      absent = event 2 2 2 .absent 2 (omega arith);
       answer = receipt-answered;
       answer-refused = event 2 0 3 .refused 15 (λ z. omega arith) full;
     }
@@ -117,7 +117,7 @@ put-xs : putOut automatonW 2 family xs ≡ 2 ∷ 3 ∷ []
 unfolding since
 put-xs =
     put-own family 1 2 _ _ _ (omega arith) refl page-held ∙
-    events paged .stranger-put 5 0 _ (omega arith) ∙
+    events paged .absent-put 5 0 _ (omega arith) ∙
     put-own paged 1 3 _ _ _ (omega arith) paged-one both-go ∙
     ap (λ w. 2 ∷ 3 ∷ w)
     (put-own received 0 2 _ _ _ (omega arith) received-zero full-kept ∙
@@ -130,7 +130,7 @@ count-xs =
     let one : length (paged 1 .buffer) ≡ 1 = ap (λ s. length (s .buffer)) paged-one in
     let zero : length (received 0 .buffer) ≡ 2 = ap (λ s. length (s .buffer)) received-zero in
     events family .not-counted 1 2 _ (omega arith) (omega arith, inr (omega arith)) ∙
-    events paged .stranger-counted 5 0 _ (omega arith) ∙
+    events paged .absent-counted 5 0 _ (omega arith) ∙
     ap suc
     (events paged .not-counted 1 3 _ (omega arith) (omega arith, inr (omega (arith, one))) ∙
     events received .counted 0 2 _ (omega arith) (inr (omega arith, refl, omega (arith, zero))) ∙
@@ -140,25 +140,25 @@ count-xs =
 abbrev afterFull : Functions
 afterFull = fedOwn automatonW 2 family ((0, 2) ∷ [])
 
-abbrev afterStranger : Functions
-afterStranger = fedOwn automatonW 2 afterFull ((5, 0) ∷ [])
+abbrev afterAbsent : Functions
+afterAbsent = fedOwn automatonW 2 afterFull ((5, 0) ∷ [])
 
-stranger-kept : (g : ℕ) → afterStranger g ≡ afterFull g
-stranger-kept g = events afterFull .stranger-kept 5 0 g (omega arith)
+absent-kept : (g : ℕ) → afterAbsent g ≡ afterFull g
+absent-kept g = events afterFull .absent-kept 5 0 g (omega arith)
 
 -- then Page of client 1, each after the other
-one-by-one : (g : ℕ) → fedOwn automatonW 2 family ((0, 2) ∷ (5, 0) ∷ (1, 2) ∷ []) g ≡ fedOwn automatonW 2 afterStranger ((1, 2) ∷ []) g
+one-by-one : (g : ℕ) → fedOwn automatonW 2 family ((0, 2) ∷ (5, 0) ∷ (1, 2) ∷ []) g ≡ fedOwn automatonW 2 afterAbsent ((1, 2) ∷ []) g
 one-by-one g = events family .first-fed (0, 2) _ g ∙ events afterFull .first-fed (5, 0) _ g
 
 pub events-fields : EventsFields
 events-fields =
-    let unchanged = stranger-kept 1 ∙ events family .other-kept 0 2 1 (λ h. omega arith) in
+    let unchanged = absent-kept 1 ∙ events family .other-kept 0 2 1 (λ h. omega arith) in
     record {
       none-fed = events family .none-fed 0;
       fed =
-          one-by-one 1 ∙ events afterStranger .own-fed 1 2 (omega arith) ∙ ap (λ s. store automatonW s 2) unchanged ∙ page-held;
+          one-by-one 1 ∙ events afterAbsent .own-fed 1 2 (omega arith) ∙ ap (λ s. store automatonW s 2) unchanged ∙ page-held;
       fed-other =
-          one-by-one 0 ∙ events afterStranger .other-kept 1 2 0 (λ h. omega arith) ∙ stranger-kept 0 ∙
+          one-by-one 0 ∙ events afterAbsent .other-kept 1 2 0 (λ h. omega arith) ∙ absent-kept 0 ∙
           events family .own-fed 0 2 (omega arith) ∙ full-kept;
       put = put-xs;
       counted = count-xs;

@@ -22,7 +22,7 @@ use Rattle.clients_answers.specs.Clients.{none, initialClients, Outcome, emitte
 use Rattle.enforcement_clients.specs.ClientCalls.{ClientCall, receiveFor, runFor, ClientReply, receive, run}
 use Rattle.enforcement_clients.specs.ClientCalls.{replies, leavesAll, ownAll, momentsOf}
 use Rattle.enforcement_clients.specs.Functions.{unfed, expectedAll, fedAll, eventsTo, configurationsAt}
-use Rattle.enforcement_clients.specs.Claims.{broughtTo, ClientsEnforced}
+use Rattle.enforcement_clients.specs.Claims.{outcomesTo, ClientsEnforced}
 use Rattle.enforcement_clients_instances.specs.ListStatements.{sent, broken, waiting, here, brings, answerFor}
 
 -- the reply to a refused event, and to a day
@@ -90,8 +90,8 @@ pub record OwnFields : Type 0 where
   pub events : eventsTo automatonW 2 unfed 1 calls ≡ ownEvents
   pub function : storeAll automatonW empty ownEvents ≡ storeOf (0 ∷ 2 ∷ 3 ∷ []) (2 ∷ [])
   pub brought : ownAll automatonW tableW (startW 2) 1 calls ≡ ownEvents
-  pub rows : map (λ (x : Outcome). x .refusal) (broughtTo automatonW tableW (startW 2) 1 calls) ≡ 0 ∷ 0 ∷ 0 ∷ 14 ∷ 0 ∷ []
-  pub received : emittedOf (broughtTo automatonW tableW (startW 2) 1 calls) ≡ 0 ∷ 2 ∷ 3 ∷ []
+  pub rows : map (λ (x : Outcome). x .refusal) (outcomesTo automatonW tableW (startW 2) 1 calls) ≡ 0 ∷ 0 ∷ 0 ∷ 14 ∷ 0 ∷ []
+  pub received : emittedOf (outcomesTo automatonW tableW (startW 2) 1 calls) ≡ 0 ∷ 2 ∷ 3 ∷ []
   pub last : getD (leavesAll automatonW tableW (startW 2) calls) 1 none ≡ configuration (at 1 (2 ∷ []))
   -- a monitor of its own, with its events
   pub as-alone : configurationAfter automatonW tableW (initialOf automatonW) (map receiveCall ownEvents)
@@ -113,11 +113,11 @@ pub record MetFields : Type 0 where
       × (accepts automatonW (reached automatonW 0 (0 ∷ 2 ∷ 3 ∷ [])) ≡ true)
   pub later : (winningAfter automatonW tableW again ≡ true) × (accepts automatonW (reached automatonW 0 (0 ∷ 2 ∷ 3 ∷ [])) ≡ true)
   pub said-initially : status automatonW tableW (configuration (at 1 (2 ∷ []))) .winning ≡ true
-  -- .. and so does the answer to each event that is accepted then
-  pub flagged-initially : (e : ℕ)
-      → Rattle.monitor_answers.specs.Answers.received automatonW tableW (configuration (at 1 (2 ∷ []))) e .refusal ≡ 0
-      → Rattle.monitor_answers.specs.Answers.received automatonW tableW (configuration (at 1 (2 ∷ []))) e .winning ≡ true
+  -- .. and so does the answer to Receipt, which is accepted then
+  pub flagged-initially :
+      Rattle.monitor_answers.specs.Answers.received automatonW tableW (configuration (at 1 (2 ∷ []))) 3 .winning ≡ true
   pub said : status automatonW tableW (configuration (at 1 (2 ∷ []))) .winning ≡ true
+  pub flagged : Rattle.monitor_answers.specs.Answers.received automatonW tableW (configuration (at 1 (2 ∷ []))) 3 .winning ≡ true
   -- whoever lets the last Page go, inside the day, is driven out by at most two events
   pub strategies : (us : List ℕ)
       × AllUncontrollable automatonW us
@@ -182,6 +182,30 @@ callsTwo =
 abbrev pub otherTable : List ℕ
 otherTable = 19 ∷ 5 ∷ 35 ∷ 8 ∷ 3 ∷ 0 ∷ 67 ∷ 1 ∷ 3 ∷ 9 ∷ 51 ∷ 7 ∷ 19 ∷ 1 ∷ []
 
+-- the list of two after Sign of client 1
+abbrev pub signed : List Configuration
+signed = configuration (at 1 (2 ∷ 2 ∷ [])) ∷ configuration (at 1 (2 ∷ [])) ∷ []
+
+-- Calls one after the other: Sign and Receipt of client 1 on the list of two; and to the functions
+-- of two clients its Sign, for which more than two are to be lent, Page and Receipt.
+pub record Turns : Type 0 where
+  pub none-answered : replies automatonW tableW two [] ≡ []
+  pub one-answered : replies automatonW tableW two (receiveFor 2 1 0 ∷ []) ≡ receive (answerFor (0 ∷ [])) ∷ []
+  pub more-answered : replies automatonW tableW two (receiveFor 2 1 0 ∷ receiveFor 2 1 3 ∷ [])
+      ≡ receive (answerFor (0 ∷ [])) ∷ receive (answerFor (2 ∷ 3 ∷ [])) ∷ []
+  pub none-left : leavesAll automatonW tableW two [] ≡ two
+  pub one-left : leavesAll automatonW tableW two (receiveFor 2 1 0 ∷ []) ≡ signed
+  pub more-left : leavesAll automatonW tableW two (receiveFor 2 1 0 ∷ receiveFor 2 1 3 ∷ [])
+      ≡ configuration (at 1 (2 ∷ 2 ∷ [])) ∷ configuration (at 1 []) ∷ []
+  pub none-expected : expectedAll automatonW 2 unfed [] ≡ []
+  pub one-expected : expectedAll automatonW 2 unfed (receiveFor 7 1 0 ∷ []) ≡ receive (answerFor (0 ∷ [])) ∷ []
+  pub more-expected : expectedAll automatonW 2 unfed (receiveFor 7 1 0 ∷ receiveFor 2 1 2 ∷ receiveFor 2 1 3 ∷ [])
+      ≡ receive (answerFor (0 ∷ [])) ∷ receive (answerFor []) ∷ receive (answerFor (2 ∷ 3 ∷ [])) ∷ []
+  pub none-fed : fedAll automatonW 2 unfed [] 1 ≡ storeOf [] []
+  pub one-fed : fedAll automatonW 2 unfed (receiveFor 7 1 0 ∷ []) 1 ≡ storeOf (0 ∷ []) []
+  pub more-fed : fedAll automatonW 2 unfed (receiveFor 7 1 0 ∷ receiveFor 2 1 2 ∷ receiveFor 2 1 3 ∷ []) 1
+      ≡ storeOf (0 ∷ 2 ∷ 3 ∷ []) []
+
 -- what calls on the list of two bring client 1, each by itself: an event of its own and another's,
 -- a day; an event with none lent, a day without room, an event that lends client 0 alone
 pub record Bringing : Type 0 where
@@ -194,20 +218,20 @@ pub record Bringing : Type 0 where
   pub not-lent : ownAll automatonW tableW two 1 (receiveFor 1 1 3 ∷ []) ≡ []
   -- one after the other, and what they bring: Sign goes out, and Receipt lets the Page go with it
   pub first : ownAll automatonW tableW two 1 (receiveFor 2 1 0 ∷ receiveFor 2 1 3 ∷ []) ≡ 0 ∷ 3 ∷ []
-  pub brought-nothing : broughtTo automatonW tableW two 1 [] ≡ []
-  pub brought-event : broughtTo automatonW tableW two 1 (receiveFor 2 1 0 ∷ []) ≡ brings 0 (0 ∷ []) ∷ []
-  pub brought-day : broughtTo automatonW tableW two 1 (runFor 2 (sent 0 3 ∷ sent 1 0 ∷ sent 9 9 ∷ []) (filled 6 9) ∷ [])
+  pub outcomes-nothing : outcomesTo automatonW tableW two 1 [] ≡ []
+  pub outcomes-event : outcomesTo automatonW tableW two 1 (receiveFor 2 1 0 ∷ []) ≡ brings 0 (0 ∷ []) ∷ []
+  pub outcomes-day : outcomesTo automatonW tableW two 1 (runFor 2 (sent 0 3 ∷ sent 1 0 ∷ sent 9 9 ∷ []) (filled 6 9) ∷ [])
       ≡ brings 0 (0 ∷ []) ∷ []
-  pub brought-first : broughtTo automatonW tableW two 1 (receiveFor 2 1 0 ∷ receiveFor 2 1 3 ∷ [])
+  pub outcomes-first : outcomesTo automatonW tableW two 1 (receiveFor 2 1 0 ∷ receiveFor 2 1 3 ∷ [])
       ≡ brings 0 (0 ∷ []) ∷ brings 0 (2 ∷ 3 ∷ []) ∷ []
 
 pub record Beside : Type 0 where
   -- calls over other lists bring the client the same
   pub own : ownAll automatonW tableW two 1 callsTwo ≡ 0 ∷ 3 ∷ []
-  pub brought : broughtTo automatonW tableW two 1 callsTwo ≡ brings 0 (0 ∷ []) ∷ brings 0 (2 ∷ 3 ∷ []) ∷ []
+  pub outcomes : outcomesTo automatonW tableW two 1 callsTwo ≡ brings 0 (0 ∷ []) ∷ brings 0 (2 ∷ 3 ∷ []) ∷ []
   pub last : getD (leavesAll automatonW tableW two callsTwo) 1 none ≡ configuration (at 1 [])
   -- the broken one, over a table that nobody solved
-  pub broken-brought : broughtTo automatonW (filled 14 9) (broken ∷ []) 0 (receiveFor 1 0 2 ∷ []) ≡ brings 13 [] ∷ []
+  pub broken-outcomes : outcomesTo automatonW (filled 14 9) (broken ∷ []) 0 (receiveFor 1 0 2 ∷ []) ≡ brings 13 [] ∷ []
   pub broken-last : getD (leavesAll automatonW (filled 14 9) (broken ∷ []) (receiveFor 1 0 2 ∷ [])) 0 none ≡ broken
   -- the calls here over the other table
   pub replies-other : replies automatonW otherTable here callsHere
@@ -216,11 +240,10 @@ pub record Beside : Type 0 where
       ≡ configuration (at 1 []) ∷ broken ∷ configuration (at 0 []) ∷ []
 
 -- The list here as somebody stored it: its client 0 is winning, and so it is after the calls here;
--- Sign of it says so too.
+-- Sign of it, before them and after them, says so too.
 pub record Reloaded : Type 0 where
   pub before : status automatonW tableW waiting .winning ≡ true
   pub after : status automatonW tableW (getD (leavesAll automatonW tableW here callsHere) 0 none) .winning ≡ true
-  pub flagged : (e : ℕ) → let r = receivedFor automatonW tableW (leavesAll automatonW tableW here callsHere) 0 e in
-      r .refusal ≡ 0 → r .winning ≡ true
+  pub flagged : receivedFor automatonW tableW (leavesAll automatonW tableW here callsHere) 0 0 .winning ≡ true
   pub flag-is-status : status automatonW tableW (getD (receivedClients automatonW tableW here 0 0) 0 none)
       ≡ record { refusal = 0; winning = true }

@@ -2,23 +2,22 @@
 -- bytes and the list of two.
 use Prim.Native.Nat.{_+_}
 use mathlib.Core.Path.{_≡_}
-use mathlib.Core.List.{List, [], _∷_}
+use mathlib.Core.List.{[], _∷_, map}
 use lib.ListN.{length, replicate}
-use Rattle.configuration.specs.declared.Configuration.{Configuration}
 use Rattle.configuration.specs.Configuration.{configuration}
 use Rattle.enforcement_instances.specs.Statements.{filled, tableW, at}
 use Rattle.enforcement_instances.specs.LayoutStatements.{recordW, anyBytes}
 use Rattle.clients_answers.specs.declared.RanFor.{RanFor}
 use Rattle.clients_answers.specs.Clients.{initialClients}
-use Rattle.enforcement_clients.specs.ClientCalls.{ClientCall, leavesAll}
+use Rattle.enforcement_clients.specs.ClientCalls.{receive}
 use Rattle.enforcement_clients.specs.Claims.{ClientsEnforced}
 use Rattle.c_layout.specs.Offsets.{receivedSize, receivedEmitted, receivedCount, receivedWinning}
 use Rattle.c_layout.specs.Offsets.{ranSize, ranLength, ranRefused, numberSize}
 use Rattle.c_layout.specs.Layout.{byteAt, part, numberOf, automatonOf}
 use Rattle.c_layout.specs.Calls.{receivedForLeft, ranForLeft, receiveForLeaves, runForLeaves}
-use Rattle.enforcement_bytes.specs.ClientByteCalls.{leavesForAll, nextForAll, laidForAll, initialList}
-use Rattle.enforcement_clients_instances.specs.ListStatements.{sent, answerFor}
-use Rattle.enforcement_clients_instances.specs.CallStatements.{two, callsTwo, calls}
+use Rattle.enforcement_bytes.specs.ClientByteCalls.{BesideList, besideAll, nextForAll, laidFor, initialList}
+use Rattle.enforcement_clients_instances.specs.ListStatements.{sent, broken, here, answerFor}
+use Rattle.enforcement_clients_instances.specs.CallStatements.{refused, ran, two, callsHere, calls, callReplies}
 
 -- a day's answer: 300 bytes written, two events refused
 abbrev pub longDay : RanFor
@@ -32,11 +31,12 @@ pub record ClientLayouts : Type 0 where
   pub winning : byteAt (receivedForLeft (answerFor (2 ∷ 3 ∷ [])) two .answer) receivedWinning ≡ 1
   pub ran-size : length (ranForLeft longDay two [] .answer) ≡ ranSize
   pub written : numberOf (part ranLength numberSize (ranForLeft longDay two [] .answer)) ≡ 300
-  pub refused : numberOf (part ranRefused numberSize (ranForLeft longDay two [] .answer)) ≡ 2
+  pub events-refused : numberOf (part ranRefused numberSize (ranForLeft longDay two [] .answer)) ≡ 2
   -- Sign of client 1: its refusal, and the list with it
   pub event-refusal : receiveForLeaves recordW tableW two 1 0 .refusal ≡ 0
   pub event-list : receiveForLeaves recordW tableW two 1 0 .configurations
       ≡ configuration (at 1 (2 ∷ 2 ∷ [])) ∷ configuration (at 1 (2 ∷ [])) ∷ []
+  pub event-answer : byteAt (receiveForLeaves recordW tableW two 1 0 .answer) receivedCount ≡ 1
   -- a client that is not there: 19, and all stays
   pub event-refused : (receiveForLeaves recordW tableW two 2 0 .configurations ≡ two)
       × (receiveForLeaves recordW tableW two 2 0 .answer ≡ replicate receivedSize 0)
@@ -44,16 +44,19 @@ pub record ClientLayouts : Type 0 where
   pub run-refusal : runForLeaves recordW tableW two (sent 1 0 ∷ []) (filled 4 9) .refusal ≡ 0
   pub run-list : runForLeaves recordW tableW two (sent 1 0 ∷ []) (filled 4 9) .configurations
       ≡ configuration (at 1 (2 ∷ 2 ∷ [])) ∷ configuration (at 1 (2 ∷ [])) ∷ []
+  pub run-answer : numberOf (part ranLength numberSize (runForLeaves recordW tableW two (sent 1 0 ∷ []) (filled 4 9) .answer)) ≡ 1
   pub run-output : runForLeaves recordW tableW two (sent 1 0 ∷ []) (filled 4 9) .output ≡ 0 ∷ 9 ∷ 9 ∷ 9 ∷ []
   pub run-refused : (runForLeaves recordW tableW two (sent 1 0 ∷ []) (filled 3 9) .configurations ≡ two)
       × (runForLeaves recordW tableW two (sent 1 0 ∷ []) (filled 3 9) .answer ≡ replicate ranSize 0)
       × (runForLeaves recordW tableW two (sent 1 0 ∷ []) (filled 3 9) .output ≡ filled 3 9)
-  -- lists of calls, over any list
-  pub by-value : (cs : List Configuration) (xs : List ClientCall)
-      → leavesForAll recordW tableW cs xs ≡ laidForAll (automatonOf recordW) tableW cs xs
-  pub by-value-last : nextForAll recordW tableW two callsTwo ≡ leavesAll (automatonOf recordW) tableW two callsTwo
+  -- the calls here: Sign goes out, 20, and a day that writes three bytes and refuses one event
+  pub by-value : besideAll recordW tableW here callsHere
+      ≡ map laidFor (receive (answerFor (0 ∷ [])) ∷ refused 20 ∷ ran 0 3 1 (2 ∷ 3 ∷ 1 ∷ 9 ∷ 9 ∷ 9 ∷ 9 ∷ 9 ∷ 9 ∷ []) ∷ [])
+  pub by-value-list : nextForAll recordW tableW here callsHere ≡ configuration (at 1 []) ∷ broken ∷ configuration (at 0 []) ∷ []
   -- two clients made by the interface, over bytes that held something else
   pub initial-list : initialList recordW (anyBytes ∷ anyBytes ∷ []) ≡ initialClients (automatonOf recordW) 2
-  pub enforced-left : leavesForAll recordW tableW (initialList recordW (anyBytes ∷ anyBytes ∷ [])) calls
-      ≡ laidForAll (automatonOf recordW) tableW (initialList recordW (anyBytes ∷ anyBytes ∷ [])) calls
+  pub enforced-replies : besideAll recordW tableW (initialList recordW (anyBytes ∷ anyBytes ∷ [])) calls ≡ map laidFor callReplies
+  pub enforced-rows : map (λ (x : BesideList). x .refusal) (map laidFor callReplies) ≡ 20 ∷ 0 ∷ 16 ∷ 19 ∷ 0 ∷ 0 ∷ []
+  pub enforced-list : nextForAll recordW tableW (initialList recordW (anyBytes ∷ anyBytes ∷ [])) calls
+      ≡ configuration (at 0 []) ∷ configuration (at 1 (2 ∷ [])) ∷ []
   pub enforced : ClientsEnforced (automatonOf recordW) tableW 2 calls

@@ -74,14 +74,14 @@ answerFor emitted = record { refusal = 0; emitted = pad 7 emitted; count = lengt
 
 -- noninterference at W: what the client received here, and by the claim there
 pub record Isolating : Type 0 where
-  pub brought-here : partOf 0 (named dayHere) (dayOutcomes automatonW tableW here dayHere (filled 10 9)) ≡ ownOutcomes
+  pub part-here : partOf 0 (named dayHere) (dayOutcomes automatonW tableW here dayHere (filled 10 9)) ≡ ownOutcomes
   pub last-here : getD (ranClients automatonW tableW here dayHere (filled 10 9)) 0 none ≡ configuration (at 1 (2 ∷ 2 ∷ []))
   pub refusal : runForRefusal automatonW tableW there dayThere (filled 13 9) ≡ 0
-  pub brought : partOf 2 (named dayThere) (dayOutcomes automatonW tableW there dayThere (filled 13 9)) ≡ ownOutcomes
+  pub part : partOf 2 (named dayThere) (dayOutcomes automatonW tableW there dayThere (filled 13 9)) ≡ ownOutcomes
   pub last : getD (ranClients automatonW tableW there dayThere (filled 13 9)) 2 none ≡ configuration (at 1 (2 ∷ 2 ∷ []))
   -- the broken one itself, over a table that nobody solved: its Page is refused alike
   pub broken-here : partOf 1 (named dayHere) (dayOutcomes automatonW (filled 14 9) here dayHere (filled 10 9)) ≡ brings 13 [] ∷ []
-  pub broken-brought : partOf 0 (named dayBeside) (dayOutcomes automatonW (filled 14 9) beside dayBeside (filled 5 9))
+  pub broken-part : partOf 0 (named dayBeside) (dayOutcomes automatonW (filled 14 9) beside dayBeside (filled 5 9))
       ≡ brings 13 [] ∷ []
   pub broken-last : getD (ranClients automatonW (filled 14 9) beside dayBeside (filled 5 9)) 0 none ≡ broken
   -- days that row 12 refuses, with no room either
@@ -104,13 +104,13 @@ added = (1, 1) ∷ (0, 5) ∷ (7, 3) ∷ (1, 2) ∷ []
 
 -- isolation for any step, here that one: the record 1 of two
 pub record AnyStep : Type 0 where
-  pub brought : partOf 1 added (outcomes adding (10 ∷ 20 ∷ []) added) ≡ 21 ∷ 23 ∷ []
+  pub part : partOf 1 added (outcomes adding (10 ∷ 20 ∷ []) added) ≡ 21 ∷ 23 ∷ []
   pub last : getD (changedBy adding (10 ∷ 20 ∷ []) added) 1 0 ≡ 23
   pub count : length (changedBy adding (10 ∷ 20 ∷ []) added) ≡ 2
   -- whose own events they are
   pub own : eventsOf 1 added ≡ 1 ∷ 2 ∷ []
-  -- and its part of what four events brought, whatever that is
-  pub part : partOf {O = ℕ} 1 added (11 ∷ 12 ∷ 13 ∷ 14 ∷ []) ≡ 11 ∷ 14 ∷ []
+  -- and its part of what came of four events, whatever that is
+  pub own-part : partOf {O = ℕ} 1 added (11 ∷ 12 ∷ 13 ∷ 14 ∷ []) ≡ 11 ∷ 14 ∷ []
 
 -- so many clients at their start
 abbrev pub crowd : ℕ → List Configuration

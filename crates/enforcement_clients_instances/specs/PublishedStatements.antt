@@ -44,7 +44,7 @@ pub record EventFields : Type 0 where
   pub fed : fedIn automatonW 2 family (receiveFor 2 1 2) 1 ≡ storeOf (0 ∷ []) (2 ∷ [])
   pub others : fedIn automatonW 2 family (receiveFor 2 1 2) 0 ≡ twoHeld
   pub wrong-count : fedIn automatonW 501 family (receiveFor 501 1 2) 1 ≡ storeOf (0 ∷ []) []
-  pub stranger : fedIn automatonW 2 family (receiveFor 2 2 2) 2 ≡ storeOf (0 ∷ []) []
+  pub absent : fedIn automatonW 2 family (receiveFor 2 2 2) 2 ≡ storeOf (0 ∷ []) []
   -- client 1's Receipt goes at once; client 0's finds the buffer full
   pub answer : expectedIn automatonW 2 family (receiveFor 2 1 3) ≡ receive (answerFor (3 ∷ []))
   pub answer-refused : expectedIn automatonW 2 family (receiveFor 2 0 3) ≡ refused 15
