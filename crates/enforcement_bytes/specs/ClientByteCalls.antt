@@ -5,7 +5,6 @@ use mathlib.Core.Path.{_≡_}
 use mathlib.Core.Bool.{true}
 use mathlib.Core.List.{List, [], _∷_, _++_, map}
 use lib.ListN.{length, take, drop}
-use Rattle.automaton.specs.declared.Automaton.{Automaton}
 use Rattle.automaton.specs.Automaton.{valid}
 use Rattle.solver_sets.specs.Table.{Solved}
 use Rattle.configuration.specs.declared.Configuration.{Configuration}

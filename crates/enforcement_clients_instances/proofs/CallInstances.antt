@@ -12,7 +12,6 @@ use Rattle.base.proofs.Ranges.{each-at}
 use Rattle.automaton.specs.Automaton.{accepts, reached}
 use Rattle.solver_sets.specs.Table.{Solved, short, index}
 use Rattle.solver_sets.proofs.Numbering.{numbered}
-use Rattle.configuration.specs.declared.Configuration.{Configuration}
 use Rattle.configuration.specs.Configuration.{configuration, initialOf}
 use Rattle.monitor_answers.specs.Answers.{tableRows, callRows, callRefusal, isWinning, status, receiveRefusal, received}
 use Rattle.enforcement.specs.Store.{Store, empty, storeAll, feed, feedAll}

@@ -19,7 +19,7 @@ use Rattle.enforcement_bytes.proofs.ClientByteCalls.{clients-by-value, client-b
 use Rattle.enforcement_clients_instances.proofs.Computing.{listing}
 use Rattle.enforcement_clients_instances.proofs.CallInstances.{replies-here, leaves-here, fields}
 use Rattle.enforcement_clients_instances.specs.ListStatements.{sent, here, answerFor}
-use Rattle.enforcement_clients_instances.specs.CallStatements.{two, callsHere, calls, callReplies}
+use Rattle.enforcement_clients_instances.specs.CallStatements.{two, callsHere, calls}
 use Rattle.enforcement_clients_instances.specs.LayoutStatements.{ClientLayouts}
 
 -- what the calls by value say of W and the list of two
