@@ -1,57 +1,40 @@
--- Calls one after the other, by induction over the first of them.
-use Prim.Native.Nat.{ℕ}
-use mathlib.Core.Path.{_≡_, refl, ap}
+-- Calls one after the other: one law, by induction over the first of them, for whatever the calls
+-- leave and whatever is said to them.
+use mathlib.Core.Path.{_≡_, refl, _∙_, ap}
 use mathlib.Core.List.{List, [], _∷_, _++_}
-use Rattle.automaton.specs.declared.Automaton.{Automaton}
-use Rattle.configuration.specs.declared.Configuration.{Configuration}
-use Rattle.enforcement_clients.specs.ClientCalls.{ClientCall, ClientReply, reply, leaves, replies, leavesAll}
-use Rattle.enforcement_clients.specs.Functions.{Functions, lentOf, expected, fed, expectedAll, fedAll}
-use Rattle.enforcement_clients.specs.Claims.{AnsweredInTurn, ExpectedInTurn}
+use Rattle.enforcement_clients.specs.ClientCalls.{ClientCall, reply, leaves, replies, leavesAll}
+use Rattle.enforcement_clients.specs.Functions.{lentOf, expected, fed, expectedAll, fedAll}
+use Rattle.enforcement_clients.specs.Claims.{InTurn, AnsweredInTurn, ExpectedInTurn}
 
-module _ (a : Automaton) (t : List ℕ) (ys : List ClientCall) where
-  more-answered : (xs : List ClientCall) (cs : List Configuration)
-      → replies a t cs (xs ++ ys) ≡ replies a t cs xs ++ replies a t (leavesAll a t cs xs) ys
-  unfolding replies leavesAll
-  more-answered [] cs = refl
-  more-answered (x ∷ xs) cs = ap (λ (rs : List ClientReply). reply a t cs x ∷ rs) (more-answered xs (leaves a t cs x))
+module _ {S O : Type 0} (one : S → ClientCall → O) (next : S → ClientCall → S) (all : S → List ClientCall → List O) (last : S → List ClientCall → S)
+    (all-none : (s : S) → all s [] ≡ []) (all-first : (s : S) (x : ClientCall) (xs : List ClientCall) → all s (x ∷ xs) ≡ one s x ∷ all (next s x) xs)
+    (last-none : (s : S) → last s [] ≡ s) (last-first : (s : S) (x : ClientCall) (xs : List ClientCall) → last s (x ∷ xs) ≡ last (next s x) xs) where
+  more-said : (xs ys : List ClientCall) (s : S) → all s (xs ++ ys) ≡ all s xs ++ all (last s xs) ys
+  more-said [] ys s = rw (all-none s, last-none s)
+  more-said (x ∷ xs) ys s =
+      all-first s x (xs ++ ys) ∙ rw (all-first s x xs, last-first s x xs) (ap (λ (os : List O). one s x ∷ os) (more-said xs ys (next s x)))
 
-  more-left : (xs : List ClientCall) (cs : List Configuration) → leavesAll a t cs (xs ++ ys) ≡ leavesAll a t (leavesAll a t cs xs) ys
-  unfolding leavesAll
-  more-left [] cs = refl
-  more-left (x ∷ xs) cs = more-left xs (leaves a t cs x)
+  more-left : (xs ys : List ClientCall) (s : S) → last s (xs ++ ys) ≡ last (last s xs) ys
+  more-left [] ys s = rw (last-none s)
+  more-left (x ∷ xs) ys s = last-first s x (xs ++ ys) ∙ rw (last-first s x xs) (more-left xs ys (next s x))
+
+  in-turn : (s : S) → InTurn one next all last s
+  in-turn s =
+      record {
+        none-said = all-none s;
+        one-said = λ x. all-first s x [] ∙ ap (λ (os : List O). one s x ∷ os) (all-none (next s x));
+        more-said = λ xs ys. more-said xs ys s;
+        none-left = last-none s;
+        one-left = λ x. last-first s x [] ∙ last-none (next s x);
+        more-left = λ xs ys. more-left xs ys s;
+      }
 
 pub answered-in-turn : AnsweredInTurn
 unfolding replies leavesAll
-answered-in-turn a t cs =
-    record {
-      none-answered = refl;
-      one-answered = λ x. refl;
-      more-answered = λ xs ys. more-answered a t ys xs cs;
-      none-left = refl;
-      one-left = λ x. refl;
-      more-left = λ xs ys. more-left a t ys xs cs;
-    }
-
-module _ (a : Automaton) (count : ℕ) (ys : List ClientCall) where
-  more-expected : (xs : List ClientCall) (ss : Functions)
-      → expectedAll a count ss (xs ++ ys) ≡ expectedAll a count ss xs ++ expectedAll a count (fedAll a count ss xs) ys
-  unfolding expectedAll fedAll
-  more-expected [] ss = refl
-  more-expected (x ∷ xs) ss = ap (λ (rs : List ClientReply). expected a count ss x ∷ rs) (more-expected xs (fed a count ss x))
-
-  more-fed : (xs : List ClientCall) (ss : Functions) → fedAll a count ss (xs ++ ys) ≡ fedAll a count (fedAll a count ss xs) ys
-  unfolding fedAll
-  more-fed [] ss = refl
-  more-fed (x ∷ xs) ss = more-fed xs (fed a count ss x)
+answered-in-turn a t =
+    in-turn (reply a t) (leaves a t) (replies a t) (leavesAll a t) (λ cs. refl) (λ cs x xs. refl) (λ cs. refl) (λ cs x xs. refl)
 
 pub expected-in-turn : ExpectedInTurn
 unfolding expectedAll fedAll expected fed lentOf
-expected-in-turn a count ss =
-    record {
-      none-expected = refl;
-      one-expected = λ x. refl;
-      more-expected = λ xs ys. more-expected a count ys xs ss;
-      none-fed = refl;
-      one-fed = λ x g. refl;
-      more-fed = λ xs ys. more-fed a count ys xs ss;
-    }
+expected-in-turn a count =
+    in-turn (expected a count) (fed a count) (expectedAll a count) (fedAll a count) (λ ss. refl) (λ ss x xs. refl) (λ ss. refl) (λ ss x xs. refl)

@@ -26,32 +26,28 @@ use Rattle.enforcement_clients.specs.ClientCalls.{ownAll, seenAll, momen
 use Rattle.enforcement_clients.specs.Functions.{Functions, unfed, fedIn, expectedIn, expectedAll, fedAll}
 use Rattle.enforcement_clients.specs.Functions.{eventsTo, refusalsOf, configurationsAt}
 
--- Calls one after the other: each is answered over the configurations that those before it left ..
-pub record InTurn (a : Automaton) (t : List ℕ) (cs : List Configuration) : Type 0 where
-  pub none-answered : replies a t cs [] ≡ []
-  pub one-answered : (x : ClientCall) → replies a t cs (x ∷ []) ≡ reply a t cs x ∷ []
-  pub more-answered : (xs ys : List ClientCall)
-      → replies a t cs (xs ++ ys) ≡ replies a t cs xs ++ replies a t (leavesAll a t cs xs) ys
-  pub none-left : leavesAll a t cs [] ≡ cs
-  pub one-left : (x : ClientCall) → leavesAll a t cs (x ∷ []) ≡ leaves a t cs x
-  pub more-left : (xs ys : List ClientCall) → leavesAll a t cs (xs ++ ys) ≡ leavesAll a t (leavesAll a t cs xs) ys
+-- Calls one after the other, s being what they begin with: to each is said what `one` says over
+-- what those before it left, `next` after `next`.
+pub record InTurn {S O : Type 0} (one : S → ClientCall → O) (next : S → ClientCall → S)
+    (all : S → List ClientCall → List O) (last : S → List ClientCall → S) (s : S) : Type 0 where
+  pub none-said : all s [] ≡ []
+  pub one-said : (x : ClientCall) → all s (x ∷ []) ≡ one s x ∷ []
+  pub more-said : (xs ys : List ClientCall) → all s (xs ++ ys) ≡ all s xs ++ all (last s xs) ys
+  pub none-left : last s [] ≡ s
+  pub one-left : (x : ClientCall) → last s (x ∷ []) ≡ next s x
+  pub more-left : (xs ys : List ClientCall) → last s (xs ++ ys) ≡ last (last s xs) ys
 
+-- so are they answered, over the configurations ..
 abbrev pub AnsweredInTurn : Type 0
-AnsweredInTurn = (a : Automaton) (t : List ℕ) (cs : List Configuration) → InTurn a t cs
+AnsweredInTurn =
+    (a : Automaton) (t : List ℕ) (cs : List Configuration) → InTurn (reply a t) (leaves a t) (replies a t) (leavesAll a t) cs
 
--- .. and the functions reply to each as those before it fed them. (A call lends what it says, or
--- all there are.)
-pub record FunctionsInTurn (a : Automaton) (count : ℕ) (ss : Functions) : Type 0 where
-  pub none-expected : expectedAll a count ss [] ≡ []
-  pub one-expected : (x : ClientCall) → expectedAll a count ss (x ∷ []) ≡ expectedIn a (min (lentBy x) count) ss x ∷ []
-  pub more-expected : (xs ys : List ClientCall)
-      → expectedAll a count ss (xs ++ ys) ≡ expectedAll a count ss xs ++ expectedAll a count (fedAll a count ss xs) ys
-  pub none-fed : fedAll a count ss [] ≡ ss
-  pub one-fed : (x : ClientCall) (g : ℕ) → fedAll a count ss (x ∷ []) g ≡ fedIn a (min (lentBy x) count) ss x g
-  pub more-fed : (xs ys : List ClientCall) → fedAll a count ss (xs ++ ys) ≡ fedAll a count (fedAll a count ss xs) ys
-
+-- .. and by the functions. (A call lends what it says, or all there are.)
 abbrev pub ExpectedInTurn : Type 0
-ExpectedInTurn = (a : Automaton) (count : ℕ) (ss : Functions) → FunctionsInTurn a count ss
+ExpectedInTurn =
+    (a : Automaton) (count : ℕ) (ss : Functions)
+    → InTurn (λ fs x. expectedIn a (min (lentBy x) count) fs x) (λ fs x. fedIn a (min (lentBy x) count) fs x)
+    (expectedAll a count) (fedAll a count) ss
 
 -- The events that a list of calls brings a client, in words: of each call that no row refuses as a
 -- whole and that lends the client's configuration, the client's own events, in their order.

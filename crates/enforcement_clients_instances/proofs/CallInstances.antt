@@ -308,26 +308,26 @@ fed-later = refl
 pub turns : Turns
 turns =
     let k = answered-in-turn automatonW tableW in
-    let one = k two .one-answered (receiveFor 2 1 0) ∙ ap (λ r. r ∷ []) reply-sign in
+    let one = k two .one-said (receiveFor 2 1 0) ∙ ap (λ r. r ∷ []) reply-sign in
     let left = k two .one-left (receiveFor 2 1 0) ∙ leaves-two in
     let f = expected-in-turn automatonW 2 in
     record {
-      none-answered = k two .none-answered;
+      none-answered = k two .none-said;
       one-answered = one;
       more-answered =
-          k two .more-answered (receiveFor 2 1 0 ∷ []) (receiveFor 2 1 3 ∷ []) ∙
-          rw (one, left, k signed .one-answered (receiveFor 2 1 3), reply-receipt);
+          k two .more-said (receiveFor 2 1 0 ∷ []) (receiveFor 2 1 3 ∷ []) ∙
+          rw (one, left, k signed .one-said (receiveFor 2 1 3), reply-receipt);
       none-left = k two .none-left;
       one-left = left;
       more-left =
           k two .more-left (receiveFor 2 1 0 ∷ []) (receiveFor 2 1 3 ∷ []) ∙
           rw (left, k signed .one-left (receiveFor 2 1 3), leaves-signed);
-      none-expected = f unfed .none-expected;
-      one-expected = f unfed .one-expected (receiveFor 7 1 0) ∙ ap (λ r. r ∷ []) expected-sign;
-      more-expected = f unfed .more-expected signPage (receiveFor 2 1 3 ∷ []) ∙ expected-later;
-      none-fed = ap (λ (ss : Functions). ss 1) (f unfed .none-fed);
-      one-fed = f unfed .one-fed (receiveFor 7 1 0) 1 ∙ fed-sign;
-      more-fed = ap (λ (ss : Functions). ss 1) (f unfed .more-fed signPage (receiveFor 2 1 3 ∷ [])) ∙ fed-later;
+      none-expected = f unfed .none-said;
+      one-expected = f unfed .one-said (receiveFor 7 1 0) ∙ ap (λ r. r ∷ []) expected-sign;
+      more-expected = f unfed .more-said signPage (receiveFor 2 1 3 ∷ []) ∙ expected-later;
+      none-fed = ap (λ (ss : Functions). ss 1) (f unfed .none-left);
+      one-fed = ap (λ (ss : Functions). ss 1) (f unfed .one-left (receiveFor 7 1 0)) ∙ fed-sign;
+      more-fed = ap (λ (ss : Functions). ss 1) (f unfed .more-left signPage (receiveFor 2 1 3 ∷ [])) ∙ fed-later;
     }
 
 pub bringing : Bringing
