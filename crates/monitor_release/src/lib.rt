@@ -1,64 +1,109 @@
-// The release: the search for the longest front part of the buffer that brings the state to where
-// the monitor may rest with what is left.
+// The release, to be read beside Definition 3.10 of source document 001: of the buffer's front
+// parts in turn from the empty one, those that qualify (the paper's G), then the longest of them
+// (its κ).
 use base::as_u32;
 use base::as_usize;
 use base::has;
+use monitor_rule::Found;
 use monitor_rule::Front;
 ghost use mathlib.Core.Path.{_≡_};
-ghost use Prim.Native.Nat.{ℕ, _+_, _*_, _≤_, _<_};
-ghost use lib.ListN.{getD, length, take, replicate};
+ghost use mathlib.Core.Bool.{cond};
+ghost use mathlib.Core.List.{[]};
+ghost use Prim.Native.Nat.{ℕ, _*_, _≤_, _<_};
+ghost use lib.ListN.{getD, length, set, take, replicate};
+ghost use Rattle.base.specs.Each.{lastOr};
 ghost use Rattle.base.specs.Pad.{pad};
-ghost use Rattle.base.specs.Masks.{has};
-ghost use Rattle.monitor_rule.specs.Fronts.{indexIn, indicesOf, restIn, over, front, ReleaseRequires};
+ghost use Rattle.monitor_rule.specs.Step.{qualifying};
+ghost use Rattle.monitor_rule.specs.Fronts.{indexIn, restIn, restSets, restAmong, over, front, foundIn, keptIn, ReleaseRequires};
 
-// State q is in S of the buffer with this number, which stands at twice the number in the table.
-fn in_set(table: &[u32], index: u32, q: usize) -> bool
-    requires { ⌜ (2 * index < length (now table)) × (q < 32) ⌝ }
-    ensures { λ r. ⌜ r ≡ has (getD (now (table .entry)) (2 * index) 0) q ⌝ }
-{
-    let at = 2 * (index as usize);
-    has(table[at], q)
-}
-
-// The numbers of what is left of the buffer after each front part, into an array that is 0; its
-// places stay so for the empty buffer and where they are not used.
-fn indices<'a>(ranks: &'a [u8; 16], k: u32, buffer: [u8; 6], held: usize, out: &mut [u32; 8])
+// The sets of the table for what each front part leaves, in turn from the empty front part, into
+// an array that is 0. A set stands at twice the number of what is left; the number grows by each
+// event from the buffer's end on.
+fn rest_sets<'a>(
+    ranks: &'a [u8; 16],
+    k: u32,
+    table: &[u32],
+    buffer: [u8; 6],
+    held: usize,
+    sets: &mut [u32; 8],
+)
     requires { ⌜ (held ≤ 6) × (k ≤ 8) × ((e : ℕ) → getD (now ranks) e 0 ≤ 8) × ((i : ℕ) → getD buffer i 0 < 16)
-        × (now out ≡ replicate 8 0) ⌝ }
-    ensures { λ _. ⌜ now (out .exit) ≡ pad 8 (indicesOf (now (ranks .entry)) k (take held buffer)) ⌝ }
+        × (2 * indexIn (now ranks) k (take held buffer) < length (now table)) × (now sets ≡ replicate 8 0) ⌝ }
+    ensures { λ _. ⌜ now (sets .exit) ≡ pad 8 (restSets (now (table .entry)) (now (ranks .entry)) k (take held buffer)) ⌝ }
 {
     let mut index: u32 = 0;
     let mut weight: u32 = 1;
     let mut i = held;
+    sets[held] = table[0];
     while 0 < i {
         i = i - 1;
         index = index + as_u32(ranks[as_usize(buffer[i])]) * weight;
         weight = weight * k;
-        out[i] = index;
+        sets[i] = table[2 * (index as usize)];
     }
 }
 
-// Whether the monitor may rest in a state with a buffer.
-pub fn rests<'a>(
-    ranks: &'a [u8; 16],
-    k: u32,
-    table: &[u32],
+// Adds the length r of a front part, which leads to p, to those found if it qualifies.
+fn keep(qualifies: bool, r: usize, p: usize, found: Found, lengths: &mut [u8; 7]) -> Found
+    requires { ⌜ (found .count < 7) × (r < 256) ⌝ }
+    ensures { λ f. ⌜ (f ≡ keptIn qualifies p found)
+        × (now (lengths .exit) ≡ cond qualifies (set (now (lengths .entry)) (found .count) r) (now (lengths .entry))) ⌝ }
+{
+    if qualifies {
+        let count = found.count;
+        lengths[count] = r as u8;
+        return Found {
+            count: count + 1,
+            state: p,
+        };
+    }
+    found
+}
+
+// All front parts that qualify, asked in turn from the empty one to the whole buffer: their
+// lengths, into an array that is 0. `sets` has, for each front part, the states where the monitor
+// may rest with what is left.
+fn qualifying<'a>(
+    next: &'a [u8; 512],
+    sets: &'a [u32; 8],
     q: usize,
     buffer: [u8; 6],
     held: usize,
-) -> bool
-    requires { ⌜ (held ≤ 6) × (k ≤ 8) × ((e : ℕ) → getD (now ranks) e 0 ≤ 8) × ((i : ℕ) → getD buffer i 0 < 16)
-        × (q < 32) × (2 * indexIn (now ranks) k (take held buffer) < length (now table)) ⌝ }
-    ensures { λ r. ⌜ r ≡ restIn (now (table .entry)) (now (ranks .entry)) k (take held buffer) q ⌝ }
+    lengths: &mut [u8; 7],
+) -> Found
+    requires { ⌜ (held ≤ 6) × (q < 32) × ((i : ℕ) → getD (now next) i 0 < 32) × ((i : ℕ) → getD buffer i 0 < 16)
+        × (now lengths ≡ replicate 7 0) ⌝ }
+    ensures { λ f. let rest = restAmong (now (sets .entry)) held in
+        let a = over [] (now (next .entry)) in
+        ⌜ (f ≡ foundIn rest a q (take held buffer))
+        × (now (lengths .exit) ≡ pad 7 (qualifying rest a q (take held buffer))) ⌝ }
 {
-    let mut left = [0u32; 8];
-    indices(ranks, k, buffer, held, &mut left);
-    in_set(table, left[0], q)
+    let mut found = Found { count: 0, state: q };
+    let mut p = q;
+    let mut r: usize = 0;
+    loop {
+        found = keep(has(sets[r], p), r, p, found, lengths);
+        if r == held {
+            break found;
+        }
+        p = as_usize(next[p * 16 + as_usize(buffer[r])]);
+        r = r + 1;
+    }
+}
+
+// The last of the first `count` lengths, which is the longest; 0 where there is none.
+fn longest(lengths: &[u8], count: usize) -> usize
+    requires { ⌜ count ≤ length (now lengths) ⌝ }
+    ensures { λ r. ⌜ r ≡ lastOr 0 (take count (now (lengths .entry))) ⌝ }
+{
+    if count == 0 {
+        return 0;
+    }
+    as_usize(lengths[count - 1])
 }
 
 // The longest front part of the buffer that leads to where the monitor may rest with what is left;
-// k is the number of controllable symbols. (The empty front part is not asked about: nothing is
-// released by it either.)
+// k is the number of controllable symbols.
 pub fn release<'a>(
     next: &'a [u8; 512],
     ranks: &'a [u8; 16],
@@ -73,19 +118,30 @@ pub fn release<'a>(
         let a = over (now (ranks .entry)) (now (next .entry)) in
         ⌜ r ≡ front rest a q (take held buffer) ⌝ }
 {
-    let mut left = [0u32; 8];
-    indices(ranks, k, buffer, held, &mut left);
-    let mut count: usize = 0;
-    let mut state = q;
-    let mut p = q;
-    let mut r: usize = 0;
-    while r < held {
-        p = as_usize(next[p * 16 + as_usize(buffer[r])]);
-        r = r + 1;
-        if in_set(table, left[r], p) {
-            count = r;
-            state = p;
-        }
+    let mut sets = [0u32; 8];
+    rest_sets(ranks, k, table, buffer, held, &mut sets);
+    let mut lengths = [0u8; 7];
+    let found = qualifying(next, &sets, q, buffer, held, &mut lengths);
+    Front {
+        count: longest(&lengths, found.count),
+        state: found.state,
     }
-    Front { count, state }
+}
+
+// Whether the monitor may rest in a state with a buffer, which is what the empty front part leaves.
+pub fn rests<'a>(
+    ranks: &'a [u8; 16],
+    k: u32,
+    table: &[u32],
+    q: usize,
+    buffer: [u8; 6],
+    held: usize,
+) -> bool
+    requires { ⌜ (held ≤ 6) × (k ≤ 8) × ((e : ℕ) → getD (now ranks) e 0 ≤ 8) × ((i : ℕ) → getD buffer i 0 < 16)
+        × (q < 32) × (2 * indexIn (now ranks) k (take held buffer) < length (now table)) ⌝ }
+    ensures { λ r. ⌜ r ≡ restIn (now (table .entry)) (now (ranks .entry)) k (take held buffer) q ⌝ }
+{
+    let mut sets = [0u32; 8];
+    rest_sets(ranks, k, table, buffer, held, &mut sets);
+    has(sets[0], q)
 }

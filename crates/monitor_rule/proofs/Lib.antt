@@ -1,8 +1,8 @@
 pub mod Worded
-pub mod Numbers
-pub mod Searching
 pub mod Longest
+pub mod Numbers
+pub mod Tabled
+pub mod Searching
 pub mod Effects
 pub mod Runs
 pub mod Solved
-pub mod Tabled

@@ -14,6 +14,12 @@ use Rattle.automaton.specs.Automaton.{reached}
 use Rattle.monitor_rule.specs.Step.{Rest, qualifies, qualifying, release}
 use Rattle.monitor_rule.proofs.Worded.{releases-longest}
 
+-- the same front parts qualify
+pub qualifying-same : (rest : Rest) (a : Automaton) (other : Rest) (b : Automaton) (q : ℕ) (w : List ℕ)
+    → ((k : ℕ) → k ≤ length w → qualifies rest a q w k ≡ qualifies other b q w k) → qualifying rest a q w ≡ qualifying other b q w
+unfolding qualifying
+qualifying-same rest a other b q w h = those-same (suc (length w)) (qualifies rest a q w) (qualifies other b q w) (λ k l. h k (omega arith))
+
 module _ (rest : Rest) (a : Automaton) (q : ℕ) (w : List ℕ) where
   pub release-le : release rest a q w ≤ length w
   unfolding release qualifying
@@ -35,5 +41,5 @@ module _ (rest : Rest) (a : Automaton) (q : ℕ) (w : List ℕ) where
   -- the rest test is asked only of the front parts
   pub release-same : (other : Rest) → ((k : ℕ) → k ≤ length w → rest (drop k w) (reached a q (take k w)) ≡ other (drop k w) (reached a q (take k w)))
       → release rest a q w ≡ release other a q w
-  unfolding release qualifying qualifies
-  release-same other h = ap (lastOr 0) (those-same (suc (length w)) (qualifies rest a q w) (qualifies other a q w) (λ k l. h k (omega arith)))
+  unfolding release qualifies
+  release-same other h = ap (lastOr 0) (qualifying-same rest a other a q w h)

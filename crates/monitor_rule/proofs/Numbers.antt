@@ -14,7 +14,7 @@ use Rattle.base.specs.Masks.{has}
 use Rattle.base.specs.Pad.{pad}
 use Rattle.base.proofs.Bools.{by}
 use Rattle.base.proofs.Padding.{pad-inside, pad-outside, pad-set, pad-zero, repeat-end}
-use Rattle.monitor_rule.specs.Fronts.{indexIn, indicesOf, restIn}
+use Rattle.monitor_rule.specs.Fronts.{indexIn, restIn, restSets}
 
 -- powers of 8 up to the sixth
 pub eight : (l : ℕ) → l ≤ 6 → 8 ^ l ≤ 262144
@@ -31,93 +31,107 @@ module _ (ranks : List ℕ) (k : ℕ) (high : (e : ℕ) → getD ranks e 0 ≤ 8
       let p : getD ranks e 0 * k ^ length w ≤ 8 * 8 ^ length w = mul-le-mul (high e) (weight-small (length w)) in
       omega (arith, p, index-small w, pow-suc 8 (length w))
 
--- The loop that finds the numbers of all that is left of a buffer, from its end on.
-pub record Indexing (ranks : List ℕ) (k : ℕ) (w indices : List ℕ) (index weight i : ℕ) : Type 0 where
+-- what is left after a front part has no greater number
+pub index-drop : (ranks : List ℕ) (k : ℕ) (w : List ℕ) (i : ℕ) → indexIn ranks k (drop i w) ≤ indexIn ranks k w
+unfolding indexIn
+index-drop ranks k w zero = omega arith
+index-drop ranks k [] (suc i) = omega arith
+index-drop ranks k (e ∷ w) (suc i) = omega (arith, index-drop ranks k w i)
+
+-- The loop that reads the sets for all that is left of a buffer, from its end on.
+pub record Reading (t ranks : List ℕ) (k : ℕ) (w sets : List ℕ) (index weight i : ℕ) : Type 0 where
   pub within : i ≤ length w
   pub index-is : index ≡ indexIn ranks k (drop i w)
   pub weight-is : weight ≡ k ^ length (drop i w)
-  pub stored : indices ≡ replicate i 0 ++ (indicesOf ranks k (drop i w) ++ replicate (8 - length w) 0)
+  pub stored : sets ≡ replicate i 0 ++ (restSets t ranks k (drop i w) ++ replicate (7 - length w) 0)
 
-pub indexing-begins : (ranks : List ℕ) (k : ℕ) (w : List ℕ) (n : ℕ) → length w ≡ n → n ≤ 8 → Indexing ranks k w (replicate 8 0) 0 1 n
-unfolding indexIn indicesOf
-indexing-begins ranks k w n e h =
-    let none : drop n w ≡ [] = ap (λ i. drop i w) (sym e) ∙ drop-length w in
-    let f : n + (8 - length w) ≡ 8 = omega arith in
-    record {
-      within = omega arith;
-      index-is = rw none;
-      weight-is = rw none (sym (pow-zero k));
-      stored = rw none (sym (replicate-append-replicate {A = ℕ} n (8 - length w) 0 ∙ ap (λ i. replicate {A = ℕ} i 0) f));
-    }
+-- one more set before those that are stored
+stored-before : (i : ℕ) (s : ℕ) (l : List ℕ) → set (replicate (suc i) 0 ++ l) i s ≡ replicate i 0 ++ s ∷ l
+stored-before i s l =
+    ap (λ x. set x i s) (sym (repeat-end i 0 l)) ∙
+    set-at (replicate i 0) 0 l s i (length-replicate {A = ℕ} i 0)
 
-module _ {ranks : List ℕ} {k : ℕ} {w indices : List ℕ} {index weight i : ℕ} (g : Indexing ranks k w indices index weight i) where
-  module _ (high : (e : ℕ) → getD ranks e 0 ≤ 8) (radix : k ≤ 8) (short : length w ≤ 6) where
-    left-short : length (drop i w) ≤ 6
-    left-short = rw (length-drop i w) (omega arith)
-
-    pub weight-bound : weight ≤ 262144
-    weight-bound = omega (arith, g .weight-is, weight-small ranks k high radix (length (drop i w)), eight (length (drop i w)) left-short)
-
-    pub index-bound : index ≤ 524288
-    index-bound = omega (arith, g .index-is, index-small ranks k high radix (drop i w), eight (length (drop i w)) left-short)
-
-    pub grown-bound : (r : ℕ) → r ≤ 8 → r * weight ≤ 2097152
-    grown-bound r h = let p : r * weight ≤ 8 * 262144 = mul-le-mul h weight-bound in omega (arith, p)
-
-  pub indexing-goes-on : (e : ℕ) → 0 < i → e ≡ getD w (i - 1) 0
-      → Indexing ranks k w (set indices (i - 1) (index + getD ranks e 0 * weight)) (index + getD ranks e 0 * weight) (weight * k) (i - 1)
-  unfolding indexIn indicesOf
-  indexing-goes-on e h f =
-      let j = i - 1 in
-      let s : suc j ≡ i = omega arith in
-      let d : drop j w ≡ e ∷ drop i w = drop-cons w j 0 (omega (arith, g .within)) ∙ ap₂ (λ x n. x ∷ drop n w) (sym f) s in
-      let p : index + getD ranks e 0 * weight ≡ indexIn ranks k (e ∷ drop i w) =
-      ap₂ (λ x y. x + getD ranks e 0 * y) (g .index-is) (g .weight-is) ∙ add-comm (indexIn ranks k (drop i w)) (getD ranks e 0 * k ^ length (drop i w))
-      in
-      let tail = indicesOf ranks k (drop i w) ++ replicate (8 - length w) 0 in
+module _ (t ranks : List ℕ) (k : ℕ) (w : List ℕ) where
+  pub reading-begins : (n : ℕ) → length w ≡ n → n ≤ 7 → Reading t ranks k w (set (replicate 8 0) n (getD t 0 0)) 0 1 n
+  unfolding indexIn restSets
+  reading-begins n e h =
+      let none : drop n w ≡ [] = ap (λ i. drop i w) (sym e) ∙ drop-length w in
+      let f : suc n + (7 - length w) ≡ 8 = omega arith in
+      let zeros = replicate-append-replicate {A = ℕ} (suc n) (7 - length w) 0 ∙ ap (λ i. replicate {A = ℕ} i 0) f in
       record {
-        within = omega (arith, g .within);
-        index-is = rw d p;
-        weight-is = rw d (rw (pow-suc k (length (drop i w)), g .weight-is));
-        stored =
-            ap (λ x. set x j (index + getD ranks e 0 * weight)) (g .stored ∙ ap (λ n. replicate n 0 ++ tail) (sym s) ∙ sym (repeat-end j 0 tail)) ∙
-            set-at (replicate j 0) 0 tail (index + getD ranks e 0 * weight) j (length-replicate {A = ℕ} j 0) ∙
-            rw (d, p);
+        within = omega arith;
+        index-is = rw none;
+        weight-is = rw none (sym (pow-zero k));
+        stored = rw none (ap (λ x. set x n (getD t 0 0)) (sym zeros) ∙ stored-before n (getD t 0 0) (replicate (7 - length w) 0));
       }
 
-indices-length : (ranks : List ℕ) (k : ℕ) (w : List ℕ) → length (indicesOf ranks k w) ≡ length w
-unfolding indicesOf
-indices-length ranks k [] = refl
-indices-length ranks k (e ∷ w) = ap suc (indices-length ranks k w)
+  module _ {sets : List ℕ} {index weight i : ℕ} (g : Reading t ranks k w sets index weight i) where
+    module _ (high : (e : ℕ) → getD ranks e 0 ≤ 8) (radix : k ≤ 8) (short : length w ≤ 6) where
+      left-short : length (drop i w) ≤ 6
+      left-short = rw (length-drop i w) (omega arith)
 
-pub indexing-done : {ranks : List ℕ} {k : ℕ} {w indices : List ℕ} {index weight i : ℕ} → Indexing ranks k w indices index weight i → i ≡ 0
-    → indices ≡ pad 8 (indicesOf ranks k w)
+      pub weight-bound : weight ≤ 262144
+      weight-bound = omega (arith, g .weight-is, weight-small ranks k high radix (length (drop i w)), eight (length (drop i w)) left-short)
+
+      pub index-bound : index ≤ 524288
+      index-bound = omega (arith, g .index-is, index-small ranks k high radix (drop i w), eight (length (drop i w)) left-short)
+
+      pub grown-bound : (r : ℕ) → r ≤ 8 → r * weight ≤ 2097152
+      grown-bound r h = let p : r * weight ≤ 8 * 262144 = mul-le-mul h weight-bound in omega (arith, p)
+
+    module _ (e : ℕ) (h : 0 < i) (f : e ≡ getD w (i - 1) 0) where
+      one-more : drop (i - 1) w ≡ e ∷ drop i w
+      one-more =
+          let s : suc (i - 1) ≡ i = omega arith in
+          drop-cons w (i - 1) 0 (omega (arith, g .within)) ∙ ap₂ (λ x n. x ∷ drop n w) (sym f) s
+
+      -- the number of one more event before what is left
+      pub index-grown : index + getD ranks e 0 * weight ≡ indexIn ranks k (drop (i - 1) w)
+      unfolding indexIn
+      index-grown =
+          rw one-more
+          (ap₂ (λ x y. x + getD ranks e 0 * y) (g .index-is) (g .weight-is) ∙ add-comm (indexIn ranks k (drop i w)) (getD ranks e 0 * k ^ length (drop i w)))
+
+      pub reading-goes-on : (s : ℕ) → s ≡ getD t (2 * indexIn ranks k (drop (i - 1) w)) 0
+          → Reading t ranks k w (set sets (i - 1) s) (index + getD ranks e 0 * weight) (weight * k) (i - 1)
+      unfolding restSets
+      reading-goes-on s es =
+          let j : suc (i - 1) ≡ i = omega arith in
+          let tail = restSets t ranks k (drop i w) ++ replicate (7 - length w) 0 in
+          let es' : s ≡ getD t (2 * indexIn ranks k (e ∷ drop i w)) 0 = rw one-more at es in
+          record {
+            within = omega (arith, g .within);
+            index-is = index-grown;
+            weight-is = rw one-more (rw (pow-suc k (length (drop i w)), g .weight-is));
+            stored =
+                ap (λ x. set x (i - 1) s) (g .stored ∙ ap (λ n. replicate n 0 ++ tail) (sym j)) ∙
+                stored-before (i - 1) s tail ∙
+                rw (one-more, es');
+          }
+
+sets-length : (t ranks : List ℕ) (k : ℕ) (w : List ℕ) → length (restSets t ranks k w) ≡ suc (length w)
+unfolding restSets
+sets-length t ranks k [] = refl
+sets-length t ranks k (e ∷ w) = ap suc (sets-length t ranks k w)
+
+pub reading-done : {t ranks : List ℕ} {k : ℕ} {w sets : List ℕ} {index weight i : ℕ} → Reading t ranks k w sets index weight i → i ≡ 0
+    → sets ≡ pad 8 (restSets t ranks k w)
 unfolding pad
-indexing-done {ranks} {k} {w} g z = rw (z, sym (indices-length ranks k w)) at (g .stored)
+reading-done {t} {ranks} {k} {w} g z =
+    let f : 7 - length w ≡ 8 - length (restSets t ranks k w) = omega (arith, sets-length t ranks k w) in
+    rw (z, f) at (g .stored)
 
 -- what stands at a place
-index-at-in : (ranks : List ℕ) (k : ℕ) (w : List ℕ) (i : ℕ) → i < length w → getD (indicesOf ranks k w) i 0 ≡ indexIn ranks k (drop i w)
-unfolding indicesOf
-index-at-in ranks k [] i h = absurd (omega arith)
-index-at-in ranks k (e ∷ w) zero h = refl
-index-at-in ranks k (e ∷ w) (suc i) h = index-at-in ranks k w i (omega arith)
+set-in : (t ranks : List ℕ) (k : ℕ) (w : List ℕ) (i : ℕ) → i ≤ length w → getD (restSets t ranks k w) i 0 ≡ getD t (2 * indexIn ranks k (drop i w)) 0
+unfolding restSets
+set-in t ranks k [] zero h = refl
+set-in t ranks k [] (suc i) h = absurd (omega arith)
+set-in t ranks k (e ∷ w) zero h = refl
+set-in t ranks k (e ∷ w) (suc i) h = set-in t ranks k w i (omega arith)
 
-pub index-at : (ranks : List ℕ) (k : ℕ) (w : List ℕ) (i : ℕ) → i ≤ length w → getD (pad 8 (indicesOf ranks k w)) i 0 ≡ indexIn ranks k (drop i w)
-unfolding indexIn
-index-at ranks k w i h =
-    by (ltb i (length w))
-    (λ t.
-    let l = ltb-true i (length w) t in
-    pad-inside 8 (indicesOf ranks k w) i (omega (arith, indices-length ranks k w)) ∙ index-at-in ranks k w i l)
-    (λ t.
-    let e : i ≡ length w = omega (arith, ltb-false i (length w) t) in
-    pad-outside 8 (indicesOf ranks k w) i (omega (arith, indices-length ranks k w, ltb-false i (length w) t)) ∙ sym (rw (e, drop-length w)))
-
--- the first of the numbers is that of the whole buffer
-pub first-index : (ranks : List ℕ) (k : ℕ) (w indices : List ℕ) → indices ≡ pad 8 (indicesOf ranks k w) → getD indices 0 0 ≡ indexIn ranks k w
-first-index ranks k w indices e = ap (λ x. getD x 0 0) e ∙ index-at ranks k w 0 (omega arith)
-
-pub first-rests : (ranks : List ℕ) (k : ℕ) (t w indices : List ℕ) (q : ℕ) → indices ≡ pad 8 (indicesOf ranks k w)
-    → has (getD t (2 * getD indices 0 0) 0) q ≡ restIn t ranks k w q
+pub rest-set : (t ranks : List ℕ) (k : ℕ) (w sets : List ℕ) → sets ≡ pad 8 (restSets t ranks k w) → (i : ℕ) → i ≤ length w → (q : ℕ)
+    → has (getD sets i 0) q ≡ restIn t ranks k (drop i w) q
 unfolding restIn
-first-rests ranks k t w indices q e = ap (λ x. has (getD t (2 * x) 0) q) (first-index ranks k w indices e)
+rest-set t ranks k w sets e i h q =
+    ap (λ x. has x q)
+    (ap (λ x. getD x i 0) e ∙ pad-inside 8 (restSets t ranks k w) i (omega (arith, sets-length t ranks k w)) ∙ set-in t ranks k w i h)

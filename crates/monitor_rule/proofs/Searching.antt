@@ -1,100 +1,142 @@
--- The search for the longest front part that qualifies, from the empty one on.
-use Prim.Native.Nat.{ℕ, _+_, _*_, _<_, _≤_}
-use mathlib.Core.Path.{_≡_, refl, sym, _∙_, ap}
-use mathlib.Core.Bool.{Bool, true, false}
-use mathlib.Core.List.{List}
+-- The search for the front parts that qualify, in turn from the empty one on.
+use Prim.Native.Nat.{ℕ, suc, _+_, _-_, _*_, _<_, _≤_}
+use mathlib.Core.Path.{_≡_, refl, sym, _∙_, ap, ap₂}
+use mathlib.Core.Bool.{Bool, cond}
+use mathlib.Core.List.{List, [], _∷_, _++_}
 use native.Mathlib.Numerals.{add-one}
 use native.Mathlib.Omega.{arith}
-use lib.ListN.{length, getD, take, drop}
+use lib.ListN.{length, getD, set, take, drop, replicate, length-append, length-drop}
 use lib.Seq.{take-suc, getD-take}
 use Rattle.base.specs.Each.{those, lastOr}
 use Rattle.base.specs.Masks.{has}
+use Rattle.base.specs.Pad.{pad}
 use Rattle.base.proofs.Bools.{by}
-use Rattle.base.proofs.Picking.{last-taken, last-kept}
+use Rattle.base.proofs.Padding.{pad-length, pad-set, take-pad}
+use Rattle.base.proofs.Picking.{those-few, those-taken, those-passed, last-taken}
 use Rattle.automaton.specs.declared.Automaton.{Automaton}
 use Rattle.automaton.specs.Automaton.{step, reached}
 use Rattle.automaton.proofs.Reached.{reached-end}
 use Rattle.monitor_rule.specs.Step.{Rest, qualifies, qualifying, release}
-use Rattle.base.specs.Pad.{pad}
-use Rattle.monitor_rule.specs.Fronts.{front, indexIn, indicesOf, restIn, over, ReleaseRequires}
-use Rattle.monitor_rule.proofs.Numbers.{index-at}
+use Rattle.monitor_rule.specs.Fronts.{Found, front, indexIn, restIn, restSets, restAmong, foundIn, keptIn, over, ReleaseRequires}
+use Rattle.monitor_rule.proofs.Longest.{qualifying-same}
+use Rattle.monitor_rule.proofs.Numbers.{rest-set}
+use Rattle.monitor_rule.proofs.Tabled.{reached-over}
 
-pub record Searching (rest : Rest) (a : Automaton) (q : ℕ) (w : List ℕ) (count state p r : ℕ) : Type 0 where
+-- The search as its loop goes: n front parts are asked, and that of r events leads to p.
+pub record Searching (rest : Rest) (a : Automaton) (q : ℕ) (w lengths : List ℕ) (f : Found) (p r n : ℕ) : Type 0 where
   pub within : r ≤ length w
-  pub below : count ≤ r
   pub here : p ≡ reached a q (take r w)
-  pub longest : count ≡ lastOr 0 (those (r + 1) (qualifies rest a q w))
-  pub state-is : state ≡ reached a q (take count w)
+  pub listed : lengths ≡ pad 7 (those n (qualifies rest a q w))
+  pub counted : f .count ≡ length (those n (qualifies rest a q w))
+  pub longest : f .state ≡ reached a q (take (lastOr 0 (those n (qualifies rest a q w))) w)
 
 module _ (rest : Rest) (a : Automaton) (q : ℕ) (w : List ℕ) where
-  pub searching-begins : Searching rest a q w 0 q q 0
-  unfolding qualifies reached those lastOr
-  searching-begins =
-      record {
-        within = omega arith;
-        below = omega arith;
-        here = refl;
-        longest = by (rest w q) (λ h. sym (last-taken 0 0 (qualifies rest a q w) h)) (λ h. sym (last-kept 0 0 (qualifies rest a q w) h));
-        state-is = refl;
-      }
+  pub searching-begins : Searching rest a q w (replicate 7 0) (record { count = 0; state = q }) q 0 0
+  unfolding reached those lastOr pad
+  searching-begins = record { within = omega arith; here = refl; listed = refl; counted = refl; longest = refl }
 
-  module _ {count state p r : ℕ} (g : Searching rest a q w count state p r) (h : r < length w) where
-    -- the next state on the way
-    next-state : step a p (getD w r 0) ≡ reached a q (take (r + 1) w)
-    next-state =
-        ap (λ x. step a x (getD w r 0)) (g .here) ∙ sym (reached-end a q (take r w) (getD w r 0)) ∙
-        ap (reached a q) (sym (take-suc w r 0 h) ∙ ap (λ i. take i w) (sym (add-one r)))
+  module _ {lengths : List ℕ} {f : Found} {p r : ℕ} where
+    -- seven places are enough
+    pub searching-room : Searching rest a q w lengths f p r r → length w ≤ 6 → f .count < 7
+    searching-room g few = omega (arith, g .counted, those-few r (qualifies rest a q w), g .within)
 
-    module _ (s : ℕ) (e : s ≡ step a p (getD w r 0)) (b : Bool) (f : b ≡ rest (drop (r + 1) w) s) where
-      found : b ≡ qualifies rest a q w (r + 1)
-      unfolding qualifies
-      found = f ∙ ap (rest (drop (r + 1) w)) (e ∙ next-state)
+    -- the front part of r events is asked
+    pub searching-asks : Searching rest a q w lengths f p r r → length w ≤ 6 → (b : Bool) → b ≡ rest (drop r w) p → (h : Found) → h ≡ keptIn b p f
+        → (l : List ℕ) → l ≡ cond b (set lengths (f .count) r) lengths → Searching rest a q w l h p r (r + 1)
+    unfolding keptIn qualifies
+    searching-asks g few b eb h eh l el =
+        let test = qualifies rest a q w in
+        let asked : b ≡ test r = eb ∙ ap (rest (drop r w)) (g .here) in
+        let room = those-few r test in
+        by b
+        (λ t.
+        let more = those-taken r test (sym asked ∙ t) in
+        let eh' : h ≡ record { count = f .count + 1; state = p } = eh ∙ rw t in
+        record {
+          within = g .within;
+          here = g .here;
+          listed =
+              el ∙ rw t (ap₂ (λ x i. set x i r) (g .listed) (g .counted) ∙ pad-set 7 (those r test) r (omega (arith, g .within))) ∙
+              ap (pad 7) (sym more);
+          counted = rw (eh', more, length-append (those r test) (r ∷ [])) (omega (arith, g .counted));
+          longest = rw (eh', last-taken 0 r test (sym asked ∙ t)) (g .here);
+        })
+        (λ t.
+        let more = those-passed r test (sym asked ∙ t) in
+        let eh' : h ≡ f = eh ∙ rw t in
+        record {
+          within = g .within;
+          here = g .here;
+          listed = el ∙ rw t (g .listed) ∙ ap (pad 7) (sym more);
+          counted = rw (eh', more) (g .counted);
+          longest = rw (eh', more) (g .longest);
+        })
 
-      pub searching-finds : b ≡ true → Searching rest a q w (r + 1) s s (r + 1)
-      searching-finds t =
-          record {
-            within = omega arith;
-            below = omega arith;
-            here = e ∙ next-state;
-            longest = sym (last-taken 0 (r + 1) (qualifies rest a q w) (sym found ∙ t));
-            state-is = e ∙ next-state;
-          }
+    -- the next front part
+    pub searching-goes-on : {n : ℕ} → Searching rest a q w lengths f p r n → r < length w → (s : ℕ) → s ≡ step a p (getD w r 0)
+        → Searching rest a q w lengths f s (r + 1) n
+    searching-goes-on g h s e =
+        let longer : take r w ++ getD w r 0 ∷ [] ≡ take (r + 1) w = sym (take-suc w r 0 h) ∙ ap (λ i. take i w) (sym (add-one r)) in
+        record {
+          within = omega arith;
+          here = e ∙ ap (λ x. step a x (getD w r 0)) (g .here) ∙ sym (reached-end a q (take r w) (getD w r 0)) ∙ ap (reached a q) longer;
+          listed = g .listed;
+          counted = g .counted;
+          longest = g .longest;
+        }
 
-      pub searching-passes : b ≡ false → Searching rest a q w count state s (r + 1)
-      searching-passes t =
-          record {
-            within = omega arith;
-            below = omega (arith, g .below);
-            here = e ∙ next-state;
-            longest = g .longest ∙ sym (last-kept 0 (r + 1) (qualifies rest a q w) (sym found ∙ t));
-            state-is = g .state-is;
-          }
+    -- all are asked
+    pub searching-done : Searching rest a q w lengths f p r (r + 1) → r ≡ length w
+        → (f ≡ foundIn rest a q w) × (lengths ≡ pad 7 (qualifying rest a q w))
+    unfolding foundIn qualifying release
+    searching-done g e =
+        let all : r + 1 ≡ suc (length w) = omega arith in
+        (rw (rw all at (g .counted), rw all at (g .longest)), rw all at (g .listed))
 
-  pub searching-done : {count state p r : ℕ} → Searching rest a q w count state p r → length w ≤ r
-      → record { count = count; state = state } ≡ front rest a q w
-  unfolding front release qualifying
-  searching-done {r = r} g h =
-      let e : r ≡ length w = omega (arith, g .within) in
-      let k = rw (e, add-one (length w)) at (g .longest) in
-      rw (g .state-is, k)
+  -- what it leaves fits
+  pub search-fits : length w ≤ 6 → (f : Found) → f ≡ foundIn rest a q w → (lengths : List ℕ) → lengths ≡ pad 7 (qualifying rest a q w)
+      → (length lengths ≡ 7) × (f .count ≤ length lengths)
+  unfolding foundIn qualifying
+  search-fits few f ef lengths el =
+      let test = qualifies rest a q w in
+      let n = those-few (suc (length w)) test in
+      let long : length lengths ≡ 7 = ap length el ∙ pad-length 7 (those (suc (length w)) test) (omega arith) in
+      (long, omega (arith, ap (λ (x : Found). x .count) ef))
 
--- what the release reads of the arrays that it is lent
-module _ {next ranks : List ℕ} {k : ℕ} {t : List ℕ} {q : ℕ} {buffer : List ℕ} {held : ℕ} (l : ReleaseRequires next ranks k t q buffer held)
-    (long : length (take held buffer) ≡ held) where
-  module _ (indices : List ℕ) (e : indices ≡ pad 8 (indicesOf ranks k (take held buffer))) (i : ℕ) (h : i ≤ held) where
-    lent-index : getD indices i 0 ≡ indexIn ranks k (drop i (take held buffer))
-    lent-index = ap (λ x. getD x i 0) e ∙ index-at ranks k (take held buffer) i (omega arith)
+-- what the search reads of the arrays that it is lent
+pub next-state : (ranks next buffer : List ℕ) (held p r x s : ℕ) → r < held → x ≡ getD buffer r 0 → s ≡ getD next (p * 16 + x) 0
+    → s ≡ step (over ranks next) p (getD (take held buffer) r 0)
+unfolding step
+next-state ranks next buffer held p r x s h e f = f ∙ ap (λ y. getD next (p * 16 + y) 0) (e ∙ sym (getD-take held buffer r 0 h))
 
-    pub lent-below : 2 * getD indices i 0 < length t
-    lent-below = rw lent-index (l .long i h)
+pub among : (sets : List ℕ) (n : ℕ) (w : List ℕ) → length w ≡ n → (r : ℕ) → r ≤ n → (p : ℕ) → has (getD sets r 0) p ≡ restAmong sets n (drop r w) p
+unfolding restAmong
+among sets n w e r h p =
+    let f : r ≡ n - length (drop r w) = omega (arith, length-drop r w) in
+    ap (λ i. has (getD sets i 0) p) f
 
-    pub lent-rest : (s : ℕ) (b : Bool) → b ≡ has (getD t (2 * getD indices i 0) 0) s → b ≡ restIn t ranks k (drop i (take held buffer)) s
-    unfolding restIn
-    lent-rest s b f = f ∙ ap (λ x. has (getD t (2 * x) 0) s) lent-index
+-- the search over the sets of a table is the search over the table
+module _ (t ranks next : List ℕ) (k q : ℕ) (w : List ℕ) (n : ℕ) (many : length w ≡ n) (sets : List ℕ) (read : sets ≡ pad 8 (restSets t ranks k w)) where
+  asked-same : (i : ℕ) → i ≤ length w → qualifies (restAmong sets n) (over [] next) q w i ≡ qualifies (restIn t ranks k) (over ranks next) q w i
+  unfolding qualifies
+  asked-same i h =
+      sym (among sets n w many i (omega arith) (reached (over [] next) q (take i w))) ∙
+      rest-set t ranks k w sets read i h (reached (over [] next) q (take i w)) ∙
+      ap (restIn t ranks k (drop i w)) (sym (reached-over (over [] next) ranks (take i w) q))
 
-  pub lent-step : (p r x s : ℕ) → r < held → x ≡ getD buffer r 0 → s ≡ getD next (p * 16 + x) 0 → s ≡ step (over ranks next) p (getD (take held buffer) r 0)
-  unfolding step
-  lent-step p r x s h e f = f ∙ ap (λ y. getD next (p * 16 + y) 0) (e ∙ sym (getD-take held buffer r 0 h))
+  pub search-same : qualifying (restAmong sets n) (over [] next) q w ≡ qualifying (restIn t ranks k) (over ranks next) q w
+  search-same = qualifying-same (restAmong sets n) (over [] next) (restIn t ranks k) (over ranks next) q w asked-same
+
+  -- the last of the list, and the state beside it, are the release
+  pub search-releases : (f : Found) → f ≡ foundIn (restAmong sets n) (over [] next) q w
+      → (lengths : List ℕ) → lengths ≡ pad 7 (qualifying (restAmong sets n) (over [] next) q w)
+      → (c : ℕ) → c ≡ lastOr 0 (take (f .count) lengths) → record { count = c; state = f .state } ≡ front (restIn t ranks k) (over ranks next) q w
+  unfolding front foundIn release
+  search-releases f ef lengths el c ec =
+      let found = qualifying (restAmong sets n) (over [] next) q w in
+      let last : c ≡ lastOr 0 found = ec ∙ ap (lastOr 0) (ap₂ take (ap (λ (x : Found). x .count) ef) el ∙ take-pad 7 found) in
+      let state : f .state ≡ reached (over [] next) q (take (lastOr 0 found) w) = ap (λ (x : Found). x .state) ef in
+      rw (last, state, search-same, reached-over (over [] next) ranks (take (lastOr 0 (qualifying (restIn t ranks k) (over ranks next) q w)) w) q)
 
 -- what the test of rest asks, of the same arrays
 pub rests-asks : {next ranks : List ℕ} {k : ℕ} {t : List ℕ} {q : ℕ} {buffer : List ℕ} {held : ℕ} → ReleaseRequires next ranks k t q buffer held

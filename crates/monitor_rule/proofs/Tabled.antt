@@ -23,10 +23,10 @@ use Rattle.solver_sets.specs.Table.{rank, inBaseK, shorter, index, buffersCount
 use Rattle.solver_sets.proofs.Buffers.{buffer-drop}
 use Rattle.solver_sets.proofs.Numbering.{numbered}
 use Rattle.base.specs.Each.{lastOr}
-use Rattle.base.proofs.Picking.{those-same}
-use Rattle.monitor_rule.specs.Step.{byTable, qualifies, qualifying, release}
+use Rattle.monitor_rule.specs.Step.{byTable, qualifies, release}
 use Rattle.automaton_symbols.specs.declared.Ranking.{Ranking}
 use Rattle.monitor_rule.specs.Fronts.{indexIn, restIn, over, ReleaseRequires}
+use Rattle.monitor_rule.proofs.Longest.{qualifying-same}
 use Rattle.automaton_symbols.specs.Symbols.{ranksTo, rankingOf}
 use Rattle.automaton_symbols.proofs.Ranks.{ranks-length}
 
@@ -107,10 +107,10 @@ module _ (a : Automaton) (v : Valid a) (t : List ℕ) (w : List ℕ) (b : Buffer
   asked k = rw (index-in-is a v (drop k w) (buffer-drop a k w b .0), reached-over a (ranking .ranks) (take k w) q)
 
   pub release-tabled : release (restIn t (ranking .ranks) (ranking .count)) (over (ranking .ranks) (a .next)) q w ≡ release (byTable a t) a q w
-  unfolding release qualifying
+  unfolding release
   release-tabled =
       ap (lastOr 0)
-      (those-same (suc (length w)) (qualifies (restIn t (ranking .ranks) (ranking .count)) (over (ranking .ranks) (a .next)) q w) (qualifies (byTable a t) a q w) (λ k _. asked k))
+      (qualifying-same (restIn t (ranking .ranks) (ranking .count)) (over (ranking .ranks) (a .next)) (byTable a t) a q w (λ k _. asked k))
 
 -- what the release asks
 module _ (a : Automaton) (v : Valid a) (t : List ℕ) (long : short a t ≡ false) where

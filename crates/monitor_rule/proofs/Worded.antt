@@ -1,22 +1,27 @@
 -- The rows of one event and the release, in document 01's words.
 use Prim.Native.Nat.{ℕ, suc, _<_, _≤_}
 use mathlib.Core.Path.{_≡_, sym, _∙_, ap}
+use mathlib.Core.Bool.{true}
 use mathlib.Core.Logic.{_⊎_, inl, inr}
 use mathlib.Core.List.{List, _++_}
 use native.Mathlib.Omega.{arith}
 use lib.Dec.{eqb, leb, ltb}
-use lib.ListN.{length, take, drop, length-append, take-append-drop}
+use lib.ListN.{length, getD, take, drop, length-append, take-append-drop}
 use lib.Seq.{take-append-seam, drop-append-seam, length-take-le}
 use borrow.Author.Tests.{eqb-true, eqb-false, ltb-true, ltb-false, leb-true, leb-false, lt-ltb, le-ltb, le-leb, lt-leb}
+use Rattle.base.specs.Each.{those}
+use Rattle.base.specs.Pad.{pad}
 use Rattle.base.specs.Rows.{first}
 use Rattle.base.proofs.Bools.{by, either, clash, refuted}
-use Rattle.base.proofs.Picking.{last-those}
+use Rattle.base.proofs.Padding.{pad-inside, pad-used}
+use Rattle.base.proofs.Picking.{last-those, those-few, those-has, those-holds, those-rise}
 use Rattle.automaton.specs.declared.Automaton.{Automaton}
 use Rattle.automaton.specs.Automaton.{class, controllable, reached}
 use Rattle.automaton.proofs.Classes.{class-one}
 use Rattle.configuration.specs.Configuration.{Position}
 use Rattle.monitor_rule.specs.Step.{Rest, qualifies, qualifying, release, eventRows, eventRefusal}
-use Rattle.monitor_rule.specs.Claims.{Unknown, Full, Admitted, EventRowsAsWorded, Longest, ReleasesLongest, OnlyLongest}
+use Rattle.monitor_rule.specs.Fronts.{foundIn}
+use Rattle.monitor_rule.specs.Claims.{Unknown, Full, Admitted, EventRowsAsWorded, Qualifies, Listed, ListsQualifying, SearchAsWorded, Longest, ReleasesLongest, OnlyLongest}
 
 module _ (rest : Rest) (a : Automaton) (p : Position) (e : ℕ) where
   abbrev w : List ℕ
@@ -89,6 +94,55 @@ module _ (rest : Rest) (a : Automaton) (q : ℕ) (w : List ℕ) where
   qualifies-at : (x y : List ℕ) → x ++ y ≡ w → qualifies rest a q w (length x) ≡ rest y (reached a q x)
   unfolding qualifies
   qualifies-at x y j = rw (cut-take w x y j, cut-drop w x y j)
+
+  -- what stands in the list, and where
+  module _ (few : length w ≤ 6) where
+    abbrev lengths : List ℕ
+    lengths = pad 7 (qualifying rest a q w)
+
+    abbrev many : ℕ
+    many = foundIn rest a q w .count
+
+    inside : (i : ℕ) → i < many → getD lengths i 0 ≡ getD (qualifying rest a q w) i 0
+    unfolding foundIn
+    inside = pad-inside 7 (qualifying rest a q w)
+
+    listed-qualifies : (k : ℕ) → Listed lengths many k → Qualifies (λ r p. rest r p ≡ true) a q w k
+    unfolding foundIn qualifying qualifies
+    listed-qualifies k l =
+        let e = sym (inside (l .place) (l .below)) ∙ l .holds in
+        let h = rw e at (those-holds (suc (length w)) (qualifies rest a q w) (l .place) (l .below)) in
+        record {
+          front = take k w;
+          left = drop k w;
+          parts = take-append-drop k w;
+          long = length-take-le k w (omega (arith, h .0));
+          leads = h .1;
+        }
+
+    qualifies-listed : (k : ℕ) → Qualifies (λ r p. rest r p ≡ true) a q w k → Listed lengths many k
+    unfolding foundIn qualifying
+    qualifies-listed k g =
+        let test = qualifies rest a q w in
+        let short = cut-in w (g .front) (g .left) (g .parts) in
+        let holds : test k ≡ true = rw (g .long) at (qualifies-at (g .front) (g .left) (g .parts)) ∙ g .leads in
+        let h = those-has (suc (length w)) test k (omega (arith, g .long, short)) holds in
+        record { place = length (those k test); below = h .0; holds = inside (length (those k test)) (h .0) ∙ h .1 }
+
+    lists : ListsQualifying (λ r p. rest r p ≡ true) a q w lengths many
+    unfolding foundIn qualifying
+    lists =
+        let test = qualifies rest a q w in
+        let fit : length (those (suc (length w)) test) ≤ 7 = omega (arith, those-few (suc (length w)) test) in
+        record {
+          exactly = λ k. (listed-qualifies k, qualifies-listed k);
+          rising = λ i j r l. rw (inside i (omega arith), inside j l) (those-rise (suc (length w)) test i j r l);
+          enough = fit;
+          used = pad-used 7 (those (suc (length w)) test) fit;
+        }
+
+pub search-as-worded : SearchAsWorded
+search-as-worded = lists
 
 pub releases-longest : ReleasesLongest
 unfolding release qualifying qualifies

@@ -5,11 +5,13 @@ use mathlib.Core.Path.{_≡_}
 use mathlib.Core.Logic.{_⊎_, _↔_}
 use mathlib.Core.Bool.{true}
 use mathlib.Core.List.{List, [], _++_}
-use lib.ListN.{length, take, drop}
+use lib.ListN.{length, getD, take, drop}
+use Rattle.base.specs.Pad.{pad, UsedTo}
 use Rattle.automaton.specs.declared.Automaton.{Automaton}
 use Rattle.automaton.specs.Automaton.{class, reached}
 use Rattle.configuration.specs.Configuration.{Position}
-use Rattle.monitor_rule.specs.Step.{Rest, release, eventRefusal}
+use Rattle.monitor_rule.specs.Step.{Rest, qualifying, release, eventRefusal}
+use Rattle.monitor_rule.specs.Fronts.{foundIn}
 
 -- row 14: the event is no symbol of the automaton
 abbrev pub Unknown : Automaton → ℕ → Type 0
@@ -32,6 +34,36 @@ pub record RowsOfEvent (a : Automaton) (held e n : ℕ) : Type 0 where
 abbrev pub EventRowsAsWorded : Type 0
 EventRowsAsWorded =
     (rest : Rest) (a : Automaton) (p : Position) (e : ℕ) → RowsOfEvent a (length (p .buffer)) e (eventRefusal rest a p e)
+
+-- The search, beside Definition 3.10 of source document 001, where P says with what is left, and in
+-- which state, one may rest: k is the length of a front part of w that is in the paper's G(q, w).
+pub record Qualifies (P : List ℕ → ℕ → Type 0) (a : Automaton) (q : ℕ) (w : List ℕ) (k : ℕ) : Type 0 where
+  pub front : List ℕ
+  pub left : List ℕ
+  pub parts : front ++ left ≡ w
+  pub long : length front ≡ k
+  pub leads : P left (reached a q front)
+
+-- k stands among the first `count` places of an array
+pub record Listed (lengths : List ℕ) (count k : ℕ) : Type 0 where
+  pub place : ℕ
+  pub below : place < count
+  pub holds : getD lengths place 0 ≡ k
+
+-- an array of seven places and a count have all front parts that qualify, in turn from the empty one
+pub record ListsQualifying (P : List ℕ → ℕ → Type 0) (a : Automaton) (q : ℕ) (w lengths : List ℕ) (count : ℕ) : Type 0 where
+  -- a length is in the list exactly when its front part qualifies
+  pub exactly : (k : ℕ) → Listed lengths count k ↔ Qualifies P a q w k
+  pub rising : (i j : ℕ) → i < j → j < count → getD lengths i 0 < getD lengths j 0
+  -- seven places are enough, and hold 0 past the count
+  pub enough : count ≤ 7
+  pub used : UsedTo 7 count lengths
+
+-- what the search finds is that, over any rest test
+abbrev pub SearchAsWorded : Type 0
+SearchAsWorded =
+    (rest : Rest) (a : Automaton) (q : ℕ) (w : List ℕ) → length w ≤ 6
+    → ListsQualifying (λ r p. rest r p ≡ true) a q w (pad 7 (qualifying rest a q w)) (foundIn rest a q w .count)
 
 -- The longest release, where P says with what is left, and in which state, one may rest: the
 -- buffer w falls into v, which is released, and r, which is left.

@@ -1,7 +1,7 @@
 -- Front parts of a buffer, and the numbers of what they leave: what the release's functions hand
 -- back and ask. They are lent arrays of the automaton instead of the whole of it.
-use Prim.Native.Nat.{ℕ, zero, suc, _+_, _*_, _^_, _<_, _≤_}
-use mathlib.Core.Bool.{cond}
+use Prim.Native.Nat.{ℕ, zero, suc, _+_, _-_, _*_, _^_, _<_, _≤_}
+use mathlib.Core.Bool.{Bool, cond}
 use mathlib.Core.List.{List, [], _∷_, _++_, map}
 use lib.ListN.{length, getD, take, drop}
 use lib.Dec.{eqb}
@@ -10,7 +10,8 @@ use Rattle.base.specs.Pad.{pad}
 use Rattle.automaton.specs.declared.Automaton.{Automaton}
 use Rattle.automaton.specs.Automaton.{reached}
 use Rattle.automaton.specs.Arrays.{controllableAt, controllableIn}
-use Rattle.monitor_rule.specs.Step.{Rest, release}
+use Rattle.monitor_rule.specs.Step.{Rest, qualifying, release}
+pub use Rattle.monitor_rule.specs.declared.Found.{Found}
 pub use Rattle.monitor_rule.specs.declared.Front.{Front}
 
 -- the number of a buffer, by ranks from 1: shorter buffers, then base k, in one sum
@@ -18,14 +19,18 @@ unfoldable pub indexIn : List ℕ → ℕ → List ℕ → ℕ
 indexIn ranks k [] = 0
 indexIn ranks k (e ∷ w) = getD ranks e 0 * k ^ length w + indexIn ranks k w
 
--- the numbers of a buffer and of all that is left of it after a front part, but the empty one
-unfoldable pub indicesOf : List ℕ → ℕ → List ℕ → List ℕ
-indicesOf ranks k [] = []
-indicesOf ranks k (e ∷ w) = indexIn ranks k (e ∷ w) ∷ indicesOf ranks k w
-
 -- may the monitor rest, by a table's bits at those numbers?
 unfoldable pub restIn : List ℕ → List ℕ → ℕ → Rest
 restIn t ranks k w q = has (getD t (2 * indexIn ranks k w) 0) q
+
+-- the sets that a table has for what each front part leaves, in turn from the empty front part
+unfoldable pub restSets : List ℕ → List ℕ → ℕ → List ℕ → List ℕ
+restSets t ranks k [] = getD t (2 * indexIn ranks k []) 0 ∷ []
+restSets t ranks k (e ∷ w) = getD t (2 * indexIn ranks k (e ∷ w)) 0 ∷ restSets t ranks k w
+
+-- may the monitor rest with what is left of n events, by the sets for what each front part leaves?
+unfoldable pub restAmong : List ℕ → ℕ → Rest
+restAmong sets n w q = has (getD sets (n - length w) 0) q
 
 -- the class that a rank tells
 abbrev pub classBy : ℕ → ℕ
@@ -50,6 +55,18 @@ unfoldable pub front : Rest → Automaton → ℕ → List ℕ → Front
 front rest a q w =
     let k = release rest a q w in
     record { count = k; state = reached a q (take k w) }
+
+-- what the search leaves beside the list of lengths: how many qualify, and where the longest leads
+unfoldable pub foundIn : Rest → Automaton → ℕ → List ℕ → Found
+foundIn rest a q w =
+    record {
+      count = length (qualifying rest a q w);
+      state = reached a q (take (release rest a q w) w);
+    }
+
+-- the same after one more front part, which leads to p, was asked
+unfoldable pub keptIn : Bool → ℕ → Found → Found
+keptIn qualifies p f = cond qualifies (record { count = f .count + 1; state = p }) f
 
 -- what the release asks of its arguments
 pub record ReleaseRequires (next ranks : List ℕ) (k : ℕ) (t : List ℕ) (q : ℕ) (buffer : List ℕ) (held : ℕ) : Type 0 where

@@ -6,3 +6,10 @@ pub struct Front {
     pub count: usize,
     pub state: usize,
 }
+
+// What the search leaves beside the list of the front parts that qualify: how many they are, and
+// the state after the longest of them (the state before, where there is none).
+pub struct Found {
+    pub count: usize,
+    pub state: usize,
+}

@@ -1,140 +1,64 @@
-use Prim.Native.Nat.{_+_, _-_, _*_, _<_, _≤_}
-use mathlib.Core.Path.{_≡_, refl}
+use Prim.Native.Nat.{_≤_}
+use mathlib.Core.Path.{_≡_, refl, sym}
 use native.Mathlib.Omega.{arith}
 use lib.ListN.{length, take}
 use lib.Seq.{length-take-le}
+use Rattle.monitor_rule.proofs.Searching.{search-fits, search-releases}
 use borrow.Author.Needs.{needs}
-use Rattle.monitor_rule.specs.Fronts.{restIn, over}
-use Rattle.monitor_rule.proofs.Searching.{Searching, lent-below, lent-rest, lent-step, searching-begins, searching-finds, searching-passes, searching-done}
 use Rattle.monitor_release.proofs.release.Statement.{statement}
 use Rattle.monitor_release.proofs.release.Tie as tie
+use Rattle.monitor_release.proofs.release.Reads as reads
+use Rattle.monitor_release.proofs.release.Lts as lts
+use Rattle.monitor_release.proofs.longest.Reads as longest-reads
+use Rattle.monitor_release.proofs.qualifying.Reads as qualifying-reads
+use Rattle.monitor_release.proofs.rest_sets.Reads as rest-sets-reads
 
-abbrev Inv-loop : tie.InvT-loop
-Inv-loop next ranks k table q held buffer left count₀ state₀ p₀ r₀ count state p r =
-    (r ≤ held) × (p < 32) × (length (take held buffer) ≡ held) ×
-    Searching (restIn table ranks k) (over ranks next) q (take held buffer) count state p r
+-- src/lib.rt:122:5
+rest-sets-requires : tie.Need-rest-sets-requires
+rest-sets-requires c κs = let p = c .before .before .pre in (p .few, p .radix, p .rank-high, p .symbol-low, p .long 0 (omega arith), refl)
 
-abbrev μ-loop : tie.MeasureT-loop
-μ-loop next ranks k table q held buffer left count₀ state₀ p₀ r₀ count state p r =
-    held - r
+-- The places that later needs look back to, and what stands there.
 
--- The places that later needs look back to.
+abbrev start : tie.After-lengths2 → tie.Start
+start c = c .before .before .before .before .before .before .before
 
-abbrev start : tie.After-indices Inv-loop μ-loop → tie.Start Inv-loop μ-loop
-start c = c .before .before .before
+many : (c : tie.After-lengths2) → length (take (start c .args .held) (start c .args .buffer)) ≡ start c .args .held
+many c =
+    let n : length (start c .args .buffer) ≡ 6 = search needs in
+    length-take-le (start c .args .held) (start c .args .buffer) (omega (arith, start c .pre .few))
 
-abbrev round : tie.After-as-usize2 Inv-loop μ-loop → tie.At-loop Inv-loop μ-loop
-round c = c .before .before .before .before
+-- the search's answer and its array
+fits : (c : tie.After-lengths2) → let l = c .before .qualifying .last .1 .1 .1 .1 .1 .0 in
+    (length l ≡ 7) × (c .before .qualifying .result .count ≤ length l)
+fits c =
+    let e = c .before .qualifying .ensures in
+    search-fits _ _ _ _ (omega (arith, many c, start c .pre .few)) _ (e .0) _ (e .1)
 
-indices-requires : tie.Need-indices-requires Inv-loop μ-loop
-indices-requires c κs = let p = c .before .before .pre in (p .few, p .radix, p .rank-high, p .symbol-low, refl)
+-- src/lib.rt:124:9
+qualifying-requires : tie.Need-qualifying-requires
+qualifying-requires c κs = search needs
 
-loop-holds : tie.Need-loop-holds Inv-loop μ-loop
-loop-holds c =
-    let a = start c .args in
-    let p = start c .pre in
-    let n : length (a .t6) ≡ 6 = search needs in
-    let long = length-take-le (a .held) (a .t6) (omega (arith, p .few)) in
-    (omega arith, p .state-low, long, searching-begins _ _ _ _)
+-- src/lib.rt:126:24
+slice-aggregate-longest : tie.Need-slice-aggregate-longest
+slice-aggregate-longest c = sym (fits c .0)
 
-mul-as-usize : tie.Need-mul-as-usize Inv-loop μ-loop
-mul-as-usize c = search needs
+-- src/lib.rt:126:16
+longest-requires : tie.Need-longest-requires
+longest-requires c κs = fits c .1
 
-array-read-as-usize : tie.Need-array-read-as-usize Inv-loop μ-loop
-array-read-as-usize c = search needs
-
-as-usize-requires : tie.Need-as-usize-requires Inv-loop μ-loop
-as-usize-requires c κs = search needs
-
-add-as-usize : tie.Need-add-as-usize Inv-loop μ-loop
-add-as-usize c = search needs
-
-element-copy-out-as-usize : tie.Need-element-copy-out-as-usize Inv-loop μ-loop
-element-copy-out-as-usize c =
-    let r = c .before .before in
-    omega (arith, c .as-usize .ensures .0, start (r .before) .pre .symbol-low (r .loop .r))
-
-as-usize-requires-2 : tie.Need-as-usize-requires-2 Inv-loop μ-loop
-as-usize-requires-2 c κs = search needs
-
-add-r : tie.Need-add-r Inv-loop μ-loop
-add-r c = search needs
-
-mul-in-set : tie.Need-mul-in-set Inv-loop μ-loop
-mul-in-set c = search needs
-
-array-read-in-set : tie.Need-array-read-in-set Inv-loop μ-loop
-array-read-in-set c = search needs
-
-in-set-requires : tie.Need-in-set-requires Inv-loop μ-loop
-in-set-requires c κs =
-    let r = round c in
-    let p = start (r .before) .pre in (
-      lent-below p (r .loop .inv .2) _ (r .before .indices .ensures) (r .loop .r + 1) (omega arith),
-      omega (arith, c .as-usize2 .ensures .0, p .next-low (r .loop .p * 16 + c .before .before .as-usize .result)),
-    )
-
-loop-less : tie.Need-loop-less Inv-loop μ-loop
-loop-less c = search needs
-
-loop-again : tie.Need-loop-again Inv-loop μ-loop
-loop-again c =
-    let n = c .before .before in
-    let r = round n in
-    let a = start (r .before) .args in
-    let p = start (r .before) .pre in
-    let v = r .loop .inv in
-    let m = n .before .before .as-usize in
-    let h : r .loop .r < length (take (a .held) (a .t6)) = omega (arith, v .2) in (
-      omega arith,
-      omega (arith, n .as-usize2 .ensures .0, p .next-low (r .loop .p * 16 + m .result)),
-      v .2,
-      searching-finds _ _ _ _ (v .3) h _ (lent-step p (v .2) _ (r .loop .r) _ _ (omega arith) (m .ensures .0) (n .as-usize2 .ensures .0)) _
-          (lent-rest p (v .2) _ (r .before .indices .ensures) (r .loop .r + 1) (omega arith) _ _ (c .before .in-set .ensures)) (c .if1 .taken),
-    )
-
-loop-less-2 : tie.Need-loop-less-2 Inv-loop μ-loop
-loop-less-2 c = search needs
-
-loop-again-2 : tie.Need-loop-again-2 Inv-loop μ-loop
-loop-again-2 c =
-    let n = c .before .before in
-    let r = round n in
-    let a = start (r .before) .args in
-    let p = start (r .before) .pre in
-    let v = r .loop .inv in
-    let m = n .before .before .as-usize in
-    let h : r .loop .r < length (take (a .held) (a .t6)) = omega (arith, v .2) in (
-      omega arith,
-      omega (arith, n .as-usize2 .ensures .0, p .next-low (r .loop .p * 16 + m .result)),
-      v .2,
-      searching-passes _ _ _ _ (v .3) h _ (lent-step p (v .2) _ (r .loop .r) _ _ (omega arith) (m .ensures .0) (n .as-usize2 .ensures .0)) _
-          (lent-rest p (v .2) _ (r .before .indices .ensures) (r .loop .r + 1) (omega arith) _ _ (c .before .in-set .ensures)) (c .if1 .left),
-    )
-
-returns : tie.Need-returns Inv-loop μ-loop
-returns c = searching-done _ _ _ _ (c .before .loop .inv .3) (omega (arith, c .before .loop .inv .2))
+-- src/lib.rt:107:1
+returns : tie.Need-returns
+returns c =
+    let l = c .before in
+    let e = l .before .qualifying .ensures in
+    search-releases _ _ _ _ _ _ _ (many l) _ (l .before .before .before .before .rest-sets .ensures) _ (e .0) _ (e .1) _ (c .longest .ensures)
 
 pub release-spec : {M : Type 1} → statement M
 release-spec =
     tie.close
     (tie.spec
-    Inv-loop
-    μ-loop
-    indices-requires
-    loop-holds
-    mul-as-usize
-    array-read-as-usize
-    as-usize-requires
-    add-as-usize
-    element-copy-out-as-usize
-    as-usize-requires-2
-    add-r
-    mul-in-set
-    array-read-in-set
-    in-set-requires
-    loop-less
-    loop-again
-    loop-less-2
-    loop-again-2
+    rest-sets-requires
+    qualifying-requires
+    slice-aggregate-longest
+    longest-requires
     returns)

@@ -1,20 +1,32 @@
 use mathlib.Core.Path.{_∙_}
-use Rattle.monitor_rule.proofs.Numbers.{first-index, first-rests}
+use native.Mathlib.Omega.{arith}
+use lib.ListN.{take}
+use Rattle.monitor_rule.proofs.Numbers.{rest-set}
 use borrow.Author.Needs.{needs}
 use Rattle.monitor_release.proofs.rests.Statement.{statement}
 use Rattle.monitor_release.proofs.rests.Tie as tie
+use Rattle.monitor_release.proofs.rests.Reads as reads
+use Rattle.monitor_release.proofs.rests.Lts as lts
+use Rattle.base.proofs.has.Reads as has-reads
+use Rattle.monitor_release.proofs.rest_sets.Reads as rest-sets-reads
 
-indices-requires : tie.Need-indices-requires
-indices-requires c κs = search needs
+-- src/lib.rt:145:5
+rest-sets-requires : tie.Need-rest-sets-requires
+rest-sets-requires c κs = search needs
 
-array-read-in-set : tie.Need-array-read-in-set
-array-read-in-set c = search needs
+-- src/lib.rt:146:9
+array-read-has : tie.Need-array-read-has
+array-read-has c = search needs
 
-in-set-requires : tie.Need-in-set-requires
-in-set-requires c κs = let p = c .before .before .before .pre in (rw (first-index _ _ _ _ (c .indices .ensures)) (p .5), p .4)
+-- src/lib.rt:146:5
+has-requires : tie.Need-has-requires
+has-requires c κs = search needs
 
+-- src/lib.rt:132:1
 returns : tie.Need-returns
-returns c = c .in-set .ensures ∙ first-rests _ _ _ _ _ _ (c .before .indices .ensures)
+returns c =
+    let s = c .before .before .before .before in
+    c .has .ensures ∙ rest-set _ _ _ (take (s .args .held) (s .args .buffer)) _ (c .before .rest-sets .ensures) 0 (omega arith) _
 
 pub rests-spec : {M : Type 1} → statement M
-rests-spec = tie.close (tie.spec indices-requires array-read-in-set in-set-requires returns)
+rests-spec = tie.close (tie.spec rest-sets-requires array-read-has has-requires returns)
