@@ -1,15 +1,16 @@
 -- The instances of the claims on the monitor's calls and on the published function.
-use Prim.Native.Nat.{ℕ, suc, _*_, _<_, _≤_}
+use Prim.Native.Nat.{ℕ, zero, suc, _*_, _<_, _≤_}
 use mathlib.Core.Path.{_≡_, refl, sym, _∙_, ap, subst}
 use mathlib.Core.Logic.{inl, inr}
 use mathlib.Core.Bool.{true, false}
 use mathlib.Core.List.{List, [], _∷_, _++_, map}
 use native.Mathlib.Omega.{arith}
-use lib.ListN.{length, take, drop, List·getD-append}
+use lib.ListN.{length, getD, take, drop, List·getD-append}
 use borrow.Author.Tests.{le-ltb}
 use Rattle.base.specs.Pad.{pad}
 use Rattle.base.specs.Masks.{has}
 use Rattle.base.proofs.Bools.{either}
+use Rattle.automaton.specs.declared.Automaton.{Automaton}
 use Rattle.automaton.specs.Automaton.{accepts, reached, valid}
 use Rattle.automaton.proofs.Facts.{valid-as-worded}
 use Rattle.automaton.proofs.Classes.{class-one, flag-one}
@@ -19,9 +20,10 @@ use Rattle.solver_sets.specs.Claims.{Winning}
 use Rattle.solver_sets.proofs.Numbering.{numbered}
 use Rattle.solver_sets.proofs.Tables.{short-as-worded}
 use Rattle.configuration.specs.Configuration.{heldEvents, consistent, configuration, initialOf}
-use Rattle.monitor_rule.specs.Step.{bySets, byTable, release}
-use Rattle.monitor_rule.specs.Claims.{Full, Longest}
-use Rattle.monitor_rule.proofs.Worded.{event-rows-as-worded, releases-longest, only-longest}
+use Rattle.monitor_rule.specs.Step.{bySets, byTable, qualifying, release}
+use Rattle.monitor_rule.specs.Fronts.{foundIn}
+use Rattle.monitor_rule.specs.Claims.{Full, Listed, ListsQualifying, Longest}
+use Rattle.monitor_rule.proofs.Worded.{event-rows-as-worded, search-as-worded, releases-longest, only-longest}
 use Rattle.monitor_answers.specs.Answers.{isWinning, status, received}
 use Rattle.monitor_answers.specs.Claims.{Clear}
 use Rattle.configuration.proofs.Facts.{consistent-as-worded}
@@ -45,7 +47,7 @@ use Rattle.enforcement.proofs.Said.{once-winning-said}
 use Rattle.enforcement.proofs.Answers.{flag-is-status, flag-stays, others-ignored}
 use Rattle.enforcement_cases.specs.Cases.{automatonV, automatonW}
 use Rattle.enforcement_instances.specs.Statements.{filled, tableW, at}
-use Rattle.enforcement_instances.specs.MonitorStatements.{wideV, startV, Rows, storeOf, twoHeld, Releasing}
+use Rattle.enforcement_instances.specs.MonitorStatements.{wideV, startV, Rows, automatonLoops, Searching, storeOf, twoHeld, Releasing}
 use Rattle.enforcement_instances.specs.MonitorStatements.{calls, page, sign, withdraw, eager, answers, Fields}
 use Rattle.enforcement_instances.specs.MonitorStatements.{longCalls, longAnswers, Day, Enforcing}
 use Rattle.enforcement_instances.proofs.Sheets.{valid-w, valid-v, solves-w, buffers-w, solved-w, solved-v, computing}
@@ -127,6 +129,57 @@ unfolding
     stateOf added released store storeAll lacksRoom feed feedAll refusedOf acceptedOf acceptedBy acceptedAll
     fedBy configurationAt since expected expectedAll
 publishing = 0
+
+-- what W's search finds with Page and Receipt held, signed, and in state 3 with Page; V's and the
+-- loops'
+found-w : qualifying (bySets automatonW) automatonW 1 (2 ∷ 3 ∷ []) ≡ 0 ∷ 2 ∷ []
+unfolding publishing
+found-w = refl
+
+none-w : qualifying (bySets automatonW) automatonW 3 (2 ∷ []) ≡ []
+unfolding publishing
+none-w = refl
+
+found-v : qualifying (bySets automatonV) automatonV 0 (1 ∷ []) ≡ 0 ∷ []
+unfolding publishing automatonV
+found-v = refl
+
+found-loops : qualifying (bySets automatonLoops) automatonLoops 0 (filled 6 0) ≡ 0 ∷ 1 ∷ 2 ∷ 3 ∷ 4 ∷ 5 ∷ 6 ∷ []
+unfolding publishing automatonLoops
+found-loops = refl
+
+-- the search's words where it finds a known list
+lists : (a : Automaton) (q : ℕ) (w l : List ℕ) → length w ≤ 6 → qualifying (bySets a) a q w ≡ l
+    → ListsQualifying (Winning a) a q w (pad 7 l) (length l)
+unfolding bySets foundIn
+lists a q w l few e = rw e at (search-as-worded (bySets a) a q w few)
+
+not-one : Listed (0 ∷ 2 ∷ filled 5 0) 2 1 → ⊥
+not-one l = one-of (l .place) (l .below) (l .holds)
+  where
+    one-of : (i : ℕ) → i < 2 → getD (0 ∷ 2 ∷ filled 5 0) i 0 ≡ 1 → ⊥
+    one-of zero b h = omega (arith, h)
+    one-of (suc zero) b h = omega (arith, h)
+    one-of (suc (suc i)) b h = omega arith
+
+pub searching : Searching
+unfolding pad
+searching =
+    let w = lists automatonW 1 (2 ∷ 3 ∷ []) (0 ∷ 2 ∷ []) (omega arith) found-w in
+    let n = lists automatonW 3 (2 ∷ []) [] (omega arith) none-w in
+    record {
+      found = w;
+      empty-found = w .exactly 0 .0 (record { place = 0; below = omega arith; holds = refl });
+      whole-found = w .exactly 2 .0 (record { place = 1; below = omega arith; holds = refl });
+      page-not = λ h. not-one (w .exactly 1 .1 h);
+      rising = w .rising 0 1 (omega arith) (omega arith);
+      enough = w .enough;
+      seven-places = w .used .0;
+      zeros-past = w .used .1;
+      none = λ k h. let l = n .exactly k .1 h in absurd (omega (arith, l .below));
+      empty-alone = lists automatonV 0 (1 ∷ []) (0 ∷ []) (omega arith) found-v;
+      seven = lists automatonLoops 0 (filled 6 0) (0 ∷ 1 ∷ 2 ∷ 3 ∷ 4 ∷ 5 ∷ 6 ∷ []) (omega arith) found-loops;
+    }
 
 -- W's longest release
 longest-w : (q : ℕ) (w : List ℕ)

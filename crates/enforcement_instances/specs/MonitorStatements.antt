@@ -13,7 +13,7 @@ use Rattle.configuration.specs.declared.Configuration.{Configuration}
 use Rattle.configuration.specs.Configuration.{Position, configuration, consistent, initialOf}
 use Rattle.solver_answers.specs.Solving.{solvedTable}
 use Rattle.monitor_rule.specs.Step.{byTable, eventRefusal}
-use Rattle.monitor_rule.specs.Claims.{Admitted, Longest}
+use Rattle.monitor_rule.specs.Claims.{Admitted, Qualifies, ListsQualifying, Longest}
 use Rattle.monitor_answers.specs.Answers.{tooShort, callRefusal, status, receiveRefusal, received, refusedRun, runRefusal}
 use Rattle.enforcement.specs.Store.{Store, empty, positionAt, store, storeAll, event, events, feed, feedAll, refusedOf}
 use Rattle.enforcement.specs.Calls.{Call, receiveCall, runCall, Reply, receive, refusalIn}
@@ -81,6 +81,28 @@ storeOf output buffer = record { output = output; buffer = buffer }
 -- two Pages held
 abbrev pub twoHeld : Store
 twoHeld = storeOf [] (2 ∷ 2 ∷ [])
+
+-- a sheet with one state, which accepts, and one kind, which is held; six of it may be
+unfoldable pub automatonLoops : Automaton
+automatonLoops = assembled 1 1 6 0 (filled 1 1 ++ filled 15 0) (filled 1 1 ++ filled 31 0) (filled 512 0)
+
+-- the front parts that qualify, as the search lists them
+pub record Searching : Type 0 where
+  -- signed, with Page and Receipt held, W finds the empty front part and the whole, not Page alone
+  pub found : ListsQualifying (Winning automatonW) automatonW 1 (2 ∷ 3 ∷ []) (0 ∷ 2 ∷ filled 5 0) 2
+  pub empty-found : Qualifies (Winning automatonW) automatonW 1 (2 ∷ 3 ∷ []) 0
+  pub whole-found : Qualifies (Winning automatonW) automatonW 1 (2 ∷ 3 ∷ []) 2
+  pub page-not : Qualifies (Winning automatonW) automatonW 1 (2 ∷ 3 ∷ []) 1 → ⊥
+  pub rising : 0 < 2
+  pub enough : 2 ≤ 7
+  pub seven-places : length (0 ∷ 2 ∷ filled 5 0) ≡ 7
+  pub zeros-past : (j : ℕ) → 2 ≤ j → getD (0 ∷ 2 ∷ filled 5 0) j 0 ≡ 0
+  -- in state 3 no front part qualifies
+  pub none : (k : ℕ) → Qualifies (Winning automatonW) automatonW 3 (2 ∷ []) k → ⊥
+  -- with Answer held V finds the empty front part alone
+  pub empty-alone : ListsQualifying (Winning automatonV) automatonV 0 (1 ∷ []) (filled 7 0) 1
+  -- where every list leads back, all seven front parts of six events
+  pub seven : ListsQualifying (Winning automatonLoops) automatonLoops 0 (filled 6 0) (0 ∷ 1 ∷ 2 ∷ 3 ∷ 4 ∷ 5 ∷ 6 ∷ []) 7
 
 -- the longest release, and the published function by it
 pub record Releasing : Type 0 where

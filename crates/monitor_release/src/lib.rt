@@ -14,12 +14,12 @@ ghost use lib.ListN.{getD, length, set, take, replicate};
 ghost use Rattle.base.specs.Each.{lastOr};
 ghost use Rattle.base.specs.Pad.{pad};
 ghost use Rattle.monitor_rule.specs.Step.{qualifying};
-ghost use Rattle.monitor_rule.specs.Fronts.{indexIn, restIn, restSets, restAmong, over, front, foundIn, keptIn, ReleaseRequires};
+ghost use Rattle.monitor_rule.specs.Fronts.{indexIn, restIn, winningSets, restAmong, over, front, foundIn, keptIn, ReleaseRequires};
 
 // The sets of the table for what each front part leaves, in turn from the empty front part, into
 // an array that is 0. A set stands at twice the number of what is left; the number grows by each
 // event from the buffer's end on.
-fn rest_sets<'a>(
+fn winning_sets<'a>(
     ranks: &'a [u8; 16],
     k: u32,
     table: &[u32],
@@ -29,7 +29,7 @@ fn rest_sets<'a>(
 )
     requires { ⌜ (held ≤ 6) × (k ≤ 8) × ((e : ℕ) → getD (now ranks) e 0 ≤ 8) × ((i : ℕ) → getD buffer i 0 < 16)
         × (2 * indexIn (now ranks) k (take held buffer) < length (now table)) × (now sets ≡ replicate 8 0) ⌝ }
-    ensures { λ _. ⌜ now (sets .exit) ≡ pad 8 (restSets (now (table .entry)) (now (ranks .entry)) k (take held buffer)) ⌝ }
+    ensures { λ _. ⌜ now (sets .exit) ≡ pad 8 (winningSets (now (table .entry)) (now (ranks .entry)) k (take held buffer)) ⌝ }
 {
     let mut index: u32 = 0;
     let mut weight: u32 = 1;
@@ -119,7 +119,7 @@ pub fn release<'a>(
         ⌜ r ≡ front rest a q (take held buffer) ⌝ }
 {
     let mut sets = [0u32; 8];
-    rest_sets(ranks, k, table, buffer, held, &mut sets);
+    winning_sets(ranks, k, table, buffer, held, &mut sets);
     let mut lengths = [0u8; 7];
     let found = qualifying(next, &sets, q, buffer, held, &mut lengths);
     Front {
@@ -142,6 +142,6 @@ pub fn rests<'a>(
     ensures { λ r. ⌜ r ≡ restIn (now (table .entry)) (now (ranks .entry)) k (take held buffer) q ⌝ }
 {
     let mut sets = [0u32; 8];
-    rest_sets(ranks, k, table, buffer, held, &mut sets);
+    winning_sets(ranks, k, table, buffer, held, &mut sets);
     has(sets[0], q)
 }

@@ -1,20 +1,15 @@
 -- Laws of the numbers of buffers.
 use Prim.Native.Nat.{ℕ, zero, suc, _+_, _-_, _*_, _^_, _<_, _≤_}
 use mathlib.Core.Path.{_≡_, refl, sym, _∙_, ap, ap₂}
-use mathlib.Core.Bool.{cond}
 use mathlib.Core.List.{List, [], _∷_, _++_}
 use native.Mathlib.Nat.{mul-le-mul, pow-le-pow-left, pow-le-pow-right, pow-suc, pow-zero, add-comm}
-use native.Mathlib.Numerals.{add-one}
 use native.Mathlib.Omega.{arith}
-use lib.ListN.{length, getD, set, drop, replicate, length-append, length-drop, length-replicate, replicate-append-replicate}
+use lib.ListN.{length, getD, set, drop, replicate, length-drop, length-replicate, replicate-append-replicate}
 use lib.Seq.{set-at, drop-cons, drop-length}
-use lib.Dec.{eqb, ltb}
-use borrow.Author.Tests.{eq-eqb, ne-eqb, ltb-true, ltb-false}
 use Rattle.base.specs.Masks.{has}
 use Rattle.base.specs.Pad.{pad}
-use Rattle.base.proofs.Bools.{by}
-use Rattle.base.proofs.Padding.{pad-inside, pad-outside, pad-set, pad-zero, repeat-end}
-use Rattle.monitor_rule.specs.Fronts.{indexIn, restIn, restSets}
+use Rattle.base.proofs.Padding.{pad-inside, repeat-end}
+use Rattle.monitor_rule.specs.Fronts.{indexIn, restIn, winningSets}
 
 -- powers of 8 up to the sixth
 pub eight : (l : ℕ) → l ≤ 6 → 8 ^ l ≤ 262144
@@ -43,7 +38,7 @@ pub record Reading (t ranks : List ℕ) (k : ℕ) (w sets : List ℕ) (index wei
   pub within : i ≤ length w
   pub index-is : index ≡ indexIn ranks k (drop i w)
   pub weight-is : weight ≡ k ^ length (drop i w)
-  pub stored : sets ≡ replicate i 0 ++ (restSets t ranks k (drop i w) ++ replicate (7 - length w) 0)
+  pub stored : sets ≡ replicate i 0 ++ (winningSets t ranks k (drop i w) ++ replicate (7 - length w) 0)
 
 -- one more set before those that are stored
 stored-before : (i : ℕ) (s : ℕ) (l : List ℕ) → set (replicate (suc i) 0 ++ l) i s ≡ replicate i 0 ++ s ∷ l
@@ -53,7 +48,7 @@ stored-before i s l =
 
 module _ (t ranks : List ℕ) (k : ℕ) (w : List ℕ) where
   pub reading-begins : (n : ℕ) → length w ≡ n → n ≤ 7 → Reading t ranks k w (set (replicate 8 0) n (getD t 0 0)) 0 1 n
-  unfolding indexIn restSets
+  unfolding indexIn winningSets
   reading-begins n e h =
       let none : drop n w ≡ [] = ap (λ i. drop i w) (sym e) ∙ drop-length w in
       let f : suc n + (7 - length w) ≡ 8 = omega arith in
@@ -94,10 +89,10 @@ module _ (t ranks : List ℕ) (k : ℕ) (w : List ℕ) where
 
       pub reading-goes-on : (s : ℕ) → s ≡ getD t (2 * indexIn ranks k (drop (i - 1) w)) 0
           → Reading t ranks k w (set sets (i - 1) s) (index + getD ranks e 0 * weight) (weight * k) (i - 1)
-      unfolding restSets
+      unfolding winningSets
       reading-goes-on s es =
           let j : suc (i - 1) ≡ i = omega arith in
-          let tail = restSets t ranks k (drop i w) ++ replicate (7 - length w) 0 in
+          let tail = winningSets t ranks k (drop i w) ++ replicate (7 - length w) 0 in
           let es' : s ≡ getD t (2 * indexIn ranks k (e ∷ drop i w)) 0 = rw one-more at es in
           record {
             within = omega (arith, g .within);
@@ -109,29 +104,29 @@ module _ (t ranks : List ℕ) (k : ℕ) (w : List ℕ) where
                 rw (one-more, es');
           }
 
-sets-length : (t ranks : List ℕ) (k : ℕ) (w : List ℕ) → length (restSets t ranks k w) ≡ suc (length w)
-unfolding restSets
+sets-length : (t ranks : List ℕ) (k : ℕ) (w : List ℕ) → length (winningSets t ranks k w) ≡ suc (length w)
+unfolding winningSets
 sets-length t ranks k [] = refl
 sets-length t ranks k (e ∷ w) = ap suc (sets-length t ranks k w)
 
 pub reading-done : {t ranks : List ℕ} {k : ℕ} {w sets : List ℕ} {index weight i : ℕ} → Reading t ranks k w sets index weight i → i ≡ 0
-    → sets ≡ pad 8 (restSets t ranks k w)
+    → sets ≡ pad 8 (winningSets t ranks k w)
 unfolding pad
 reading-done {t} {ranks} {k} {w} g z =
-    let f : 7 - length w ≡ 8 - length (restSets t ranks k w) = omega (arith, sets-length t ranks k w) in
+    let f : 7 - length w ≡ 8 - length (winningSets t ranks k w) = omega (arith, sets-length t ranks k w) in
     rw (z, f) at (g .stored)
 
 -- what stands at a place
-set-in : (t ranks : List ℕ) (k : ℕ) (w : List ℕ) (i : ℕ) → i ≤ length w → getD (restSets t ranks k w) i 0 ≡ getD t (2 * indexIn ranks k (drop i w)) 0
-unfolding restSets
+set-in : (t ranks : List ℕ) (k : ℕ) (w : List ℕ) (i : ℕ) → i ≤ length w → getD (winningSets t ranks k w) i 0 ≡ getD t (2 * indexIn ranks k (drop i w)) 0
+unfolding winningSets
 set-in t ranks k [] zero h = refl
 set-in t ranks k [] (suc i) h = absurd (omega arith)
 set-in t ranks k (e ∷ w) zero h = refl
 set-in t ranks k (e ∷ w) (suc i) h = set-in t ranks k w i (omega arith)
 
-pub rest-set : (t ranks : List ℕ) (k : ℕ) (w sets : List ℕ) → sets ≡ pad 8 (restSets t ranks k w) → (i : ℕ) → i ≤ length w → (q : ℕ)
+pub winning-set : (t ranks : List ℕ) (k : ℕ) (w sets : List ℕ) → sets ≡ pad 8 (winningSets t ranks k w) → (i : ℕ) → i ≤ length w → (q : ℕ)
     → has (getD sets i 0) q ≡ restIn t ranks k (drop i w) q
 unfolding restIn
-rest-set t ranks k w sets e i h q =
+winning-set t ranks k w sets e i h q =
     ap (λ x. has x q)
-    (ap (λ x. getD x i 0) e ∙ pad-inside 8 (restSets t ranks k w) i (omega (arith, sets-length t ranks k w)) ∙ set-in t ranks k w i h)
+    (ap (λ x. getD x i 0) e ∙ pad-inside 8 (winningSets t ranks k w) i (omega (arith, sets-length t ranks k w)) ∙ set-in t ranks k w i h)

@@ -17,9 +17,9 @@ use Rattle.automaton.specs.declared.Automaton.{Automaton}
 use Rattle.automaton.specs.Automaton.{step, reached}
 use Rattle.automaton.proofs.Reached.{reached-end}
 use Rattle.monitor_rule.specs.Step.{Rest, qualifies, qualifying, release}
-use Rattle.monitor_rule.specs.Fronts.{Found, front, indexIn, restIn, restSets, restAmong, foundIn, keptIn, over, ReleaseRequires}
+use Rattle.monitor_rule.specs.Fronts.{Found, front, indexIn, restIn, winningSets, restAmong, foundIn, keptIn, over, ReleaseRequires}
 use Rattle.monitor_rule.proofs.Longest.{qualifying-same}
-use Rattle.monitor_rule.proofs.Numbers.{rest-set}
+use Rattle.monitor_rule.proofs.Numbers.{winning-set}
 use Rattle.monitor_rule.proofs.Tabled.{reached-over}
 
 -- The search as its loop goes: n front parts are asked, and that of r events leads to p.
@@ -116,12 +116,12 @@ among sets n w e r h p =
     ap (λ i. has (getD sets i 0) p) f
 
 -- the search over the sets of a table is the search over the table
-module _ (t ranks next : List ℕ) (k q : ℕ) (w : List ℕ) (n : ℕ) (many : length w ≡ n) (sets : List ℕ) (read : sets ≡ pad 8 (restSets t ranks k w)) where
+module _ (t ranks next : List ℕ) (k q : ℕ) (w : List ℕ) (n : ℕ) (many : length w ≡ n) (sets : List ℕ) (read : sets ≡ pad 8 (winningSets t ranks k w)) where
   asked-same : (i : ℕ) → i ≤ length w → qualifies (restAmong sets n) (over [] next) q w i ≡ qualifies (restIn t ranks k) (over ranks next) q w i
   unfolding qualifies
   asked-same i h =
       sym (among sets n w many i (omega arith) (reached (over [] next) q (take i w))) ∙
-      rest-set t ranks k w sets read i h (reached (over [] next) q (take i w)) ∙
+      winning-set t ranks k w sets read i h (reached (over [] next) q (take i w)) ∙
       ap (restIn t ranks k (drop i w)) (sym (reached-over (over [] next) ranks (take i w) q))
 
   pub search-same : qualifying (restAmong sets n) (over [] next) q w ≡ qualifying (restIn t ranks k) (over ranks next) q w

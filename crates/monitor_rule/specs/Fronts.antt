@@ -1,15 +1,13 @@
 -- Front parts of a buffer, and the numbers of what they leave: what the release's functions hand
 -- back and ask. They are lent arrays of the automaton instead of the whole of it.
-use Prim.Native.Nat.{ℕ, zero, suc, _+_, _-_, _*_, _^_, _<_, _≤_}
+use Prim.Native.Nat.{ℕ, _+_, _-_, _*_, _^_, _<_, _≤_}
 use mathlib.Core.Bool.{Bool, cond}
-use mathlib.Core.List.{List, [], _∷_, _++_, map}
+use mathlib.Core.List.{List, [], _∷_, map}
 use lib.ListN.{length, getD, take, drop}
 use lib.Dec.{eqb}
 use Rattle.base.specs.Masks.{has}
-use Rattle.base.specs.Pad.{pad}
 use Rattle.automaton.specs.declared.Automaton.{Automaton}
 use Rattle.automaton.specs.Automaton.{reached}
-use Rattle.automaton.specs.Arrays.{controllableAt, controllableIn}
 use Rattle.monitor_rule.specs.Step.{Rest, qualifying, release}
 pub use Rattle.monitor_rule.specs.declared.Found.{Found}
 pub use Rattle.monitor_rule.specs.declared.Front.{Front}
@@ -24,9 +22,9 @@ unfoldable pub restIn : List ℕ → List ℕ → ℕ → Rest
 restIn t ranks k w q = has (getD t (2 * indexIn ranks k w) 0) q
 
 -- the sets that a table has for what each front part leaves, in turn from the empty front part
-unfoldable pub restSets : List ℕ → List ℕ → ℕ → List ℕ → List ℕ
-restSets t ranks k [] = getD t (2 * indexIn ranks k []) 0 ∷ []
-restSets t ranks k (e ∷ w) = getD t (2 * indexIn ranks k (e ∷ w)) 0 ∷ restSets t ranks k w
+unfoldable pub winningSets : List ℕ → List ℕ → ℕ → List ℕ → List ℕ
+winningSets t ranks k [] = getD t (2 * indexIn ranks k []) 0 ∷ []
+winningSets t ranks k (e ∷ w) = getD t (2 * indexIn ranks k (e ∷ w)) 0 ∷ winningSets t ranks k w
 
 -- may the monitor rest with what is left of n events, by the sets for what each front part leaves?
 unfoldable pub restAmong : List ℕ → ℕ → Rest

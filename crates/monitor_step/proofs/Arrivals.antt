@@ -46,7 +46,7 @@ pub record Arrived (a : Automaton) (q : ℕ) (w : List ℕ) (e p : ℕ) (buffer 
 module _ (a : Automaton) (q : ℕ) (buffer : List ℕ) (held e : ℕ) (shaped : length buffer ≡ 6) (padded : buffer ≡ pad 6 (take held buffer))
     (many : length (take held buffer) ≡ held) (few : held ≤ 6) (passes : Bool) (f : passes ≡ not (controllable a e)) where
   pub arrives : (controllable a e ≡ true → held < 6) → (p : ℕ) (longer : List ℕ) (n all : ℕ) → p ≡ cond passes (getD (a .next) (q * 16 + e) 0) q
-      → longer ≡ cond passes buffer (set buffer held e) → n ≡ cond passes 1 0 → all ≡ held + 1 - n
+      → longer ≡ cond passes buffer (set buffer held e) → n ≡ cond passes 1 0 → all ≡ held + cond passes 0 1
       → Arrived a q (take held buffer) e p longer n all
   unfolding arrival remaining step
   arrives room p l n all ep el en ea =
@@ -55,7 +55,7 @@ module _ (a : Automaton) (q : ℕ) (buffer : List ℕ) (held e : ℕ) (shaped : 
       let b : passes ≡ false = f ∙ rw c in
       let h = room c in
       let m : n ≡ 0 = en ∙ rw b in
-      let k : all ≡ held + 1 = omega arith in
+      let k : all ≡ held + 1 = ea ∙ rw b in
       let s : l ≡ set buffer held e = el ∙ rw b in
       let t : take all l ≡ take held buffer ++ e ∷ [] = ap₂ (λ i x. take i x) k s ∙ longer buffer held e (omega arith) in
       let u : length (take held buffer ++ e ∷ []) ≡ held + 1 = length-append (take held buffer) (e ∷ []) ∙ ap (λ i. i + 1) many in
@@ -75,7 +75,7 @@ module _ (a : Automaton) (q : ℕ) (buffer : List ℕ) (held e : ℕ) (shaped : 
       (λ c.
       let b : passes ≡ true = f ∙ rw c in
       let m : n ≡ 1 = en ∙ rw b in
-      let k : all ≡ held = omega arith in
+      let k : all ≡ held = ea ∙ rw b (omega arith) in
       let s : l ≡ buffer = el ∙ rw b in
       record {
         state = ep ∙ rw (b, c);

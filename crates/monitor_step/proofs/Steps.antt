@@ -55,28 +55,29 @@ module _ (rest : Rest) (a : Automaton) (q : ℕ) (w : List ℕ) (e p : ℕ) (lon
   pub released-few : f .count ≤ all
   released-few = omega (arith, count-is, release-le rest a (x .state) (x .buffer), all-is)
 
-  pub step-answers : (at : ℕ) (left : List ℕ) → left ≡ pad 6 (drop (f .count) (take all longer))
-      → record { state = f .state; held = all - f .count; buffer = left; written = at + n + f .count } ≡ stepped rest a q w e at
+  pub step-answers : (at from : ℕ) → from ≡ at + n → (left : List ℕ) → left ≡ pad 6 (drop (f .count) (take all longer))
+      → record { state = f .state; held = all - f .count; buffer = left; written = from + f .count } ≡ stepped rest a q w e at
   unfolding stepped effect front
-  step-answers at left l =
+  step-answers at from behind left l =
       let few = release-le rest a (x .state) (x .buffer) in
       let h : all - k ≡ length (drop k (x .buffer)) = omega (arith, all-is, length-drop k (x .buffer)) in
-      let m : at + n + k ≡ at + length (x .emitted ++ take k (x .buffer)) =
-      omega (arith, v .first, length-append (x .emitted) (take k (x .buffer)), length-take-le k (x .buffer) few)
+      let m : from + k ≡ at + length (x .emitted ++ take k (x .buffer)) =
+      omega (arith, behind, v .first, length-append (x .emitted) (take k (x .buffer)), length-take-le k (x .buffer) few)
       in
       let d : left ≡ pad 6 (drop k (x .buffer)) = l ∙ ap₂ (λ i b. pad 6 (drop i b)) count-is (v .events) in
       rw (d, found) (rw (h, m))
 
-  pub step-writes : (passes : Bool) → passes ≡ not (controllable a e) → (out out1 out2 : List ℕ) (at : ℕ)
-      → out1 ≡ cond passes (set out at e) out → out2 ≡ sets out1 (at + n) (take (f .count) longer)
+  pub step-writes : (passes : Bool) → passes ≡ not (controllable a e) → (out out1 out2 : List ℕ) (at from : ℕ) → from ≡ at + n
+      → out1 ≡ cond passes (set out at e) out → out2 ≡ sets out1 from (take (f .count) longer)
       → out2 ≡ sets out at (effect rest a q w e .emitted)
   unfolding effect arrival
-  step-writes passes b out out1 out2 at o1 o2 =
+  step-writes passes b out out1 out2 at from behind o1 o2 =
       let m = x .emitted in
       let r = take k (x .buffer) in
       let one : out1 ≡ sets out at m = o1 ∙ by (controllable a e) (λ c. rw (b, c)) (λ c. rw (b, c)) in
       let part : take (f .count) longer ≡ r = sym (take-take (f .count) all longer released-few) ∙ ap₂ take count-is (v .events) in
-      o2 ∙ ap₂ (λ y l. sets y (at + n) l) one part ∙ ap (λ i. sets (sets out at m) (at + i) r) (sym (v .first)) ∙ sets-join out at m r
+      o2 ∙ ap (λ i. sets out1 i (take (f .count) longer)) behind ∙
+      ap₂ (λ y l. sets y (at + n) l) one part ∙ ap (λ i. sets (sets out at m) (at + i) r) (sym (v .first)) ∙ sets-join out at m r
 
 -- from what a step asks
 module _ {next ranks : List ℕ} {k : ℕ} {t : List ℕ} {q : ℕ} {buffer : List ℕ} {held e size at : ℕ} (g : StepRequires next ranks k t q buffer held e size at) where
@@ -91,12 +92,12 @@ module _ {next ranks : List ℕ} {k : ℕ} {t : List ℕ} {q : ℕ} {buffer : Li
       g .space
       (by (controllable (over ranks next) e) (λ c. c) (λ c. absurd (clash (ap (λ j. eqb (getD ranks j 0) 0) ei ∙ rank-class ranks next e ∙ rw c) z)))
 
-  pub ready-arrives : (i j : ℕ) → i ≡ e → j ≡ e → (p : ℕ) (longer : List ℕ) (n : ℕ) → p ≡ cond (eqb (getD ranks i 0) 0) (getD next (q * 16 + j) 0) q
-      → longer ≡ cond (eqb (getD ranks i 0) 0) buffer (set buffer held e) → n ≡ cond (eqb (getD ranks i 0) 0) 1 0
-      → Arrived (over ranks next) q (take held buffer) e p longer n (held + 1 - n)
-  ready-arrives i j ei ej p longer n ep el en =
+  pub ready-arrives : (i j : ℕ) → i ≡ e → j ≡ e → (p : ℕ) (longer : List ℕ) (all : ℕ) → p ≡ cond (eqb (getD ranks i 0) 0) (getD next (q * 16 + j) 0) q
+      → longer ≡ cond (eqb (getD ranks i 0) 0) buffer (set buffer held e) → all ≡ held + cond (eqb (getD ranks i 0) 0) 0 1
+      → Arrived (over ranks next) q (take held buffer) e p longer (cond (eqb (getD ranks i 0) 0) 1 0) all
+  ready-arrives i j ei ej p longer all ep el ea =
       arrives (over ranks next) q buffer held e shaped (g .padded) many (g .few) (eqb (getD ranks i 0) 0)
-      (ap (λ y. eqb (getD ranks y 0) 0) ei ∙ rank-class ranks next e) (g .space) p longer n (held + 1 - n) (rw ej at ep) el en refl
+      (ap (λ y. eqb (getD ranks y 0) 0) ei ∙ rank-class ranks next e) (g .space) p longer (cond (eqb (getD ranks i 0) 0) 1 0) all (rw ej at ep) el refl ea
 
   pub ready-lent : (p : ℕ) (longer : List ℕ) (n all : ℕ) → Arrived (over ranks next) q (take held buffer) e p longer n all → ReleaseRequires next ranks k t p longer all
   ready-lent p longer n all v =

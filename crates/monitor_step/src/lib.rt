@@ -52,58 +52,52 @@ fn moved(next: &[u8; 512], passes: bool, q: usize, e: usize) -> usize
     q
 }
 
-// The buffer with an event that is held at its end; the same buffer where it passes.
-fn held_with(buffer: [u8; 6], passes: bool, held: usize, e: u8) -> [u8; 6]
+// Holds an event at the buffer's end, unless it passes: how many are held then.
+fn hold(passes: bool, e: u8, buffer: &mut [u8; 6], held: usize) -> usize
     requires { ⌜ (passes ≡ false → held < 6) ⌝ }
-    ensures { λ r. ⌜ r ≡ cond passes buffer (set buffer held e) ⌝ }
+    ensures { λ n. ⌜ (n ≡ held + cond passes 0 1)
+        × (now (buffer .exit) ≡ cond passes (now (buffer .entry)) (set (now (buffer .entry)) held e)) ⌝ }
 {
     if passes {
-        return buffer;
+        return held;
     }
-    let mut longer = buffer;
-    longer[held] = e;
-    longer
+    buffer[held] = e;
+    held + 1
 }
 
-// Writes an event that passes.
-fn pass(passes: bool, e: u8, out: &mut [u8], at: usize)
+// Writes an event that passes: the place after it.
+fn pass(passes: bool, e: u8, out: &mut [u8], at: usize) -> usize
     requires { ⌜ at < length (now out) ⌝ }
-    ensures { λ _. ⌜ now (out .exit) ≡ cond passes (set (now (out .entry)) at e) (now (out .entry)) ⌝ }
+    ensures { λ n. ⌜ (n ≡ at + cond passes 1 0)
+        × (now (out .exit) ≡ cond passes (set (now (out .entry)) at e) (now (out .entry))) ⌝ }
 {
     if passes {
         out[at] = e;
+        return at + 1;
     }
-}
-
-fn one_if(passes: bool) -> usize
-    ensures { λ r. ⌜ r ≡ cond passes 1 0 ⌝ }
-{
-    if passes {
-        return 1;
-    }
-    0
+    at
 }
 
 // Writes the front part of the buffer that is released.
-fn emit(buffer: [u8; 6], count: usize, out: &mut [u8], at: usize)
+fn emit<'a>(buffer: &'a [u8; 6], count: usize, out: &mut [u8], at: usize)
     requires { ⌜ (count ≤ 6) × (at + count ≤ length (now out)) ⌝ }
-    ensures { λ _. ⌜ now (out .exit) ≡ sets (now (out .entry)) at (take count buffer) ⌝ }
+    ensures { λ _. ⌜ now (out .exit) ≡ sets (now (out .entry)) at (take count (now (buffer .entry))) ⌝ }
 {
     if 0 < count {
-        copy(&buffer, 0, count, out, at);
+        copy(buffer, 0, count, out, at);
     }
 }
 
 // What is left of the buffer, moved to its front.
-fn left(buffer: [u8; 6], held: usize, count: usize) -> [u8; 6]
-    requires { ⌜ (held ≤ 6) × (count ≤ held) × (buffer ≡ pad 6 (take held buffer)) ⌝ }
-    ensures { λ r. ⌜ r ≡ pad 6 (drop count (take held buffer)) ⌝ }
+fn left<'a>(buffer: &'a [u8; 6], held: usize, count: usize) -> [u8; 6]
+    requires { ⌜ (held ≤ 6) × (count ≤ held) × (now buffer ≡ pad 6 (take held (now buffer))) ⌝ }
+    ensures { λ r. ⌜ r ≡ pad 6 (drop count (take held (now (buffer .entry)))) ⌝ }
 {
     if count == 0 {
-        return buffer;
+        return *buffer;
     }
     let mut kept = [0u8; 6];
-    copy(&buffer, count, held - count, &mut kept, 0);
+    copy(buffer, count, held - count, &mut kept, 0);
     kept
 }
 
@@ -129,16 +123,15 @@ pub fn step<'a>(
 {
     let passes = ranks[as_usize(e)] == 0;
     let p = moved(next, passes, q, as_usize(e));
-    let longer = held_with(buffer, passes, held, e);
-    pass(passes, e, out, at);
-    let n = one_if(passes);
-    let all = held + 1 - n;
+    let mut longer = buffer;
+    let all = hold(passes, e, &mut longer, held);
+    let from = pass(passes, e, out, at);
     let front = release(next, ranks, k, table, p, longer, all);
-    emit(longer, front.count, out, at + n);
+    emit(&longer, front.count, out, from);
     Stepped {
         state: front.state,
         held: all - front.count,
-        buffer: left(longer, all, front.count),
-        written: at + n + front.count,
+        buffer: left(&longer, all, front.count),
+        written: from + front.count,
     }
 }

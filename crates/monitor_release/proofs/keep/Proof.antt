@@ -2,27 +2,20 @@ use Rattle.monitor_rule.specs.Fronts.{keptIn}
 use borrow.Author.Needs.{needs}
 use Rattle.monitor_release.proofs.keep.Statement.{statement}
 use Rattle.monitor_release.proofs.keep.Tie as tie
-use Rattle.monitor_release.proofs.keep.Reads as reads
-use Rattle.monitor_release.proofs.keep.Lts as lts
 
--- src/lib.rt:54:26
 cast-lengths : tie.Need-cast-lengths
 cast-lengths c = search needs
 
--- src/lib.rt:54:9
 element-write-lengths : tie.Need-element-write-lengths
 element-write-lengths c = search needs
 
--- src/lib.rt:56:20
 add-t11 : tie.Need-add-t11
 add-t11 c = search needs
 
--- src/lib.rt:55:9
 returns : tie.Need-returns
 unfolding keptIn
 returns c = (rw (c .if1 .taken), rw (c .if1 .taken))
 
--- src/lib.rt:47:1
 returns-2 : tie.Need-returns-2
 unfolding keptIn
 returns-2 c = (rw (c .if1 .left), rw (c .if1 .left))

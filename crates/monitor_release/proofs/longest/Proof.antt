@@ -6,28 +6,20 @@ use Rattle.base.proofs.Picking.{last-first}
 use borrow.Author.Needs.{needs}
 use Rattle.monitor_release.proofs.longest.Statement.{statement}
 use Rattle.monitor_release.proofs.longest.Tie as tie
-use Rattle.monitor_release.proofs.longest.Reads as reads
-use Rattle.monitor_release.proofs.longest.Lts as lts
-use Rattle.base.proofs.as_usize.Reads as as-usize-reads
 
--- src/lib.rt:100:9
 returns : tie.Need-returns
 unfolding lastOr
 returns c = rw (c .if1 .taken)
 
--- src/lib.rt:102:22
 sub-as-usize : tie.Need-sub-as-usize
 sub-as-usize c = search needs
 
--- src/lib.rt:102:14
 shared-slice-read-as-usize : tie.Need-shared-slice-read-as-usize
 shared-slice-read-as-usize c = search needs
 
--- src/lib.rt:102:5
 as-usize-requires : tie.Need-as-usize-requires
 as-usize-requires c κs = search needs
 
--- src/lib.rt:95:1
 returns-2 : tie.Need-returns-2
 returns-2 c =
     let s = c .before .before .before .before in

@@ -5,17 +5,10 @@ use native.Mathlib.Omega.{arith}
 use lib.ListN.{length, take}
 use lib.Seq.{length-take-le}
 use borrow.Author.Needs.{needs}
-use Rattle.base.proofs.Picking.{those-few}
-use Rattle.monitor_rule.specs.Step.{qualifies}
 use Rattle.monitor_rule.specs.Fronts.{restAmong, over}
 use Rattle.monitor_rule.proofs.Searching.{Searching, searching-begins, searching-room, searching-asks, searching-goes-on, searching-done, next-state, among}
 use Rattle.monitor_release.proofs.qualifying.Statement.{statement}
 use Rattle.monitor_release.proofs.qualifying.Tie as tie
-use Rattle.monitor_release.proofs.qualifying.Reads as reads
-use Rattle.monitor_release.proofs.qualifying.Lts as lts
-use Rattle.base.proofs.as_usize.Reads as as-usize-reads
-use Rattle.base.proofs.has.Reads as has-reads
-use Rattle.monitor_release.proofs.keep.Reads as keep-reads
 
 abbrev Inv-loop : tie.InvT-loop
 Inv-loop next sets q held lengths₀ buffer found₀ p₀ r₀ lengths found p r =
@@ -46,66 +39,52 @@ asked c =
     (c .before .before .has .ensures ∙ among (a .sets .now) (a .held) (take (a .held) (a .t4)) (v .2) (r .loop .r) (v .0) (r .loop .p))
     _ (c .keep .ensures .0) _ (c .keep .ensures .1)
 
--- src/lib.rt:84:5
 loop-holds : tie.Need-loop-holds Inv-loop μ-loop
 loop-holds c =
     let n : length (c .args .t4) ≡ 6 = search needs in
     let long = length-take-le (c .args .held) (c .args .t4) (omega (arith, c .pre .0)) in
     (omega arith, c .pre .1, long, rw (c .pre .4) (searching-begins _ _ _ _))
 
--- src/lib.rt:85:26
 mul-has : tie.Need-mul-has Inv-loop μ-loop
 mul-has c = search needs
 
--- src/lib.rt:85:26
 element-copy-out-has : tie.Need-element-copy-out-has Inv-loop μ-loop
 element-copy-out-has c = search needs
 
--- src/lib.rt:85:22
 has-requires : tie.Need-has-requires Inv-loop μ-loop
 has-requires c κs = search needs
 
--- src/lib.rt:85:9
 keep-requires : tie.Need-keep-requires Inv-loop μ-loop
 keep-requires c κs =
     let r = c .before .before .before in
     (searching-room _ _ _ _ (r .loop .inv .3) (few r), omega (arith, r .loop .inv .0, r .before .pre .0))
 
--- src/lib.rt:89:27
 mul-as-usize : tie.Need-mul-as-usize Inv-loop μ-loop
 mul-as-usize c = search needs
 
--- src/lib.rt:89:45
 array-read-as-usize : tie.Need-array-read-as-usize Inv-loop μ-loop
 array-read-as-usize c = search needs
 
--- src/lib.rt:89:36
 as-usize-requires : tie.Need-as-usize-requires Inv-loop μ-loop
 as-usize-requires c κs = search needs
 
--- src/lib.rt:89:27
 add-as-usize : tie.Need-add-as-usize Inv-loop μ-loop
 add-as-usize c = search needs
 
--- src/lib.rt:89:22
 element-copy-out-as-usize : tie.Need-element-copy-out-as-usize Inv-loop μ-loop
 element-copy-out-as-usize c =
     let r = c .before .before .before .before .before .before in
     omega (arith, c .as-usize .ensures .0, r .before .pre .3 (r .loop .r), r .loop .inv .1)
 
--- src/lib.rt:89:9
 as-usize-requires-2 : tie.Need-as-usize-requires-2 Inv-loop μ-loop
 as-usize-requires-2 c κs = search needs
 
--- src/lib.rt:90:13
 add-r : tie.Need-add-r Inv-loop μ-loop
 add-r c = search needs
 
--- src/lib.rt:84:5
 loop-less : tie.Need-loop-less Inv-loop μ-loop
 loop-less c = search needs
 
--- src/lib.rt:84:5
 loop-again : tie.Need-loop-again Inv-loop μ-loop
 loop-again c =
     let k = c .before .before .before .before in
@@ -120,7 +99,6 @@ loop-again c =
       searching-goes-on _ _ _ _ (asked k) (omega (arith, v .2)) _ (next-state [] (a .next .now) (a .t4) (a .held) (r .loop .p) (r .loop .r) _ _ h (m .ensures .0) (c .as-usize2 .ensures .0)),
     )
 
--- src/lib.rt:66:1
 returns : tie.Need-returns Inv-loop μ-loop
 returns c =
     let v = round (c .before) .loop .inv in

@@ -7,15 +7,9 @@ use Rattle.monitor_rule.proofs.Searching.{search-fits, search-releases}
 use borrow.Author.Needs.{needs}
 use Rattle.monitor_release.proofs.release.Statement.{statement}
 use Rattle.monitor_release.proofs.release.Tie as tie
-use Rattle.monitor_release.proofs.release.Reads as reads
-use Rattle.monitor_release.proofs.release.Lts as lts
-use Rattle.monitor_release.proofs.longest.Reads as longest-reads
-use Rattle.monitor_release.proofs.qualifying.Reads as qualifying-reads
-use Rattle.monitor_release.proofs.rest_sets.Reads as rest-sets-reads
 
--- src/lib.rt:122:5
-rest-sets-requires : tie.Need-rest-sets-requires
-rest-sets-requires c κs = let p = c .before .before .pre in (p .few, p .radix, p .rank-high, p .symbol-low, p .long 0 (omega arith), refl)
+winning-sets-requires : tie.Need-winning-sets-requires
+winning-sets-requires c κs = let p = c .before .before .pre in (p .few, p .radix, p .rank-high, p .symbol-low, p .long 0 (omega arith), refl)
 
 -- The places that later needs look back to, and what stands there.
 
@@ -34,30 +28,26 @@ fits c =
     let e = c .before .qualifying .ensures in
     search-fits _ _ _ _ (omega (arith, many c, start c .pre .few)) _ (e .0) _ (e .1)
 
--- src/lib.rt:124:9
 qualifying-requires : tie.Need-qualifying-requires
 qualifying-requires c κs = search needs
 
--- src/lib.rt:126:24
 slice-aggregate-longest : tie.Need-slice-aggregate-longest
 slice-aggregate-longest c = sym (fits c .0)
 
--- src/lib.rt:126:16
 longest-requires : tie.Need-longest-requires
 longest-requires c κs = fits c .1
 
--- src/lib.rt:107:1
 returns : tie.Need-returns
 returns c =
     let l = c .before in
     let e = l .before .qualifying .ensures in
-    search-releases _ _ _ _ _ _ _ (many l) _ (l .before .before .before .before .rest-sets .ensures) _ (e .0) _ (e .1) _ (c .longest .ensures)
+    search-releases _ _ _ _ _ _ _ (many l) _ (l .before .before .before .before .winning-sets .ensures) _ (e .0) _ (e .1) _ (c .longest .ensures)
 
 pub release-spec : {M : Type 1} → statement M
 release-spec =
     tie.close
     (tie.spec
-    rest-sets-requires
+    winning-sets-requires
     qualifying-requires
     slice-aggregate-longest
     longest-requires

@@ -4,9 +4,6 @@ use borrow.Author.Needs.{needs}
 use Rattle.monitor_step.proofs.emit.Statement.{statement}
 use Rattle.monitor_step.proofs.emit.Tie as tie
 
-slice-aggregate-copy : tie.Need-slice-aggregate-copy
-slice-aggregate-copy c = search needs
-
 copy-requires : tie.Need-copy-requires
 copy-requires c κs = search needs
 
@@ -20,4 +17,4 @@ returns-2 : tie.Need-returns-2
 returns-2 c = let e : c .before .before .args .count ≡ 0 = omega arith in rw e
 
 pub emit-spec : {M : Type 1} → statement M
-emit-spec = tie.close (tie.spec slice-aggregate-copy copy-requires same-length returns returns-2)
+emit-spec = tie.close (tie.spec copy-requires same-length returns returns-2)

@@ -7,12 +7,8 @@ use lib.Seq.{length-take-le, getD-take}
 use borrow.Author.Needs.{needs}
 use Rattle.monitor_rule.specs.Fronts.{indexIn}
 use Rattle.monitor_rule.proofs.Numbers.{Reading, reading-begins, reading-goes-on, reading-done, index-grown, index-drop, weight-bound, index-bound, grown-bound}
-use Rattle.monitor_release.proofs.rest_sets.Statement.{statement}
-use Rattle.monitor_release.proofs.rest_sets.Tie as tie
-use Rattle.monitor_release.proofs.rest_sets.Reads as reads
-use Rattle.monitor_release.proofs.rest_sets.Lts as lts
-use Rattle.base.proofs.as_u32.Reads as as-u32-reads
-use Rattle.base.proofs.as_usize.Reads as as-usize-reads
+use Rattle.monitor_release.proofs.winning_sets.Statement.{statement}
+use Rattle.monitor_release.proofs.winning_sets.Tie as tie
 
 abbrev Inv-loop : tie.InvT-loop
 Inv-loop ranks k table held sets₀ buffer index₀ weight₀ i₀ sets index weight i =
@@ -58,19 +54,15 @@ number : (c : tie.After-as-u32 Inv-loop μ-loop) → let r = round c in
     ≡ indexIn (a .ranks .now) (a .k) (drop (r .loop .i - 1) (take (a .held) (a .t4)))
 number c = index-grown _ _ _ _ (round c .loop .inv .2) _ (omega arith) (event-is c)
 
--- src/lib.rt:36:18
 shared-slice-read-sets : tie.Need-shared-slice-read-sets Inv-loop μ-loop
 shared-slice-read-sets c = search needs
 
--- src/lib.rt:36:5
 mul-sets : tie.Need-mul-sets Inv-loop μ-loop
 mul-sets c = search needs
 
--- src/lib.rt:36:5
 element-write-sets : tie.Need-element-write-sets Inv-loop μ-loop
 element-write-sets c = search needs
 
--- src/lib.rt:37:5
 loop-holds : tie.Need-loop-holds Inv-loop μ-loop
 loop-holds c =
     let a = c .before .before .args in
@@ -79,37 +71,29 @@ loop-holds c =
     let e = length-take-le (a .held) (a .t4) (omega (arith, p .0)) in
     (omega arith, e, rw (p .5) (reading-begins _ _ _ _ _ e (omega (arith, p .0))))
 
--- src/lib.rt:38:13
 sub-i : tie.Need-sub-i Inv-loop μ-loop
 sub-i c = search needs
 
--- src/lib.rt:39:47
 array-read-as-usize : tie.Need-array-read-as-usize Inv-loop μ-loop
 array-read-as-usize c = search needs
 
--- src/lib.rt:39:38
 as-usize-requires : tie.Need-as-usize-requires Inv-loop μ-loop
 as-usize-requires c κs = search needs
 
--- src/lib.rt:39:32
 element-copy-out-as-u32 : tie.Need-element-copy-out-as-u32 Inv-loop μ-loop
 element-copy-out-as-u32 c =
     let r = c .before .before in
     omega (arith, c .as-usize .ensures .0, start r .pre .3 (r .loop .i - 1))
 
--- src/lib.rt:39:25
 as-u32-requires : tie.Need-as-u32-requires Inv-loop μ-loop
 as-u32-requires c κs = search needs
 
--- src/lib.rt:39:25
 mul-index : tie.Need-mul-index Inv-loop μ-loop
 mul-index c = omega (arith, grown c)
 
--- src/lib.rt:39:17
 add-index : tie.Need-add-index Inv-loop μ-loop
 add-index c = omega (arith, grown c, low c)
 
--- src/lib.rt:40:18
 mul-weight : tie.Need-mul-weight Inv-loop μ-loop
 mul-weight c =
     let r = round c in
@@ -117,19 +101,15 @@ mul-weight c =
     let m : r .loop .weight * start r .args .k ≤ 262144 * 8 = mul-le-mul (weight-bound _ _ _ _ (r .loop .inv .2) (p .2) (p .1) (few r)) (p .1) in
     omega (arith, m)
 
--- src/lib.rt:41:30
 cast-sets : tie.Need-cast-sets Inv-loop μ-loop
 cast-sets c = omega (arith, grown c, low c)
 
--- src/lib.rt:41:25
 mul-sets-2 : tie.Need-mul-sets-2 Inv-loop μ-loop
 mul-sets-2 c = omega (arith, grown c, low c)
 
--- src/lib.rt:41:19
 mul-sets-3 : tie.Need-mul-sets-3 Inv-loop μ-loop
 mul-sets-3 c = omega (arith, grown c, low c)
 
--- src/lib.rt:41:19
 shared-slice-read-sets-2 : tie.Need-shared-slice-read-sets-2 Inv-loop μ-loop
 shared-slice-read-sets-2 c =
     let n = c .before in
@@ -138,19 +118,15 @@ shared-slice-read-sets-2 c =
     let smaller = index-drop (a .ranks .now) (a .k) (take (a .held) (a .t4)) (r .loop .i - 1) in
     rw (n .as-u32 .ensures .0, number n) (omega (arith, smaller, start r .pre .4))
 
--- src/lib.rt:41:9
 mul-sets-4 : tie.Need-mul-sets-4 Inv-loop μ-loop
 mul-sets-4 c = search needs
 
--- src/lib.rt:41:9
 element-write-sets-2 : tie.Need-element-write-sets-2 Inv-loop μ-loop
 element-write-sets-2 c = search needs
 
--- src/lib.rt:37:5
 loop-less : tie.Need-loop-less Inv-loop μ-loop
 loop-less c = search needs
 
--- src/lib.rt:37:5
 loop-again : tie.Need-loop-again Inv-loop μ-loop
 loop-again c =
     let n = c .before in
@@ -160,12 +136,11 @@ loop-again c =
     let read = ap (λ i. getD (a .table .now) (2 * i) 0) (number n) in
     (omega arith, v .1, rw (n .as-u32 .ensures .0) (reading-goes-on _ _ _ _ (v .2) _ (omega arith) (event-is n) _ read))
 
--- src/lib.rt:21:1
 returns : tie.Need-returns Inv-loop μ-loop
 returns c = reading-done (c .before .loop .inv .2) (omega arith)
 
-pub rest-sets-spec : {M : Type 1} → statement M
-rest-sets-spec =
+pub winning-sets-spec : {M : Type 1} → statement M
+winning-sets-spec =
     tie.close
     (tie.spec
     Inv-loop
