@@ -14,7 +14,11 @@ ghost use lib.ListN.{getD, length, set, take, replicate};
 ghost use Rattle.base.specs.Each.{lastOr};
 ghost use Rattle.base.specs.Pad.{pad};
 ghost use Rattle.monitor_rule.specs.Step.{qualifying};
-ghost use Rattle.monitor_rule.specs.Fronts.{indexIn, restIn, winningSets, restAmong, over, front, foundIn, keptIn, ReleaseRequires};
+ghost use Rattle.monitor_rule.specs.Fronts.{indexIn, restIn, winningSets, restAmong, over, front};
+ghost use Rattle.monitor_rule.specs.Fronts.{foundIn, keptIn, ReleaseRequires};
+
+// How many front parts six events have: those of 0 to 6.
+const FRONTS: usize = 7;
 
 // The sets of the table for what each front part leaves, in turn from the empty front part, into
 // an array that is 0. A set stands at twice the number of what is left; the number grows by each
@@ -44,7 +48,7 @@ fn winning_sets<'a>(
 }
 
 // Adds the length r of a front part, which leads to p, to those found if it qualifies.
-fn keep(qualifies: bool, r: usize, p: usize, found: Found, lengths: &mut [u8; 7]) -> Found
+fn keep(qualifies: bool, r: usize, p: usize, found: Found, lengths: &mut [u8; FRONTS]) -> Found
     requires { ⌜ (found .count < 7) × (r < 256) ⌝ }
     ensures { λ f. ⌜ (f ≡ keptIn qualifies p found)
         × (now (lengths .exit) ≡ cond qualifies (set (now (lengths .entry)) (found .count) r) (now (lengths .entry))) ⌝ }
@@ -60,16 +64,16 @@ fn keep(qualifies: bool, r: usize, p: usize, found: Found, lengths: &mut [u8; 7]
     found
 }
 
-// All front parts that qualify, asked in turn from the empty one to the whole buffer: their
-// lengths, into an array that is 0. `sets` has, for each front part, the states where the monitor
-// may rest with what is left.
-fn qualifying<'a>(
+// Asks all front parts in turn, from the empty one to the whole buffer: the lengths of those that
+// qualify, into an array that is 0. `sets` has, for each front part, the states in which the
+// monitor may rest with what is left.
+fn search<'a>(
     next: &'a [u8; 512],
     sets: &'a [u32; 8],
     q: usize,
     buffer: [u8; 6],
     held: usize,
-    lengths: &mut [u8; 7],
+    lengths: &mut [u8; FRONTS],
 ) -> Found
     requires { ⌜ (held ≤ 6) × (q < 32) × ((i : ℕ) → getD (now next) i 0 < 32) × ((i : ℕ) → getD buffer i 0 < 16)
         × (now lengths ≡ replicate 7 0) ⌝ }
@@ -89,6 +93,29 @@ fn qualifying<'a>(
         p = as_usize(next[p * 16 + as_usize(buffer[r])]);
         r = r + 1;
     }
+}
+
+// The lengths of all front parts that qualify by the table, in turn from the empty one, into an
+// array that is 0.
+fn qualifying<'a>(
+    next: &'a [u8; 512],
+    ranks: &'a [u8; 16],
+    k: u32,
+    table: &[u32],
+    q: usize,
+    buffer: [u8; 6],
+    held: usize,
+    lengths: &mut [u8; FRONTS],
+) -> Found
+    requires { ⌜ ReleaseRequires (now next) (now ranks) k (now table) q buffer held × (now lengths ≡ replicate 7 0) ⌝ }
+    ensures { λ f. let rest = restIn (now (table .entry)) (now (ranks .entry)) k in
+        let a = over (now (ranks .entry)) (now (next .entry)) in
+        ⌜ (f ≡ foundIn rest a q (take held buffer))
+        × (now (lengths .exit) ≡ pad 7 (qualifying rest a q (take held buffer))) ⌝ }
+{
+    let mut sets = [0u32; 8];
+    winning_sets(ranks, k, table, buffer, held, &mut sets);
+    search(next, &sets, q, buffer, held, lengths)
 }
 
 // The last of the first `count` lengths, which is the longest; 0 where there is none.
@@ -118,17 +145,15 @@ pub fn release<'a>(
         let a = over (now (ranks .entry)) (now (next .entry)) in
         ⌜ r ≡ front rest a q (take held buffer) ⌝ }
 {
-    let mut sets = [0u32; 8];
-    winning_sets(ranks, k, table, buffer, held, &mut sets);
-    let mut lengths = [0u8; 7];
-    let found = qualifying(next, &sets, q, buffer, held, &mut lengths);
+    let mut lengths = [0u8; FRONTS];
+    let found = qualifying(next, ranks, k, table, q, buffer, held, &mut lengths);
     Front {
         count: longest(&lengths, found.count),
         state: found.state,
     }
 }
 
-// Whether the monitor may rest in a state with a buffer, which is what the empty front part leaves.
+// Whether the monitor may rest in a state with a buffer: with what the empty front part leaves.
 pub fn rests<'a>(
     ranks: &'a [u8; 16],
     k: u32,

@@ -103,6 +103,16 @@ module _ (rest : Rest) (a : Automaton) (q : ℕ) (w : List ℕ) where
       let long : length lengths ≡ 7 = ap length el ∙ pad-length 7 (those (suc (length w)) test) (omega arith) in
       (long, omega (arith, ap (λ (x : Found). x .count) ef))
 
+  -- the last of the list, and the state beside it, are the release
+  pub search-releases : (f : Found) → f ≡ foundIn rest a q w → (lengths : List ℕ) → lengths ≡ pad 7 (qualifying rest a q w)
+      → (c : ℕ) → c ≡ lastOr 0 (take (f .count) lengths) → record { count = c; state = f .state } ≡ front rest a q w
+  unfolding front foundIn release
+  search-releases f ef lengths el c ec =
+      let found = qualifying rest a q w in
+      let last : c ≡ lastOr 0 found = ec ∙ ap (lastOr 0) (ap₂ take (ap (λ (x : Found). x .count) ef) el ∙ take-pad 7 found) in
+      let state : f .state ≡ reached a q (take (lastOr 0 found) w) = ap (λ (x : Found). x .state) ef in
+      rw (last, state)
+
 -- what the search reads of the arrays that it is lent
 pub next-state : (ranks next buffer : List ℕ) (held p r x s : ℕ) → r < held → x ≡ getD buffer r 0 → s ≡ getD next (p * 16 + x) 0
     → s ≡ step (over ranks next) p (getD (take held buffer) r 0)
@@ -127,16 +137,11 @@ module _ (t ranks next : List ℕ) (k q : ℕ) (w : List ℕ) (n : ℕ) (many : 
   pub search-same : qualifying (restAmong sets n) (over [] next) q w ≡ qualifying (restIn t ranks k) (over ranks next) q w
   search-same = qualifying-same (restAmong sets n) (over [] next) (restIn t ranks k) (over ranks next) q w asked-same
 
-  -- the last of the list, and the state beside it, are the release
-  pub search-releases : (f : Found) → f ≡ foundIn (restAmong sets n) (over [] next) q w
-      → (lengths : List ℕ) → lengths ≡ pad 7 (qualifying (restAmong sets n) (over [] next) q w)
-      → (c : ℕ) → c ≡ lastOr 0 (take (f .count) lengths) → record { count = c; state = f .state } ≡ front (restIn t ranks k) (over ranks next) q w
-  unfolding front foundIn release
-  search-releases f ef lengths el c ec =
-      let found = qualifying (restAmong sets n) (over [] next) q w in
-      let last : c ≡ lastOr 0 found = ec ∙ ap (lastOr 0) (ap₂ take (ap (λ (x : Found). x .count) ef) el ∙ take-pad 7 found) in
-      let state : f .state ≡ reached (over [] next) q (take (lastOr 0 found) w) = ap (λ (x : Found). x .state) ef in
-      rw (last, state, search-same, reached-over (over [] next) ranks (take (lastOr 0 (qualifying (restIn t ranks k) (over ranks next) q w)) w) q)
+  pub found-same : foundIn (restAmong sets n) (over [] next) q w ≡ foundIn (restIn t ranks k) (over ranks next) q w
+  unfolding foundIn release
+  found-same =
+      let list = qualifying (restIn t ranks k) (over ranks next) q w in
+      rw (search-same, reached-over (over [] next) ranks (take (lastOr 0 list) w) q)
 
 -- what the test of rest asks, of the same arrays
 pub rests-asks : {next ranks : List ℕ} {k : ℕ} {t : List ℕ} {q : ℕ} {buffer : List ℕ} {held : ℕ} → ReleaseRequires next ranks k t q buffer held

@@ -35,8 +35,8 @@ abbrev pub EventRowsAsWorded : Type 0
 EventRowsAsWorded =
     (rest : Rest) (a : Automaton) (p : Position) (e : ℕ) → RowsOfEvent a (length (p .buffer)) e (eventRefusal rest a p e)
 
--- The search, beside Definition 3.10 of source document 001, where P says with what is left, and in
--- which state, one may rest: k is the length of a front part of w that is in the paper's G(q, w).
+-- The search, beside Definition 3.10 of source document 001, where P says with what is left, and
+-- in which state, one may rest: k is the length of a front part of w in the paper's G(q, w).
 pub record Qualifies (P : List ℕ → ℕ → Type 0) (a : Automaton) (q : ℕ) (w : List ℕ) (k : ℕ) : Type 0 where
   pub front : List ℕ
   pub left : List ℕ
@@ -50,7 +50,7 @@ pub record Listed (lengths : List ℕ) (count k : ℕ) : Type 0 where
   pub below : place < count
   pub holds : getD lengths place 0 ≡ k
 
--- an array of seven places and a count have all front parts that qualify, in turn from the empty one
+-- an array of seven places and a count have all front parts that qualify, in turn
 pub record ListsQualifying (P : List ℕ → ℕ → Type 0) (a : Automaton) (q : ℕ) (w lengths : List ℕ) (count : ℕ) : Type 0 where
   -- a length is in the list exactly when its front part qualifies
   pub exactly : (k : ℕ) → Listed lengths count k ↔ Qualifies P a q w k
