@@ -111,14 +111,8 @@ module _ (d n : ℕ) (p : ℕ → Bool) where
   unfolding those
   last-suc = by (p n) (λ e. rw e (last-end d (those n p) n)) (λ e. rw (e, append-nil (those n p)))
 
-  pub last-more : lastOr d (those (n + 1) p) ≡ cond (p n) n (lastOr d (those n p))
-  last-more = rw (add-one n) last-suc
-
   pub last-taken : p n ≡ true → lastOr d (those (n + 1) p) ≡ n
-  last-taken h = last-more ∙ rw h
-
-  pub last-kept : p n ≡ false → lastOr d (those (n + 1) p) ≡ lastOr d (those n p)
-  last-kept h = last-more ∙ rw h
+  last-taken h = ap (lastOr d) (those-taken n p h) ∙ last-end d (those n p) n
 
 -- the largest number below n that p holds of
 pub record Greatest (n : ℕ) (p : ℕ → Bool) (k : ℕ) : Type 0 where
