@@ -21,9 +21,12 @@ use Rattle.solver_sets.proofs.Numbering.{numbered}
 use Rattle.solver_sets.proofs.Tables.{short-as-worded}
 use Rattle.configuration.specs.Configuration.{heldEvents, consistent, configuration, initialOf}
 use Rattle.monitor_rule.specs.Step.{bySets, byTable, qualifying, release}
-use Rattle.monitor_rule.specs.Fronts.{foundIn}
-use Rattle.monitor_rule.specs.Claims.{Full, Listed, ListsQualifying, Longest}
+use Rattle.automaton_symbols.specs.declared.Ranking.{Ranking}
+use Rattle.automaton_symbols.specs.Symbols.{ranksTo, rankingOf}
+use Rattle.monitor_rule.specs.Fronts.{indexIn, restIn, over, foundIn}
+use Rattle.monitor_rule.specs.Claims.{Full, Among, ListsQualifying, Longest}
 use Rattle.monitor_rule.proofs.Worded.{event-rows-as-worded, search-as-worded, releases-longest, only-longest}
+use Rattle.monitor_rule.proofs.Solved.{search-of-solved}
 use Rattle.monitor_answers.specs.Answers.{isWinning, status, received}
 use Rattle.monitor_answers.specs.Claims.{Clear}
 use Rattle.configuration.proofs.Facts.{consistent-as-worded}
@@ -47,7 +50,7 @@ use Rattle.enforcement.proofs.Said.{once-winning-said}
 use Rattle.enforcement.proofs.Answers.{flag-is-status, flag-stays, others-ignored}
 use Rattle.enforcement_cases.specs.Cases.{automatonV, automatonW}
 use Rattle.enforcement_instances.specs.Statements.{filled, tableW, at}
-use Rattle.enforcement_instances.specs.MonitorStatements.{wideV, startV, Rows, automatonLoops, Searching, storeOf, twoHeld, Releasing}
+use Rattle.enforcement_instances.specs.MonitorStatements.{wideV, startV, Rows, automatonLoops, SearchFinds, storeOf, twoHeld, Releasing}
 use Rattle.enforcement_instances.specs.MonitorStatements.{calls, page, sign, withdraw, eager, answers, Fields}
 use Rattle.enforcement_instances.specs.MonitorStatements.{longCalls, longAnswers, Day, Enforcing}
 use Rattle.enforcement_instances.proofs.Sheets.{valid-w, valid-v, solves-w, buffers-w, solved-w, solved-v, computing}
@@ -130,10 +133,13 @@ unfolding
     fedBy configurationAt since expected expectedAll
 publishing = 0
 
--- what W's search finds with Page and Receipt held, signed, and in state 3 with Page; V's and the
--- loops'
-found-w : qualifying (bySets automatonW) automatonW 1 (2 ∷ 3 ∷ []) ≡ 0 ∷ 2 ∷ []
-unfolding publishing
+-- what W's search finds with Page and Receipt held, signed, over its table, and in state 3 with
+-- Page; V's and the loops'
+abbrev ranking-w : Ranking
+ranking-w = rankingOf (automatonW .classes) (automatonW .symbols)
+
+found-w : qualifying (restIn tableW (ranking-w .ranks) (ranking-w .count)) (over (ranking-w .ranks) (automatonW .next)) 1 (2 ∷ 3 ∷ []) ≡ 0 ∷ 2 ∷ []
+unfolding computing rankingOf ranksTo indexIn restIn
 found-w = refl
 
 none-w : qualifying (bySets automatonW) automatonW 3 (2 ∷ []) ≡ []
@@ -154,7 +160,11 @@ lists : (a : Automaton) (q : ℕ) (w l : List ℕ) → length w ≤ 6 → qualif
 unfolding bySets foundIn
 lists a q w l few e = rw e at (search-as-worded (bySets a) a q w few)
 
-not-one : Listed (0 ∷ 2 ∷ filled 5 0) 2 1 → ⊥
+lists-w : ListsQualifying (Winning automatonW) automatonW 1 (2 ∷ 3 ∷ []) (pad 7 (0 ∷ 2 ∷ [])) 2
+unfolding foundIn computing
+lists-w = rw found-w at (search-of-solved automatonW tableW valid-w solved-w 1 (2 ∷ 3 ∷ []) (omega arith) (((omega arith, refl), ((omega arith, refl), tt)), omega arith))
+
+not-one : Among (0 ∷ 2 ∷ filled 5 0) 2 1 → ⊥
 not-one l = one-of (l .place) (l .below) (l .holds)
   where
     one-of : (i : ℕ) → i < 2 → getD (0 ∷ 2 ∷ filled 5 0) i 0 ≡ 1 → ⊥
@@ -162,10 +172,10 @@ not-one l = one-of (l .place) (l .below) (l .holds)
     one-of (suc zero) b h = omega (arith, h)
     one-of (suc (suc i)) b h = omega arith
 
-pub searching : Searching
+pub search-finds : SearchFinds
 unfolding pad
-searching =
-    let w = lists automatonW 1 (2 ∷ 3 ∷ []) (0 ∷ 2 ∷ []) (omega arith) found-w in
+search-finds =
+    let w = lists-w in
     let n = lists automatonW 3 (2 ∷ []) [] (omega arith) none-w in
     record {
       found = w;

@@ -87,13 +87,14 @@ unfoldable pub automatonLoops : Automaton
 automatonLoops = assembled 1 1 6 0 (filled 1 1 ++ filled 15 0) (filled 1 1 ++ filled 31 0) (filled 512 0)
 
 -- the front parts that qualify, as the search lists them
-pub record Searching : Type 0 where
-  -- signed, with Page and Receipt held, W finds the empty front part and the whole, not Page alone
+pub record SearchFinds : Type 0 where
+  -- signed, with Page and Receipt held, the search over what W's solved table and record lend finds
+  -- the empty front part and the whole, not Page alone
   pub found : ListsQualifying (Winning automatonW) automatonW 1 (2 ∷ 3 ∷ []) (0 ∷ 2 ∷ filled 5 0) 2
   pub empty-found : Qualifies (Winning automatonW) automatonW 1 (2 ∷ 3 ∷ []) 0
   pub whole-found : Qualifies (Winning automatonW) automatonW 1 (2 ∷ 3 ∷ []) 2
   pub page-not : Qualifies (Winning automatonW) automatonW 1 (2 ∷ 3 ∷ []) 1 → ⊥
-  pub rising : 0 < 2
+  pub rising : getD (0 ∷ 2 ∷ filled 5 0) 0 0 < getD (0 ∷ 2 ∷ filled 5 0) 1 0
   pub enough : 2 ≤ 7
   pub seven-places : length (0 ∷ 2 ∷ filled 5 0) ≡ 7
   pub zeros-past : (j : ℕ) → 2 ≤ j → getD (0 ∷ 2 ∷ filled 5 0) j 0 ≡ 0

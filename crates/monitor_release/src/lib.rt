@@ -29,35 +29,35 @@ fn winning_sets<'a>(
     table: &[u32],
     buffer: [u8; 6],
     held: usize,
-    sets: &mut [u32; 8],
+    winning: &mut [u32; 8],
 )
     requires { ⌜ (held ≤ 6) × (k ≤ 8) × ((e : ℕ) → getD (now ranks) e 0 ≤ 8) × ((i : ℕ) → getD buffer i 0 < 16)
-        × (2 * indexIn (now ranks) k (take held buffer) < length (now table)) × (now sets ≡ replicate 8 0) ⌝ }
-    ensures { λ _. ⌜ now (sets .exit) ≡ pad 8 (winningSets (now (table .entry)) (now (ranks .entry)) k (take held buffer)) ⌝ }
+        × (2 * indexIn (now ranks) k (take held buffer) < length (now table)) × (now winning ≡ replicate 8 0) ⌝ }
+    ensures { λ _. ⌜ now (winning .exit) ≡ pad 8 (winningSets (now (table .entry)) (now (ranks .entry)) k (take held buffer)) ⌝ }
 {
     let mut index: u32 = 0;
     let mut weight: u32 = 1;
     let mut i = held;
-    sets[held] = table[0];
+    winning[held] = table[0];
     while 0 < i {
         i = i - 1;
         index = index + as_u32(ranks[as_usize(buffer[i])]) * weight;
         weight = weight * k;
-        sets[i] = table[2 * (index as usize)];
+        winning[i] = table[2 * (index as usize)];
     }
 }
 
 // Adds the length r of a front part, which leads to p, to those found if it qualifies.
 fn keep(qualifies: bool, r: usize, p: usize, found: Found, lengths: &mut [u8; FRONTS]) -> Found
-    requires { ⌜ (found .count < 7) × (r < 256) ⌝ }
+    requires { ⌜ (found .listed < 7) × (r < 256) ⌝ }
     ensures { λ f. ⌜ (f ≡ keptIn qualifies p found)
-        × (now (lengths .exit) ≡ cond qualifies (set (now (lengths .entry)) (found .count) r) (now (lengths .entry))) ⌝ }
+        × (now (lengths .exit) ≡ cond qualifies (set (now (lengths .entry)) (found .listed) r) (now (lengths .entry))) ⌝ }
 {
     if qualifies {
-        let count = found.count;
-        lengths[count] = r as u8;
+        let listed = found.listed;
+        lengths[listed] = r as u8;
         return Found {
-            count: count + 1,
+            listed: listed + 1,
             state: p,
         };
     }
@@ -65,11 +65,11 @@ fn keep(qualifies: bool, r: usize, p: usize, found: Found, lengths: &mut [u8; FR
 }
 
 // Asks all front parts in turn, from the empty one to the whole buffer: the lengths of those that
-// qualify, into an array that is 0. `sets` has, for each front part, the states in which the
+// qualify, into an array that is 0. `winning` has, for each front part, the states in which the
 // monitor may rest with what is left.
 fn search<'a>(
     next: &'a [u8; 512],
-    sets: &'a [u32; 8],
+    winning: &'a [u32; 8],
     q: usize,
     buffer: [u8; 6],
     held: usize,
@@ -77,16 +77,19 @@ fn search<'a>(
 ) -> Found
     requires { ⌜ (held ≤ 6) × (q < 32) × ((i : ℕ) → getD (now next) i 0 < 32) × ((i : ℕ) → getD buffer i 0 < 16)
         × (now lengths ≡ replicate 7 0) ⌝ }
-    ensures { λ f. let rest = restAmong (now (sets .entry)) held in
+    ensures { λ f. let rest = restAmong (now (winning .entry)) held in
         let a = over [] (now (next .entry)) in
         ⌜ (f ≡ foundIn rest a q (take held buffer))
         × (now (lengths .exit) ≡ pad 7 (qualifying rest a q (take held buffer))) ⌝ }
 {
-    let mut found = Found { count: 0, state: q };
+    let mut found = Found {
+        listed: 0,
+        state: q,
+    };
     let mut p = q;
     let mut r: usize = 0;
     loop {
-        found = keep(has(sets[r], p), r, p, found, lengths);
+        found = keep(has(winning[r], p), r, p, found, lengths);
         if r == held {
             break found;
         }
@@ -113,9 +116,9 @@ fn qualifying<'a>(
         ⌜ (f ≡ foundIn rest a q (take held buffer))
         × (now (lengths .exit) ≡ pad 7 (qualifying rest a q (take held buffer))) ⌝ }
 {
-    let mut sets = [0u32; 8];
-    winning_sets(ranks, k, table, buffer, held, &mut sets);
-    search(next, &sets, q, buffer, held, lengths)
+    let mut winning = [0u32; 8];
+    winning_sets(ranks, k, table, buffer, held, &mut winning);
+    search(next, &winning, q, buffer, held, lengths)
 }
 
 // The last of the first `count` lengths, which is the longest; 0 where there is none.
@@ -148,7 +151,7 @@ pub fn release<'a>(
     let mut lengths = [0u8; FRONTS];
     let found = qualifying(next, ranks, k, table, q, buffer, held, &mut lengths);
     Front {
-        count: longest(&lengths, found.count),
+        count: longest(&lengths, found.listed),
         state: found.state,
     }
 }
@@ -166,7 +169,7 @@ pub fn rests<'a>(
         × (q < 32) × (2 * indexIn (now ranks) k (take held buffer) < length (now table)) ⌝ }
     ensures { λ r. ⌜ r ≡ restIn (now (table .entry)) (now (ranks .entry)) k (take held buffer) q ⌝ }
 {
-    let mut sets = [0u32; 8];
-    winning_sets(ranks, k, table, buffer, held, &mut sets);
-    has(sets[0], q)
+    let mut winning = [0u32; 8];
+    winning_sets(ranks, k, table, buffer, held, &mut winning);
+    has(winning[0], q)
 }

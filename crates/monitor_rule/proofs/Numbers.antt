@@ -1,4 +1,4 @@
--- Laws of the numbers of buffers.
+-- Laws of the numbers of buffers, and of the sets that a table has at them.
 use Prim.Native.Nat.{ℕ, zero, suc, _+_, _-_, _*_, _^_, _<_, _≤_}
 use mathlib.Core.Path.{_≡_, refl, sym, _∙_, ap, ap₂}
 use mathlib.Core.List.{List, [], _∷_, _++_}
@@ -34,11 +34,11 @@ index-drop ranks k [] (suc i) = omega arith
 index-drop ranks k (e ∷ w) (suc i) = omega (arith, index-drop ranks k w i)
 
 -- The loop that reads the sets for all that is left of a buffer, from its end on.
-pub record Reading (t ranks : List ℕ) (k : ℕ) (w sets : List ℕ) (index weight i : ℕ) : Type 0 where
+pub record Reading (t ranks : List ℕ) (k : ℕ) (w winning : List ℕ) (index weight i : ℕ) : Type 0 where
   pub within : i ≤ length w
   pub index-is : index ≡ indexIn ranks k (drop i w)
   pub weight-is : weight ≡ k ^ length (drop i w)
-  pub stored : sets ≡ replicate i 0 ++ (winningSets t ranks k (drop i w) ++ replicate (7 - length w) 0)
+  pub stored : winning ≡ replicate i 0 ++ (winningSets t ranks k (drop i w) ++ replicate (7 - length w) 0)
 
 -- one more set before those that are stored
 stored-before : (i : ℕ) (s : ℕ) (l : List ℕ) → set (replicate (suc i) 0 ++ l) i s ≡ replicate i 0 ++ s ∷ l
@@ -60,7 +60,7 @@ module _ (t ranks : List ℕ) (k : ℕ) (w : List ℕ) where
         stored = rw none (ap (λ x. set x n (getD t 0 0)) (sym zeros) ∙ stored-before n (getD t 0 0) (replicate (7 - length w) 0));
       }
 
-  module _ {sets : List ℕ} {index weight i : ℕ} (g : Reading t ranks k w sets index weight i) where
+  module _ {winning : List ℕ} {index weight i : ℕ} (g : Reading t ranks k w winning index weight i) where
     module _ (high : (e : ℕ) → getD ranks e 0 ≤ 8) (radix : k ≤ 8) (short : length w ≤ 6) where
       left-short : length (drop i w) ≤ 6
       left-short = rw (length-drop i w) (omega arith)
@@ -88,7 +88,7 @@ module _ (t ranks : List ℕ) (k : ℕ) (w : List ℕ) where
           (ap₂ (λ x y. x + getD ranks e 0 * y) (g .index-is) (g .weight-is) ∙ add-comm (indexIn ranks k (drop i w)) (getD ranks e 0 * k ^ length (drop i w)))
 
       pub reading-goes-on : (s : ℕ) → s ≡ getD t (2 * indexIn ranks k (drop (i - 1) w)) 0
-          → Reading t ranks k w (set sets (i - 1) s) (index + getD ranks e 0 * weight) (weight * k) (i - 1)
+          → Reading t ranks k w (set winning (i - 1) s) (index + getD ranks e 0 * weight) (weight * k) (i - 1)
       unfolding winningSets
       reading-goes-on s es =
           let j : suc (i - 1) ≡ i = omega arith in
@@ -109,8 +109,8 @@ unfolding winningSets
 sets-length t ranks k [] = refl
 sets-length t ranks k (e ∷ w) = ap suc (sets-length t ranks k w)
 
-pub reading-done : {t ranks : List ℕ} {k : ℕ} {w sets : List ℕ} {index weight i : ℕ} → Reading t ranks k w sets index weight i → i ≡ 0
-    → sets ≡ pad 8 (winningSets t ranks k w)
+pub reading-done : {t ranks : List ℕ} {k : ℕ} {w winning : List ℕ} {index weight i : ℕ} → Reading t ranks k w winning index weight i → i ≡ 0
+    → winning ≡ pad 8 (winningSets t ranks k w)
 unfolding pad
 reading-done {t} {ranks} {k} {w} g z =
     let f : 7 - length w ≡ 8 - length (winningSets t ranks k w) = omega (arith, sets-length t ranks k w) in
@@ -124,9 +124,9 @@ set-in t ranks k [] (suc i) h = absurd (omega arith)
 set-in t ranks k (e ∷ w) zero h = refl
 set-in t ranks k (e ∷ w) (suc i) h = set-in t ranks k w i (omega arith)
 
-pub winning-set : (t ranks : List ℕ) (k : ℕ) (w sets : List ℕ) → sets ≡ pad 8 (winningSets t ranks k w) → (i : ℕ) → i ≤ length w → (q : ℕ)
-    → has (getD sets i 0) q ≡ restIn t ranks k (drop i w) q
+pub winning-set : (t ranks : List ℕ) (k : ℕ) (w winning : List ℕ) → winning ≡ pad 8 (winningSets t ranks k w) → (i : ℕ) → i ≤ length w → (q : ℕ)
+    → has (getD winning i 0) q ≡ restIn t ranks k (drop i w) q
 unfolding restIn
-winning-set t ranks k w sets e i h q =
+winning-set t ranks k w winning e i h q =
     ap (λ x. has x q)
     (ap (λ x. getD x i 0) e ∙ pad-inside 8 (winningSets t ranks k w) i (omega (arith, sets-length t ranks k w)) ∙ set-in t ranks k w i h)

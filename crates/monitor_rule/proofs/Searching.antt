@@ -27,22 +27,22 @@ pub record Searching (rest : Rest) (a : Automaton) (q : ℕ) (w lengths : List �
   pub within : r ≤ length w
   pub here : p ≡ reached a q (take r w)
   pub listed : lengths ≡ pad 7 (those n (qualifies rest a q w))
-  pub counted : f .count ≡ length (those n (qualifies rest a q w))
-  pub longest : f .state ≡ reached a q (take (lastOr 0 (those n (qualifies rest a q w))) w)
+  pub counted : f .listed ≡ length (those n (qualifies rest a q w))
+  pub state-is : f .state ≡ reached a q (take (lastOr 0 (those n (qualifies rest a q w))) w)
 
 module _ (rest : Rest) (a : Automaton) (q : ℕ) (w : List ℕ) where
-  pub searching-begins : Searching rest a q w (replicate 7 0) (record { count = 0; state = q }) q 0 0
+  pub searching-begins : Searching rest a q w (replicate 7 0) (record { listed = 0; state = q }) q 0 0
   unfolding reached those lastOr pad
-  searching-begins = record { within = omega arith; here = refl; listed = refl; counted = refl; longest = refl }
+  searching-begins = record { within = omega arith; here = refl; listed = refl; counted = refl; state-is = refl }
 
   module _ {lengths : List ℕ} {f : Found} {p r : ℕ} where
     -- seven places are enough
-    pub searching-room : Searching rest a q w lengths f p r r → length w ≤ 6 → f .count < 7
+    pub searching-room : Searching rest a q w lengths f p r r → length w ≤ 6 → f .listed < 7
     searching-room g few = omega (arith, g .counted, those-few r (qualifies rest a q w), g .within)
 
     -- the front part of r events is asked
     pub searching-asks : Searching rest a q w lengths f p r r → length w ≤ 6 → (b : Bool) → b ≡ rest (drop r w) p → (h : Found) → h ≡ keptIn b p f
-        → (l : List ℕ) → l ≡ cond b (set lengths (f .count) r) lengths → Searching rest a q w l h p r (r + 1)
+        → (l : List ℕ) → l ≡ cond b (set lengths (f .listed) r) lengths → Searching rest a q w l h p r (r + 1)
     unfolding keptIn qualifies
     searching-asks g few b eb h eh l el =
         let test = qualifies rest a q w in
@@ -51,7 +51,7 @@ module _ (rest : Rest) (a : Automaton) (q : ℕ) (w : List ℕ) where
         by b
         (λ t.
         let more = those-taken r test (sym asked ∙ t) in
-        let eh' : h ≡ record { count = f .count + 1; state = p } = eh ∙ rw t in
+        let eh' : h ≡ record { listed = f .listed + 1; state = p } = eh ∙ rw t in
         record {
           within = g .within;
           here = g .here;
@@ -59,7 +59,7 @@ module _ (rest : Rest) (a : Automaton) (q : ℕ) (w : List ℕ) where
               el ∙ rw t (ap₂ (λ x i. set x i r) (g .listed) (g .counted) ∙ pad-set 7 (those r test) r (omega (arith, g .within))) ∙
               ap (pad 7) (sym more);
           counted = rw (eh', more, length-append (those r test) (r ∷ [])) (omega (arith, g .counted));
-          longest = rw (eh', last-taken 0 r test (sym asked ∙ t)) (g .here);
+          state-is = rw (eh', last-taken 0 r test (sym asked ∙ t)) (g .here);
         })
         (λ t.
         let more = those-passed r test (sym asked ∙ t) in
@@ -69,7 +69,7 @@ module _ (rest : Rest) (a : Automaton) (q : ℕ) (w : List ℕ) where
           here = g .here;
           listed = el ∙ rw t (g .listed) ∙ ap (pad 7) (sym more);
           counted = rw (eh', more) (g .counted);
-          longest = rw (eh', more) (g .longest);
+          state-is = rw (eh', more) (g .state-is);
         })
 
     -- the next front part
@@ -82,34 +82,34 @@ module _ (rest : Rest) (a : Automaton) (q : ℕ) (w : List ℕ) where
           here = e ∙ ap (λ x. step a x (getD w r 0)) (g .here) ∙ sym (reached-end a q (take r w) (getD w r 0)) ∙ ap (reached a q) longer;
           listed = g .listed;
           counted = g .counted;
-          longest = g .longest;
+          state-is = g .state-is;
         }
 
     -- all are asked
     pub searching-done : Searching rest a q w lengths f p r (r + 1) → r ≡ length w
         → (f ≡ foundIn rest a q w) × (lengths ≡ pad 7 (qualifying rest a q w))
-    unfolding foundIn qualifying release
+    unfolding foundIn front qualifying release
     searching-done g e =
         let all : r + 1 ≡ suc (length w) = omega arith in
-        (rw (rw all at (g .counted), rw all at (g .longest)), rw all at (g .listed))
+        (rw (rw all at (g .counted), rw all at (g .state-is)), rw all at (g .listed))
 
   -- what it leaves fits
   pub search-fits : length w ≤ 6 → (f : Found) → f ≡ foundIn rest a q w → (lengths : List ℕ) → lengths ≡ pad 7 (qualifying rest a q w)
-      → (length lengths ≡ 7) × (f .count ≤ length lengths)
+      → (length lengths ≡ 7) × (f .listed ≤ length lengths)
   unfolding foundIn qualifying
   search-fits few f ef lengths el =
       let test = qualifies rest a q w in
       let n = those-few (suc (length w)) test in
       let long : length lengths ≡ 7 = ap length el ∙ pad-length 7 (those (suc (length w)) test) (omega arith) in
-      (long, omega (arith, ap (λ (x : Found). x .count) ef))
+      (long, omega (arith, ap (λ (x : Found). x .listed) ef))
 
   -- the last of the list, and the state beside it, are the release
   pub search-releases : (f : Found) → f ≡ foundIn rest a q w → (lengths : List ℕ) → lengths ≡ pad 7 (qualifying rest a q w)
-      → (c : ℕ) → c ≡ lastOr 0 (take (f .count) lengths) → record { count = c; state = f .state } ≡ front rest a q w
+      → (c : ℕ) → c ≡ lastOr 0 (take (f .listed) lengths) → record { count = c; state = f .state } ≡ front rest a q w
   unfolding front foundIn release
   search-releases f ef lengths el c ec =
       let found = qualifying rest a q w in
-      let last : c ≡ lastOr 0 found = ec ∙ ap (lastOr 0) (ap₂ take (ap (λ (x : Found). x .count) ef) el ∙ take-pad 7 found) in
+      let last : c ≡ lastOr 0 found = ec ∙ ap (lastOr 0) (ap₂ take (ap (λ (x : Found). x .listed) ef) el ∙ take-pad 7 found) in
       let state : f .state ≡ reached a q (take (lastOr 0 found) w) = ap (λ (x : Found). x .state) ef in
       rw (last, state)
 
@@ -119,26 +119,26 @@ pub next-state : (ranks next buffer : List ℕ) (held p r x s : ℕ) → r < hel
 unfolding step
 next-state ranks next buffer held p r x s h e f = f ∙ ap (λ y. getD next (p * 16 + y) 0) (e ∙ sym (getD-take held buffer r 0 h))
 
-pub among : (sets : List ℕ) (n : ℕ) (w : List ℕ) → length w ≡ n → (r : ℕ) → r ≤ n → (p : ℕ) → has (getD sets r 0) p ≡ restAmong sets n (drop r w) p
+pub among : (winning : List ℕ) (n : ℕ) (w : List ℕ) → length w ≡ n → (r : ℕ) → r ≤ n → (p : ℕ) → has (getD winning r 0) p ≡ restAmong winning n (drop r w) p
 unfolding restAmong
-among sets n w e r h p =
+among winning n w e r h p =
     let f : r ≡ n - length (drop r w) = omega (arith, length-drop r w) in
-    ap (λ i. has (getD sets i 0) p) f
+    ap (λ i. has (getD winning i 0) p) f
 
 -- the search over the sets of a table is the search over the table
-module _ (t ranks next : List ℕ) (k q : ℕ) (w : List ℕ) (n : ℕ) (many : length w ≡ n) (sets : List ℕ) (read : sets ≡ pad 8 (winningSets t ranks k w)) where
-  asked-same : (i : ℕ) → i ≤ length w → qualifies (restAmong sets n) (over [] next) q w i ≡ qualifies (restIn t ranks k) (over ranks next) q w i
+module _ (t ranks next : List ℕ) (k q : ℕ) (w : List ℕ) (n : ℕ) (many : length w ≡ n) (winning : List ℕ) (read : winning ≡ pad 8 (winningSets t ranks k w)) where
+  asked-same : (i : ℕ) → i ≤ length w → qualifies (restAmong winning n) (over [] next) q w i ≡ qualifies (restIn t ranks k) (over ranks next) q w i
   unfolding qualifies
   asked-same i h =
-      sym (among sets n w many i (omega arith) (reached (over [] next) q (take i w))) ∙
-      winning-set t ranks k w sets read i h (reached (over [] next) q (take i w)) ∙
+      sym (among winning n w many i (omega arith) (reached (over [] next) q (take i w))) ∙
+      winning-set t ranks k w winning read i h (reached (over [] next) q (take i w)) ∙
       ap (restIn t ranks k (drop i w)) (sym (reached-over (over [] next) ranks (take i w) q))
 
-  pub search-same : qualifying (restAmong sets n) (over [] next) q w ≡ qualifying (restIn t ranks k) (over ranks next) q w
-  search-same = qualifying-same (restAmong sets n) (over [] next) (restIn t ranks k) (over ranks next) q w asked-same
+  pub search-same : qualifying (restAmong winning n) (over [] next) q w ≡ qualifying (restIn t ranks k) (over ranks next) q w
+  search-same = qualifying-same (restAmong winning n) (over [] next) (restIn t ranks k) (over ranks next) q w asked-same
 
-  pub found-same : foundIn (restAmong sets n) (over [] next) q w ≡ foundIn (restIn t ranks k) (over ranks next) q w
-  unfolding foundIn release
+  pub found-same : foundIn (restAmong winning n) (over [] next) q w ≡ foundIn (restIn t ranks k) (over ranks next) q w
+  unfolding foundIn front release
   found-same =
       let list = qualifying (restIn t ranks k) (over ranks next) q w in
       rw (search-same, reached-over (over [] next) ranks (take (lastOr 0 list) w) q)

@@ -1,4 +1,4 @@
--- The rows of one event and the release, in document 01's words.
+-- The rows of one event, the search and the release, in the documents' words.
 use Prim.Native.Nat.{ℕ, suc, _<_, _≤_}
 use mathlib.Core.Path.{_≡_, sym, _∙_, ap}
 use mathlib.Core.Bool.{true}
@@ -21,7 +21,7 @@ use Rattle.automaton.proofs.Classes.{class-one}
 use Rattle.configuration.specs.Configuration.{Position}
 use Rattle.monitor_rule.specs.Step.{Rest, qualifies, qualifying, release, eventRows, eventRefusal}
 use Rattle.monitor_rule.specs.Fronts.{foundIn}
-use Rattle.monitor_rule.specs.Claims.{Unknown, Full, Admitted, EventRowsAsWorded, Qualifies, Listed, ListsQualifying, SearchAsWorded, Longest, ReleasesLongest, OnlyLongest}
+use Rattle.monitor_rule.specs.Claims.{Unknown, Full, Admitted, EventRowsAsWorded, Qualifies, Among, ListsQualifying, SearchAsWorded, Longest, ReleasesLongest, OnlyLongest}
 
 module _ (rest : Rest) (a : Automaton) (p : Position) (e : ℕ) where
   abbrev w : List ℕ
@@ -101,13 +101,13 @@ module _ (rest : Rest) (a : Automaton) (q : ℕ) (w : List ℕ) where
     lengths = pad 7 (qualifying rest a q w)
 
     abbrev many : ℕ
-    many = foundIn rest a q w .count
+    many = foundIn rest a q w .listed
 
     inside : (i : ℕ) → i < many → getD lengths i 0 ≡ getD (qualifying rest a q w) i 0
     unfolding foundIn
     inside = pad-inside 7 (qualifying rest a q w)
 
-    listed-qualifies : (k : ℕ) → Listed lengths many k → Qualifies (λ r p. rest r p ≡ true) a q w k
+    listed-qualifies : (k : ℕ) → Among lengths many k → Qualifies (λ r p. rest r p ≡ true) a q w k
     unfolding foundIn qualifying qualifies
     listed-qualifies k l =
         let e = sym (inside (l .place) (l .below)) ∙ l .holds in
@@ -120,7 +120,7 @@ module _ (rest : Rest) (a : Automaton) (q : ℕ) (w : List ℕ) where
           leads = h .1;
         }
 
-    qualifies-listed : (k : ℕ) → Qualifies (λ r p. rest r p ≡ true) a q w k → Listed lengths many k
+    qualifies-listed : (k : ℕ) → Qualifies (λ r p. rest r p ≡ true) a q w k → Among lengths many k
     unfolding foundIn qualifying
     qualifies-listed k g =
         let test = qualifies rest a q w in

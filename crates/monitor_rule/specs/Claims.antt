@@ -1,5 +1,5 @@
 -- What is proved of the rows of one event and of the release, in document 01's words ("One event"
--- and "Numbers of refusal").
+-- and "Numbers of refusal"), and of the search for the release in source document 001's.
 use Prim.Native.Nat.{ℕ, _<_, _≤_}
 use mathlib.Core.Path.{_≡_}
 use mathlib.Core.Logic.{_⊎_, _↔_}
@@ -8,10 +8,13 @@ use mathlib.Core.List.{List, [], _++_}
 use lib.ListN.{length, getD, take, drop}
 use Rattle.base.specs.Pad.{pad, UsedTo}
 use Rattle.automaton.specs.declared.Automaton.{Automaton}
-use Rattle.automaton.specs.Automaton.{class, reached}
+use Rattle.automaton.specs.Automaton.{class, reached, valid}
+use Rattle.automaton_symbols.specs.Symbols.{rankingOf}
+use Rattle.solver_sets.specs.Table.{Buffer, Solved}
+use Rattle.solver_sets.specs.Claims.{Winning}
 use Rattle.configuration.specs.Configuration.{Position}
 use Rattle.monitor_rule.specs.Step.{Rest, qualifying, release, eventRefusal}
-use Rattle.monitor_rule.specs.Fronts.{foundIn}
+use Rattle.monitor_rule.specs.Fronts.{restIn, over, foundIn}
 
 -- row 14: the event is no symbol of the automaton
 abbrev pub Unknown : Automaton → ℕ → Type 0
@@ -36,7 +39,8 @@ EventRowsAsWorded =
     (rest : Rest) (a : Automaton) (p : Position) (e : ℕ) → RowsOfEvent a (length (p .buffer)) e (eventRefusal rest a p e)
 
 -- The search, beside Definition 3.10 of source document 001, where P says with what is left, and
--- in which state, one may rest: k is the length of a front part of w in the paper's G(q, w).
+-- in which state, one may rest: k is the length of a front part of w that leads q there. (By S they
+-- are the paper's G(q, w).)
 pub record Qualifies (P : List ℕ → ℕ → Type 0) (a : Automaton) (q : ℕ) (w : List ℕ) (k : ℕ) : Type 0 where
   pub front : List ℕ
   pub left : List ℕ
@@ -45,7 +49,7 @@ pub record Qualifies (P : List ℕ → ℕ → Type 0) (a : Automaton) (q : ℕ)
   pub leads : P left (reached a q front)
 
 -- k stands among the first `count` places of an array
-pub record Listed (lengths : List ℕ) (count k : ℕ) : Type 0 where
+pub record Among (lengths : List ℕ) (count k : ℕ) : Type 0 where
   pub place : ℕ
   pub below : place < count
   pub holds : getD lengths place 0 ≡ k
@@ -53,17 +57,26 @@ pub record Listed (lengths : List ℕ) (count k : ℕ) : Type 0 where
 -- an array of seven places and a count have all front parts that qualify, in turn
 pub record ListsQualifying (P : List ℕ → ℕ → Type 0) (a : Automaton) (q : ℕ) (w lengths : List ℕ) (count : ℕ) : Type 0 where
   -- a length is in the list exactly when its front part qualifies
-  pub exactly : (k : ℕ) → Listed lengths count k ↔ Qualifies P a q w k
+  pub exactly : (k : ℕ) → Among lengths count k ↔ Qualifies P a q w k
   pub rising : (i j : ℕ) → i < j → j < count → getD lengths i 0 < getD lengths j 0
   -- seven places are enough, and hold 0 past the count
   pub enough : count ≤ 7
   pub used : UsedTo 7 count lengths
 
--- what the search finds is that, over any rest test
+-- what the search finds is that, over any rest test ..
 abbrev pub SearchAsWorded : Type 0
 SearchAsWorded =
     (rest : Rest) (a : Automaton) (q : ℕ) (w : List ℕ) → length w ≤ 6
-    → ListsQualifying (λ r p. rest r p ≡ true) a q w (pad 7 (qualifying rest a q w)) (foundIn rest a q w .count)
+    → ListsQualifying (λ r p. rest r p ≡ true) a q w (pad 7 (qualifying rest a q w)) (foundIn rest a q w .listed)
+
+-- .. and over what the code is lent, with an automaton's solved table, it is so by S
+abbrev pub SearchOfSolved : Type 0
+SearchOfSolved =
+    (a : Automaton) (t : List ℕ) → valid a ≡ true → Solved a t → (q : ℕ) (w : List ℕ) → q < a .states → Buffer a w
+    → let own = rankingOf (a .classes) (a .symbols) in
+    let rest = restIn t (own .ranks) (own .count) in
+    let lent = over (own .ranks) (a .next) in
+    ListsQualifying (Winning a) a q w (pad 7 (qualifying rest lent q w)) (foundIn rest lent q w .listed)
 
 -- The longest release, where P says with what is left, and in which state, one may rest: the
 -- buffer w falls into v, which is released, and r, which is left.

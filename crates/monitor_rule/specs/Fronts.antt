@@ -1,5 +1,5 @@
--- Front parts of a buffer, and the numbers of what they leave: what the release's functions hand
--- back and ask. They are lent arrays of the automaton instead of the whole of it.
+-- Front parts of a buffer, the numbers of what they leave and the sets for it: what the release's
+-- functions hand back and ask. They are lent arrays of the automaton instead of the whole of it.
 use Prim.Native.Nat.{ℕ, _+_, _-_, _*_, _^_, _<_, _≤_}
 use mathlib.Core.Bool.{Bool, cond}
 use mathlib.Core.List.{List, [], _∷_, map}
@@ -28,7 +28,7 @@ winningSets t ranks k (e ∷ w) = getD t (2 * indexIn ranks k (e ∷ w)) 0 ∷ w
 
 -- may the monitor rest with what is left of n events, by the sets for what each front part leaves?
 unfoldable pub restAmong : List ℕ → ℕ → Rest
-restAmong sets n w q = has (getD sets (n - length w) 0) q
+restAmong winning n w q = has (getD winning (n - length w) 0) q
 
 -- the class that a rank tells
 abbrev pub classBy : ℕ → ℕ
@@ -56,15 +56,11 @@ front rest a q w =
 
 -- what the search leaves beside the list of lengths: how many qualify, and where the longest leads
 unfoldable pub foundIn : Rest → Automaton → ℕ → List ℕ → Found
-foundIn rest a q w =
-    record {
-      count = length (qualifying rest a q w);
-      state = reached a q (take (release rest a q w) w);
-    }
+foundIn rest a q w = record { listed = length (qualifying rest a q w); state = front rest a q w .state }
 
 -- the same after one more front part, which leads to p, was asked
 unfoldable pub keptIn : Bool → ℕ → Found → Found
-keptIn qualifies p f = cond qualifies (record { count = f .count + 1; state = p }) f
+keptIn qualifies p f = cond qualifies (record { listed = f .listed + 1; state = p }) f
 
 -- what the release asks of its arguments
 pub record ReleaseRequires (next ranks : List ℕ) (k : ℕ) (t : List ℕ) (q : ℕ) (buffer : List ℕ) (held : ℕ) : Type 0 where

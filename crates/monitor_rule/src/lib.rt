@@ -7,9 +7,9 @@ pub struct Front {
     pub state: usize,
 }
 
-// What the search leaves beside the list of the front parts that qualify: how many they are, and
-// the state after the longest of them (the state before, where there is none).
+// What the search leaves beside the lengths of the front parts that qualify: how many are listed,
+// and the state after the longest of them (the state before, where there is none).
 pub struct Found {
-    pub count: usize,
+    pub listed: usize,
     pub state: usize,
 }

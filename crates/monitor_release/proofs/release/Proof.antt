@@ -10,7 +10,7 @@ use Rattle.monitor_release.proofs.release.Tie as tie
 
 -- the search's answer and its array
 fits : (c : tie.After-lengths2) → let l = c .before .qualifying .last .1 .1 .1 .1 .1 .1 .1 .0 in
-    (length l ≡ 7) × (c .before .qualifying .result .count ≤ length l)
+    (length l ≡ 7) × (c .before .qualifying .result .listed ≤ length l)
 fits c =
     let s = c .before .before .before .before in
     let n : length (s .args .buffer) ≡ 6 = search needs in

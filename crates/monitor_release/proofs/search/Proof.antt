@@ -11,12 +11,12 @@ use Rattle.monitor_release.proofs.search.Statement.{statement}
 use Rattle.monitor_release.proofs.search.Tie as tie
 
 abbrev Inv-loop : tie.InvT-loop
-Inv-loop next sets q held lengths₀ buffer found₀ p₀ r₀ lengths found p r =
+Inv-loop next winning q held lengths₀ buffer found₀ p₀ r₀ lengths found p r =
     (r ≤ held) × (p < 32) × (length (take held buffer) ≡ held) ×
-    Searching (restAmong sets held) (over [] next) q (take held buffer) lengths found p r r
+    Searching (restAmong winning held) (over [] next) q (take held buffer) lengths found p r r
 
 abbrev μ-loop : tie.MeasureT-loop
-μ-loop next sets q held lengths₀ buffer found₀ p₀ r₀ lengths found p r = held - r
+μ-loop next winning q held lengths₀ buffer found₀ p₀ r₀ lengths found p r = held - r
 
 -- The places that later needs look back to.
 
@@ -29,14 +29,14 @@ few c = omega (arith, c .loop .inv .2, c .before .pre .0)
 -- the front part of r events is asked
 asked : (c : tie.After-keep Inv-loop μ-loop) → let r = round c in
     let a = r .before .args in
-    Searching (restAmong (a .sets .now) (a .held)) (over [] (a .next .now)) (a .q) (take (a .held) (a .t4))
+    Searching (restAmong (a .winning .now) (a .held)) (over [] (a .next .now)) (a .q) (take (a .held) (a .t4))
     (c .keep .last .1 .1 .1 .1 .0) (c .keep .result) (r .loop .p) (r .loop .r) (r .loop .r + 1)
 asked c =
     let r = round c in
     let v = r .loop .inv in
     let a = r .before .args in
     searching-asks _ _ _ _ (v .3) (few r) _
-    (c .before .before .has .ensures ∙ among (a .sets .now) (a .held) (take (a .held) (a .t4)) (v .2) (r .loop .r) (v .0) (r .loop .p))
+    (c .before .before .has .ensures ∙ among (a .winning .now) (a .held) (take (a .held) (a .t4)) (v .2) (r .loop .r) (v .0) (r .loop .p))
     _ (c .keep .ensures .0) _ (c .keep .ensures .1)
 
 loop-holds : tie.Need-loop-holds Inv-loop μ-loop

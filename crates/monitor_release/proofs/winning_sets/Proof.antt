@@ -11,11 +11,11 @@ use Rattle.monitor_release.proofs.winning_sets.Statement.{statement}
 use Rattle.monitor_release.proofs.winning_sets.Tie as tie
 
 abbrev Inv-loop : tie.InvT-loop
-Inv-loop ranks k table held sets₀ buffer index₀ weight₀ i₀ sets index weight i =
-    (i ≤ held) × (length (take held buffer) ≡ held) × Reading table ranks k (take held buffer) sets index weight i
+Inv-loop ranks k table held sets₀ buffer index₀ weight₀ i₀ winning index weight i =
+    (i ≤ held) × (length (take held buffer) ≡ held) × Reading table ranks k (take held buffer) winning index weight i
 
 abbrev μ-loop : tie.MeasureT-loop
-μ-loop ranks k table held sets₀ buffer index₀ weight₀ i₀ sets index weight i = i
+μ-loop ranks k table held sets₀ buffer index₀ weight₀ i₀ winning index weight i = i
 
 -- The places that later needs look back to, and what stands there.
 
@@ -54,14 +54,14 @@ number : (c : tie.After-as-u32 Inv-loop μ-loop) → let r = round c in
     ≡ indexIn (a .ranks .now) (a .k) (drop (r .loop .i - 1) (take (a .held) (a .t4)))
 number c = index-grown _ _ _ _ (round c .loop .inv .2) _ (omega arith) (event-is c)
 
-shared-slice-read-sets : tie.Need-shared-slice-read-sets Inv-loop μ-loop
-shared-slice-read-sets c = search needs
+shared-slice-read-winning : tie.Need-shared-slice-read-winning Inv-loop μ-loop
+shared-slice-read-winning c = search needs
 
-mul-sets : tie.Need-mul-sets Inv-loop μ-loop
-mul-sets c = search needs
+mul-winning : tie.Need-mul-winning Inv-loop μ-loop
+mul-winning c = search needs
 
-element-write-sets : tie.Need-element-write-sets Inv-loop μ-loop
-element-write-sets c = search needs
+element-write-winning : tie.Need-element-write-winning Inv-loop μ-loop
+element-write-winning c = search needs
 
 loop-holds : tie.Need-loop-holds Inv-loop μ-loop
 loop-holds c =
@@ -101,28 +101,28 @@ mul-weight c =
     let m : r .loop .weight * start r .args .k ≤ 262144 * 8 = mul-le-mul (weight-bound _ _ _ _ (r .loop .inv .2) (p .2) (p .1) (few r)) (p .1) in
     omega (arith, m)
 
-cast-sets : tie.Need-cast-sets Inv-loop μ-loop
-cast-sets c = omega (arith, grown c, low c)
+cast-winning : tie.Need-cast-winning Inv-loop μ-loop
+cast-winning c = omega (arith, grown c, low c)
 
-mul-sets-2 : tie.Need-mul-sets-2 Inv-loop μ-loop
-mul-sets-2 c = omega (arith, grown c, low c)
+mul-winning-2 : tie.Need-mul-winning-2 Inv-loop μ-loop
+mul-winning-2 c = omega (arith, grown c, low c)
 
-mul-sets-3 : tie.Need-mul-sets-3 Inv-loop μ-loop
-mul-sets-3 c = omega (arith, grown c, low c)
+mul-winning-3 : tie.Need-mul-winning-3 Inv-loop μ-loop
+mul-winning-3 c = omega (arith, grown c, low c)
 
-shared-slice-read-sets-2 : tie.Need-shared-slice-read-sets-2 Inv-loop μ-loop
-shared-slice-read-sets-2 c =
+shared-slice-read-winning-2 : tie.Need-shared-slice-read-winning-2 Inv-loop μ-loop
+shared-slice-read-winning-2 c =
     let n = c .before in
     let r = round n in
     let a = start r .args in
     let smaller = index-drop (a .ranks .now) (a .k) (take (a .held) (a .t4)) (r .loop .i - 1) in
     rw (n .as-u32 .ensures .0, number n) (omega (arith, smaller, start r .pre .4))
 
-mul-sets-4 : tie.Need-mul-sets-4 Inv-loop μ-loop
-mul-sets-4 c = search needs
+mul-winning-4 : tie.Need-mul-winning-4 Inv-loop μ-loop
+mul-winning-4 c = search needs
 
-element-write-sets-2 : tie.Need-element-write-sets-2 Inv-loop μ-loop
-element-write-sets-2 c = search needs
+element-write-winning-2 : tie.Need-element-write-winning-2 Inv-loop μ-loop
+element-write-winning-2 c = search needs
 
 loop-less : tie.Need-loop-less Inv-loop μ-loop
 loop-less c = search needs
@@ -145,9 +145,9 @@ winning-sets-spec =
     (tie.spec
     Inv-loop
     μ-loop
-    shared-slice-read-sets
-    mul-sets
-    element-write-sets
+    shared-slice-read-winning
+    mul-winning
+    element-write-winning
     loop-holds
     sub-i
     array-read-as-usize
@@ -157,12 +157,12 @@ winning-sets-spec =
     mul-index
     add-index
     mul-weight
-    cast-sets
-    mul-sets-2
-    mul-sets-3
-    shared-slice-read-sets-2
-    mul-sets-4
-    element-write-sets-2
+    cast-winning
+    mul-winning-2
+    mul-winning-3
+    shared-slice-read-winning-2
+    mul-winning-4
+    element-write-winning-2
     loop-less
     loop-again
     returns)
