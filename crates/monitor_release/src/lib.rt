@@ -29,11 +29,11 @@ fn winning_sets<'a>(
     table: &[u32],
     buffer: [u8; 6],
     held: usize,
-    winning: &mut [u32; 8],
+    winning: &mut [u32; FRONTS],
 )
     requires { ⌜ (held ≤ 6) × (k ≤ 8) × ((e : ℕ) → getD (now ranks) e 0 ≤ 8) × ((i : ℕ) → getD buffer i 0 < 16)
-        × (2 * indexIn (now ranks) k (take held buffer) < length (now table)) × (now winning ≡ replicate 8 0) ⌝ }
-    ensures { λ _. ⌜ now (winning .exit) ≡ pad 8 (winningSets (now (table .entry)) (now (ranks .entry)) k (take held buffer)) ⌝ }
+        × (2 * indexIn (now ranks) k (take held buffer) < length (now table)) × (now winning ≡ replicate 7 0) ⌝ }
+    ensures { λ _. ⌜ now (winning .exit) ≡ pad 7 (winningSets (now (table .entry)) (now (ranks .entry)) k (take held buffer)) ⌝ }
 {
     let mut index: u32 = 0;
     let mut weight: u32 = 1;
@@ -69,7 +69,7 @@ fn keep(qualifies: bool, r: usize, p: usize, found: Found, lengths: &mut [u8; FR
 // monitor may rest with what is left.
 fn search<'a>(
     next: &'a [u8; 512],
-    winning: &'a [u32; 8],
+    winning: &'a [u32; FRONTS],
     q: usize,
     buffer: [u8; 6],
     held: usize,
@@ -116,7 +116,7 @@ fn qualifying<'a>(
         ⌜ (f ≡ foundIn rest a q (take held buffer))
         × (now (lengths .exit) ≡ pad 7 (qualifying rest a q (take held buffer))) ⌝ }
 {
-    let mut winning = [0u32; 8];
+    let mut winning = [0u32; FRONTS];
     winning_sets(ranks, k, table, buffer, held, &mut winning);
     search(next, &winning, q, buffer, held, lengths)
 }
@@ -169,7 +169,7 @@ pub fn rests<'a>(
         × (q < 32) × (2 * indexIn (now ranks) k (take held buffer) < length (now table)) ⌝ }
     ensures { λ r. ⌜ r ≡ restIn (now (table .entry)) (now (ranks .entry)) k (take held buffer) q ⌝ }
 {
-    let mut winning = [0u32; 8];
+    let mut winning = [0u32; FRONTS];
     winning_sets(ranks, k, table, buffer, held, &mut winning);
     has(winning[0], q)
 }

@@ -38,7 +38,7 @@ pub record Reading (t ranks : List ℕ) (k : ℕ) (w winning : List ℕ) (index 
   pub within : i ≤ length w
   pub index-is : index ≡ indexIn ranks k (drop i w)
   pub weight-is : weight ≡ k ^ length (drop i w)
-  pub stored : winning ≡ replicate i 0 ++ (winningSets t ranks k (drop i w) ++ replicate (7 - length w) 0)
+  pub stored : winning ≡ replicate i 0 ++ (winningSets t ranks k (drop i w) ++ replicate (6 - length w) 0)
 
 -- one more set before those that are stored
 stored-before : (i : ℕ) (s : ℕ) (l : List ℕ) → set (replicate (suc i) 0 ++ l) i s ≡ replicate i 0 ++ s ∷ l
@@ -47,17 +47,17 @@ stored-before i s l =
     set-at (replicate i 0) 0 l s i (length-replicate {A = ℕ} i 0)
 
 module _ (t ranks : List ℕ) (k : ℕ) (w : List ℕ) where
-  pub reading-begins : (n : ℕ) → length w ≡ n → n ≤ 7 → Reading t ranks k w (set (replicate 8 0) n (getD t 0 0)) 0 1 n
+  pub reading-begins : (n : ℕ) → length w ≡ n → n ≤ 6 → Reading t ranks k w (set (replicate 7 0) n (getD t 0 0)) 0 1 n
   unfolding indexIn winningSets
   reading-begins n e h =
       let none : drop n w ≡ [] = ap (λ i. drop i w) (sym e) ∙ drop-length w in
-      let f : suc n + (7 - length w) ≡ 8 = omega arith in
-      let zeros = replicate-append-replicate {A = ℕ} (suc n) (7 - length w) 0 ∙ ap (λ i. replicate {A = ℕ} i 0) f in
+      let f : suc n + (6 - length w) ≡ 7 = omega arith in
+      let zeros = replicate-append-replicate {A = ℕ} (suc n) (6 - length w) 0 ∙ ap (λ i. replicate {A = ℕ} i 0) f in
       record {
         within = omega arith;
         index-is = rw none;
         weight-is = rw none (sym (pow-zero k));
-        stored = rw none (ap (λ x. set x n (getD t 0 0)) (sym zeros) ∙ stored-before n (getD t 0 0) (replicate (7 - length w) 0));
+        stored = rw none (ap (λ x. set x n (getD t 0 0)) (sym zeros) ∙ stored-before n (getD t 0 0) (replicate (6 - length w) 0));
       }
 
   module _ {winning : List ℕ} {index weight i : ℕ} (g : Reading t ranks k w winning index weight i) where
@@ -92,7 +92,7 @@ module _ (t ranks : List ℕ) (k : ℕ) (w : List ℕ) where
       unfolding winningSets
       reading-goes-on s es =
           let j : suc (i - 1) ≡ i = omega arith in
-          let tail = winningSets t ranks k (drop i w) ++ replicate (7 - length w) 0 in
+          let tail = winningSets t ranks k (drop i w) ++ replicate (6 - length w) 0 in
           let es' : s ≡ getD t (2 * indexIn ranks k (e ∷ drop i w)) 0 = rw one-more at es in
           record {
             within = omega (arith, g .within);
@@ -110,10 +110,10 @@ sets-length t ranks k [] = refl
 sets-length t ranks k (e ∷ w) = ap suc (sets-length t ranks k w)
 
 pub reading-done : {t ranks : List ℕ} {k : ℕ} {w winning : List ℕ} {index weight i : ℕ} → Reading t ranks k w winning index weight i → i ≡ 0
-    → winning ≡ pad 8 (winningSets t ranks k w)
+    → winning ≡ pad 7 (winningSets t ranks k w)
 unfolding pad
 reading-done {t} {ranks} {k} {w} g z =
-    let f : 7 - length w ≡ 8 - length (winningSets t ranks k w) = omega (arith, sets-length t ranks k w) in
+    let f : 6 - length w ≡ 7 - length (winningSets t ranks k w) = omega (arith, sets-length t ranks k w) in
     rw (z, f) at (g .stored)
 
 -- what stands at a place
@@ -124,9 +124,9 @@ set-in t ranks k [] (suc i) h = absurd (omega arith)
 set-in t ranks k (e ∷ w) zero h = refl
 set-in t ranks k (e ∷ w) (suc i) h = set-in t ranks k w i (omega arith)
 
-pub winning-set : (t ranks : List ℕ) (k : ℕ) (w winning : List ℕ) → winning ≡ pad 8 (winningSets t ranks k w) → (i : ℕ) → i ≤ length w → (q : ℕ)
+pub winning-set : (t ranks : List ℕ) (k : ℕ) (w winning : List ℕ) → winning ≡ pad 7 (winningSets t ranks k w) → (i : ℕ) → i ≤ length w → (q : ℕ)
     → has (getD winning i 0) q ≡ restIn t ranks k (drop i w) q
 unfolding restIn
 winning-set t ranks k w winning e i h q =
     ap (λ x. has x q)
-    (ap (λ x. getD x i 0) e ∙ pad-inside 8 (winningSets t ranks k w) i (omega (arith, sets-length t ranks k w)) ∙ set-in t ranks k w i h)
+    (ap (λ x. getD x i 0) e ∙ pad-inside 7 (winningSets t ranks k w) i (omega (arith, sets-length t ranks k w)) ∙ set-in t ranks k w i h)

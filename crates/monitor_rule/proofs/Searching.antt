@@ -126,7 +126,7 @@ among winning n w e r h p =
     ap (λ i. has (getD winning i 0) p) f
 
 -- the search over the sets of a table is the search over the table
-module _ (t ranks next : List ℕ) (k q : ℕ) (w : List ℕ) (n : ℕ) (many : length w ≡ n) (winning : List ℕ) (read : winning ≡ pad 8 (winningSets t ranks k w)) where
+module _ (t ranks next : List ℕ) (k q : ℕ) (w : List ℕ) (n : ℕ) (many : length w ≡ n) (winning : List ℕ) (read : winning ≡ pad 7 (winningSets t ranks k w)) where
   asked-same : (i : ℕ) → i ≤ length w → qualifies (restAmong winning n) (over [] next) q w i ≡ qualifies (restIn t ranks k) (over ranks next) q w i
   unfolding qualifies
   asked-same i h =
