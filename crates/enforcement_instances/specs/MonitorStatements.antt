@@ -88,8 +88,8 @@ automatonLoops = assembled 1 1 6 0 (filled 1 1 ++ filled 15 0) (filled 1 1 ++ fi
 
 -- the front parts that qualify, as the search lists them
 pub record SearchFinds : Type 0 where
-  -- signed, with Page and Receipt held, the search over what W's solved table and record lend finds
-  -- the empty front part and the whole, not Page alone
+  -- signed, with Page and Receipt held, the search over W's solved table finds the empty front
+  -- part and the whole, not Page alone
   pub found : ListsQualifying (Winning automatonW) automatonW 1 (2 ∷ 3 ∷ []) (0 ∷ 2 ∷ filled 5 0) 2
   pub empty-found : Qualifies (Winning automatonW) automatonW 1 (2 ∷ 3 ∷ []) 0
   pub whole-found : Qualifies (Winning automatonW) automatonW 1 (2 ∷ 3 ∷ []) 2

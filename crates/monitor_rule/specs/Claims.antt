@@ -39,8 +39,8 @@ EventRowsAsWorded =
     (rest : Rest) (a : Automaton) (p : Position) (e : ℕ) → RowsOfEvent a (length (p .buffer)) e (eventRefusal rest a p e)
 
 -- The search, beside Definition 3.10 of source document 001, where P says with what is left, and
--- in which state, one may rest: k is the length of a front part of w that leads q there. (By S they
--- are the paper's G(q, w).)
+-- in which state, one may rest: k is the length of a front part of w that leads q there. (By S
+-- these are the paper's G(q, w).)
 pub record Qualifies (P : List ℕ → ℕ → Type 0) (a : Automaton) (q : ℕ) (w : List ℕ) (k : ℕ) : Type 0 where
   pub front : List ℕ
   pub left : List ℕ
