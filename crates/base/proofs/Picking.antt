@@ -1,4 +1,4 @@
--- Laws of `those` and of the last of a list.
+-- Laws of `those`, of a loop that keeps them in an array, and of the last of a list.
 use Prim.Native.Nat.{ℕ, zero, suc, _+_, _<_, _≤_}
 use mathlib.Core.Path.{_≡_, refl, _∙_, ap, ap₂}
 use mathlib.Core.Logic.{_⊎_, inl, inr}
@@ -6,19 +6,21 @@ use mathlib.Core.Bool.{Bool, true, false, cond}
 use mathlib.Core.List.{List, [], _∷_, _++_, append-nil}
 use native.Mathlib.Numerals.{add-one}
 use native.Mathlib.Omega.{arith}
-use lib.ListN.{length, getD, take, length-append, List·getD-append}
+use lib.ListN.{length, getD, set, take, length-append, List·getD-append}
 use lib.Seq.{getD-append-seam, take-suc}
 use lib.Dec.{eqb, ltb}
 use borrow.Author.Tests.{eqb-true, eqb-false, ltb-true, ltb-false}
 use Rattle.base.specs.Each.{those, lastOr}
+use Rattle.base.specs.Pad.{pad}
 use Rattle.base.proofs.Bools.{by, either, clash}
+use Rattle.base.proofs.Padding.{pad-set}
 
-pub last-end : (d : ℕ) (xs : List ℕ) (x : ℕ) → lastOr d (xs ++ x ∷ []) ≡ x
+last-end : (d : ℕ) (xs : List ℕ) (x : ℕ) → lastOr d (xs ++ x ∷ []) ≡ x
 unfolding lastOr
 last-end d [] x = refl
 last-end d (y ∷ xs) x = last-end y xs x
 
--- the last of the first n elements
+-- the last of the first n + 1 elements
 pub last-first : (d : ℕ) (xs : List ℕ) (n : ℕ) → n < length xs → lastOr d (take (n + 1) xs) ≡ getD xs n 0
 last-first d xs n h = rw (add-one n, take-suc xs n 0 h) (last-end d (take n xs) (getD xs n 0))
 
@@ -104,6 +106,26 @@ those-rise (suc n) p i j r l =
     (λ t.
     let l' : j < length (those n p) = rw (t, append-nil (those n p)) at l in
     rw (t, append-nil (those n p)) (those-rise n p i j r l'))
+
+-- A loop that keeps the numbers below n of which a test holds, in an array that was 0: the array,
+-- and how many they are.
+pub record Picked (size : ℕ) (p : ℕ → Bool) (n : ℕ) (list : List ℕ) (count : ℕ) : Type 0 where
+  pub stored : list ≡ pad size (those n p)
+  pub counted : count ≡ length (those n p)
+
+module _ {size : ℕ} {p : ℕ → Bool} {n : ℕ} {list : List ℕ} {count : ℕ} (g : Picked size p n list count) where
+  pub picked-room : count ≤ n
+  picked-room = omega (arith, g .counted, those-few n p)
+
+  pub picked-more : n < size → p n ≡ true → Picked size p (n + 1) (set list count n) (count + 1)
+  picked-more l h =
+      record {
+        stored = rw (g .stored, g .counted, those-taken n p h) (pad-set size (those n p) n (omega (arith, those-few n p)));
+        counted = rw (those-taken n p h, length-append (those n p) (n ∷ [])) (omega (arith, g .counted));
+      }
+
+  pub picked-same : p n ≡ false → Picked size p (n + 1) list count
+  picked-same h = record { stored = rw (those-passed n p h) (g .stored); counted = rw (those-passed n p h) (g .counted) }
 
 -- one more number: the last is it, or stays
 module _ (d n : ℕ) (p : ℕ → Bool) where

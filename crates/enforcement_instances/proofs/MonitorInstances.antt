@@ -15,15 +15,14 @@ use Rattle.automaton.specs.Automaton.{accepts, reached, valid}
 use Rattle.automaton.proofs.Facts.{valid-as-worded}
 use Rattle.automaton.proofs.Classes.{class-one, flag-one}
 use Rattle.solver_sets.specs.Sets.{acceptingSet, admits, stays, refine, settle, settled, setsOf, emptySets, into, setsFor}
-use Rattle.solver_sets.specs.Table.{index, short, table}
+use Rattle.solver_sets.specs.Table.{index, short, table, Buffer}
 use Rattle.solver_sets.specs.Claims.{Winning}
 use Rattle.solver_sets.proofs.Numbering.{numbered}
 use Rattle.solver_sets.proofs.Tables.{short-as-worded}
 use Rattle.configuration.specs.Configuration.{heldEvents, consistent, configuration, initialOf}
 use Rattle.monitor_rule.specs.Step.{bySets, byTable, qualifying, release}
-use Rattle.automaton_symbols.specs.declared.Ranking.{Ranking}
 use Rattle.automaton_symbols.specs.Symbols.{ranksTo, rankingOf}
-use Rattle.monitor_rule.specs.Fronts.{indexIn, restIn, over, foundIn}
+use Rattle.monitor_rule.specs.Fronts.{indexIn, restIn, foundIn}
 use Rattle.monitor_rule.specs.Claims.{Full, Among, ListsQualifying, Longest}
 use Rattle.monitor_rule.proofs.Worded.{event-rows-as-worded, search-as-worded, releases-longest, only-longest}
 use Rattle.monitor_rule.proofs.Solved.{search-of-solved}
@@ -50,7 +49,7 @@ use Rattle.enforcement.proofs.Said.{once-winning-said}
 use Rattle.enforcement.proofs.Answers.{flag-is-status, flag-stays, others-ignored}
 use Rattle.enforcement_cases.specs.Cases.{automatonV, automatonW}
 use Rattle.enforcement_instances.specs.Statements.{filled, tableW, at}
-use Rattle.enforcement_instances.specs.MonitorStatements.{wideV, startV, Rows, automatonLoops, SearchFinds, storeOf, twoHeld, Releasing}
+use Rattle.enforcement_instances.specs.MonitorStatements.{wideV, startV, Rows, automatonLoops, foundW, SearchFinds, storeOf, twoHeld, Releasing}
 use Rattle.enforcement_instances.specs.MonitorStatements.{calls, page, sign, withdraw, eager, answers, Fields}
 use Rattle.enforcement_instances.specs.MonitorStatements.{longCalls, longAnswers, Day, Enforcing}
 use Rattle.enforcement_instances.proofs.Sheets.{valid-w, valid-v, solves-w, buffers-w, solved-w, solved-v, computing}
@@ -135,15 +134,12 @@ publishing = 0
 
 -- what W's search finds with Page and Receipt held, signed, over its table, and in state 3 with
 -- Page; V's and the loops'
-abbrev ranking-w : Ranking
-ranking-w = rankingOf (automatonW .classes) (automatonW .symbols)
-
-found-w : qualifying (restIn tableW (ranking-w .ranks) (ranking-w .count)) (over (ranking-w .ranks) (automatonW .next)) 1 (2 ∷ 3 ∷ []) ≡ 0 ∷ 2 ∷ []
+found-w : foundW 1 (2 ∷ 3 ∷ []) ≡ 0 ∷ 2 ∷ []
 unfolding computing rankingOf ranksTo indexIn restIn
 found-w = refl
 
-none-w : qualifying (bySets automatonW) automatonW 3 (2 ∷ []) ≡ []
-unfolding publishing
+none-w : foundW 3 (2 ∷ []) ≡ []
+unfolding computing rankingOf ranksTo indexIn restIn
 none-w = refl
 
 found-v : qualifying (bySets automatonV) automatonV 0 (1 ∷ []) ≡ 0 ∷ []
@@ -160,9 +156,18 @@ lists : (a : Automaton) (q : ℕ) (w l : List ℕ) → length w ≤ 6 → qualif
 unfolding bySets foundIn
 lists a q w l few e = rw e at (search-as-worded (bySets a) a q w few)
 
-lists-w : ListsQualifying (Winning automatonW) automatonW 1 (2 ∷ 3 ∷ []) (pad 7 (0 ∷ 2 ∷ [])) 2
-unfolding foundIn computing
-lists-w = rw found-w at (search-of-solved automatonW tableW valid-w solved-w 1 (2 ∷ 3 ∷ []) (omega arith) (((omega arith, refl), ((omega arith, refl), tt)), omega arith))
+-- .. and over W's solved table
+lists-w : (q : ℕ) (w l : List ℕ) → q < 4 → Buffer automatonW w → foundW q w ≡ l → ListsQualifying (Winning automatonW) automatonW q w (pad 7 l) (length l)
+unfolding foundIn automatonW
+lists-w q w l h b e = rw e at (search-of-solved automatonW tableW valid-w solved-w q w h b)
+
+both-held : Buffer automatonW (2 ∷ 3 ∷ [])
+unfolding computing
+both-held = (((omega arith, refl), ((omega arith, refl), tt)), omega arith)
+
+page-held : Buffer automatonW (2 ∷ [])
+unfolding computing
+page-held = (((omega arith, refl), tt), omega arith)
 
 not-one : Among (0 ∷ 2 ∷ filled 5 0) 2 1 → ⊥
 not-one l = one-of (l .place) (l .below) (l .holds)
@@ -175,9 +180,9 @@ not-one l = one-of (l .place) (l .below) (l .holds)
 pub search-finds : SearchFinds
 unfolding pad
 search-finds =
-    let w = lists-w in
-    let n = lists automatonW 3 (2 ∷ []) [] (omega arith) none-w in
+    let w = lists-w 1 (2 ∷ 3 ∷ []) (0 ∷ 2 ∷ []) (omega arith) both-held found-w in
     record {
+      by-table = found-w;
       found = w;
       empty-found = w .exactly 0 .0 (record { place = 0; below = omega arith; holds = refl });
       whole-found = w .exactly 2 .0 (record { place = 1; below = omega arith; holds = refl });
@@ -186,8 +191,11 @@ search-finds =
       enough = w .enough;
       seven-places = w .used .0;
       zeros-past = w .used .1;
-      none = λ k h. let l = n .exactly k .1 h in absurd (omega (arith, l .below));
+      none-by-table = none-w;
+      none = lists-w 3 (2 ∷ []) [] (omega arith) page-held none-w;
+      empty-by-sets = found-v;
       empty-alone = lists automatonV 0 (1 ∷ []) (0 ∷ []) (omega arith) found-v;
+      seven-by-sets = found-loops;
       seven = lists automatonLoops 0 (filled 6 0) (0 ∷ 1 ∷ 2 ∷ 3 ∷ 4 ∷ 5 ∷ 6 ∷ []) (omega arith) found-loops;
     }
 

@@ -12,7 +12,9 @@ use Rattle.solver_sets.specs.Claims.{Winning}
 use Rattle.configuration.specs.declared.Configuration.{Configuration}
 use Rattle.configuration.specs.Configuration.{Position, configuration, consistent, initialOf}
 use Rattle.solver_answers.specs.Solving.{solvedTable}
-use Rattle.monitor_rule.specs.Step.{byTable, eventRefusal}
+use Rattle.automaton_symbols.specs.Symbols.{rankingOf}
+use Rattle.monitor_rule.specs.Step.{bySets, byTable, qualifying, eventRefusal}
+use Rattle.monitor_rule.specs.Fronts.{restIn, over}
 use Rattle.monitor_rule.specs.Claims.{Admitted, Qualifies, ListsQualifying, Longest}
 use Rattle.monitor_answers.specs.Answers.{tooShort, callRefusal, status, receiveRefusal, received, refusedRun, runRefusal}
 use Rattle.enforcement.specs.Store.{Store, empty, positionAt, store, storeAll, event, events, feed, feedAll, refusedOf}
@@ -82,14 +84,21 @@ storeOf output buffer = record { output = output; buffer = buffer }
 abbrev pub twoHeld : Store
 twoHeld = storeOf [] (2 ∷ 2 ∷ [])
 
--- a sheet with one state, which accepts, and one kind, which is held; six of it may be
+-- a sheet with one state, which accepts, and one kind, of which up to six may be held
 unfoldable pub automatonLoops : Automaton
 automatonLoops = assembled 1 1 6 0 (filled 1 1 ++ filled 15 0) (filled 1 1 ++ filled 31 0) (filled 512 0)
+
+-- what the search finds with W's own ranks and next states, over W's solved table
+abbrev pub foundW : ℕ → List ℕ → List ℕ
+foundW q w =
+    let own = rankingOf (automatonW .classes) (automatonW .symbols) in
+    qualifying (restIn tableW (own .ranks) (own .count)) (over (own .ranks) (automatonW .next)) q w
 
 -- the front parts that qualify, as the search lists them
 pub record SearchFinds : Type 0 where
   -- signed, with Page and Receipt held, the search over W's solved table finds the empty front
   -- part and the whole, not Page alone
+  pub by-table : foundW 1 (2 ∷ 3 ∷ []) ≡ 0 ∷ 2 ∷ []
   pub found : ListsQualifying (Winning automatonW) automatonW 1 (2 ∷ 3 ∷ []) (0 ∷ 2 ∷ filled 5 0) 2
   pub empty-found : Qualifies (Winning automatonW) automatonW 1 (2 ∷ 3 ∷ []) 0
   pub whole-found : Qualifies (Winning automatonW) automatonW 1 (2 ∷ 3 ∷ []) 2
@@ -99,10 +108,13 @@ pub record SearchFinds : Type 0 where
   pub seven-places : length (0 ∷ 2 ∷ filled 5 0) ≡ 7
   pub zeros-past : (j : ℕ) → 2 ≤ j → getD (0 ∷ 2 ∷ filled 5 0) j 0 ≡ 0
   -- in state 3 no front part qualifies
-  pub none : (k : ℕ) → Qualifies (Winning automatonW) automatonW 3 (2 ∷ []) k → ⊥
+  pub none-by-table : foundW 3 (2 ∷ []) ≡ []
+  pub none : ListsQualifying (Winning automatonW) automatonW 3 (2 ∷ []) (filled 7 0) 0
   -- with Answer held V finds the empty front part alone
+  pub empty-by-sets : qualifying (bySets automatonV) automatonV 0 (1 ∷ []) ≡ 0 ∷ []
   pub empty-alone : ListsQualifying (Winning automatonV) automatonV 0 (1 ∷ []) (filled 7 0) 1
   -- where every list leads back, all seven front parts of six events
+  pub seven-by-sets : qualifying (bySets automatonLoops) automatonLoops 0 (filled 6 0) ≡ 0 ∷ 1 ∷ 2 ∷ 3 ∷ 4 ∷ 5 ∷ 6 ∷ []
   pub seven : ListsQualifying (Winning automatonLoops) automatonLoops 0 (filled 6 0) (0 ∷ 1 ∷ 2 ∷ 3 ∷ 4 ∷ 5 ∷ 6 ∷ []) 7
 
 -- the longest release, and the published function by it

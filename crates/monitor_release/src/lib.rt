@@ -1,6 +1,5 @@
-// The release, to be read beside Definition 3.10 of source document 001: of the buffer's front
-// parts in turn from the empty one, those that qualify (the paper's G), then the longest of them
-// (its κ).
+// The release, to be read beside κ in Definition 3.10 of source document 001: of the buffer's
+// front parts in turn from the empty one, those that qualify (the paper's G), then the longest.
 use base::as_u32;
 use base::as_usize;
 use base::has;

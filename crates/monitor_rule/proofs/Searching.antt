@@ -5,14 +5,14 @@ use mathlib.Core.Bool.{Bool, cond}
 use mathlib.Core.List.{List, [], _∷_, _++_}
 use native.Mathlib.Numerals.{add-one}
 use native.Mathlib.Omega.{arith}
-use lib.ListN.{length, getD, set, take, drop, replicate, length-append, length-drop}
+use lib.ListN.{length, getD, set, take, drop, replicate, length-drop}
 use lib.Seq.{take-suc, getD-take}
 use Rattle.base.specs.Each.{those, lastOr}
 use Rattle.base.specs.Masks.{has}
 use Rattle.base.specs.Pad.{pad}
 use Rattle.base.proofs.Bools.{by}
-use Rattle.base.proofs.Padding.{pad-length, pad-set, take-pad}
-use Rattle.base.proofs.Picking.{those-few, those-taken, those-passed, last-taken}
+use Rattle.base.proofs.Padding.{pad-length, take-pad}
+use Rattle.base.proofs.Picking.{Picked, picked-room, picked-more, picked-same, those-few, those-passed, last-taken}
 use Rattle.automaton.specs.declared.Automaton.{Automaton}
 use Rattle.automaton.specs.Automaton.{step, reached}
 use Rattle.automaton.proofs.Reached.{reached-end}
@@ -26,19 +26,18 @@ use Rattle.monitor_rule.proofs.Tabled.{reached-over}
 pub record Searching (rest : Rest) (a : Automaton) (q : ℕ) (w lengths : List ℕ) (f : Found) (p r n : ℕ) : Type 0 where
   pub within : r ≤ length w
   pub here : p ≡ reached a q (take r w)
-  pub listed : lengths ≡ pad 7 (those n (qualifies rest a q w))
-  pub counted : f .listed ≡ length (those n (qualifies rest a q w))
+  pub list : Picked 7 (qualifies rest a q w) n lengths (f .listed)
   pub state-is : f .state ≡ reached a q (take (lastOr 0 (those n (qualifies rest a q w))) w)
 
 module _ (rest : Rest) (a : Automaton) (q : ℕ) (w : List ℕ) where
   pub searching-begins : Searching rest a q w (replicate 7 0) (record { listed = 0; state = q }) q 0 0
   unfolding reached those lastOr pad
-  searching-begins = record { within = omega arith; here = refl; listed = refl; counted = refl; state-is = refl }
+  searching-begins = record { within = omega arith; here = refl; list = record { stored = refl; counted = refl }; state-is = refl }
 
   module _ {lengths : List ℕ} {f : Found} {p r : ℕ} where
     -- seven places are enough
     pub searching-room : Searching rest a q w lengths f p r r → length w ≤ 6 → f .listed < 7
-    searching-room g few = omega (arith, g .counted, those-few r (qualifies rest a q w), g .within)
+    searching-room g few = omega (arith, picked-room (g .list), g .within)
 
     -- the front part of r events is asked
     pub searching-asks : Searching rest a q w lengths f p r r → length w ≤ 6 → (b : Bool) → b ≡ rest (drop r w) p → (h : Found) → h ≡ keptIn b p f
@@ -47,28 +46,24 @@ module _ (rest : Rest) (a : Automaton) (q : ℕ) (w : List ℕ) where
     searching-asks g few b eb h eh l el =
         let test = qualifies rest a q w in
         let asked : b ≡ test r = eb ∙ ap (rest (drop r w)) (g .here) in
-        let room = those-few r test in
         by b
         (λ t.
-        let more = those-taken r test (sym asked ∙ t) in
         let eh' : h ≡ record { listed = f .listed + 1; state = p } = eh ∙ rw t in
+        let el' : l ≡ set lengths (f .listed) r = el ∙ rw t in
         record {
           within = g .within;
           here = g .here;
-          listed =
-              el ∙ rw t (ap₂ (λ x i. set x i r) (g .listed) (g .counted) ∙ pad-set 7 (those r test) r (omega (arith, g .within))) ∙
-              ap (pad 7) (sym more);
-          counted = rw (eh', more, length-append (those r test) (r ∷ [])) (omega (arith, g .counted));
+          list = rw (eh', el') (picked-more (g .list) (omega (arith, g .within)) (sym asked ∙ t));
           state-is = rw (eh', last-taken 0 r test (sym asked ∙ t)) (g .here);
         })
         (λ t.
         let more = those-passed r test (sym asked ∙ t) in
         let eh' : h ≡ f = eh ∙ rw t in
+        let el' : l ≡ lengths = el ∙ rw t in
         record {
           within = g .within;
           here = g .here;
-          listed = el ∙ rw t (g .listed) ∙ ap (pad 7) (sym more);
-          counted = rw (eh', more) (g .counted);
+          list = rw (eh', el') (picked-same (g .list) (sym asked ∙ t));
           state-is = rw (eh', more) (g .state-is);
         })
 
@@ -80,8 +75,7 @@ module _ (rest : Rest) (a : Automaton) (q : ℕ) (w : List ℕ) where
         record {
           within = omega arith;
           here = e ∙ ap (λ x. step a x (getD w r 0)) (g .here) ∙ sym (reached-end a q (take r w) (getD w r 0)) ∙ ap (reached a q) longer;
-          listed = g .listed;
-          counted = g .counted;
+          list = g .list;
           state-is = g .state-is;
         }
 
@@ -91,7 +85,7 @@ module _ (rest : Rest) (a : Automaton) (q : ℕ) (w : List ℕ) where
     unfolding foundIn front qualifying release
     searching-done g e =
         let all : r + 1 ≡ suc (length w) = omega arith in
-        (rw (rw all at (g .counted), rw all at (g .state-is)), rw all at (g .listed))
+        (rw (rw all at (g .list .counted), rw all at (g .state-is)), rw all at (g .list .stored))
 
   -- what it leaves fits
   pub search-fits : length w ≤ 6 → (f : Found) → f ≡ foundIn rest a q w → (lengths : List ℕ) → lengths ≡ pad 7 (qualifying rest a q w)
@@ -119,9 +113,9 @@ pub next-state : (ranks next buffer : List ℕ) (held p r x s : ℕ) → r < hel
 unfolding step
 next-state ranks next buffer held p r x s h e f = f ∙ ap (λ y. getD next (p * 16 + y) 0) (e ∙ sym (getD-take held buffer r 0 h))
 
-pub among : (winning : List ℕ) (n : ℕ) (w : List ℕ) → length w ≡ n → (r : ℕ) → r ≤ n → (p : ℕ) → has (getD winning r 0) p ≡ restAmong winning n (drop r w) p
+pub rest-among : (winning : List ℕ) (n : ℕ) (w : List ℕ) → length w ≡ n → (r : ℕ) → r ≤ n → (p : ℕ) → has (getD winning r 0) p ≡ restAmong winning n (drop r w) p
 unfolding restAmong
-among winning n w e r h p =
+rest-among winning n w e r h p =
     let f : r ≡ n - length (drop r w) = omega (arith, length-drop r w) in
     ap (λ i. has (getD winning i 0) p) f
 
@@ -130,7 +124,7 @@ module _ (t ranks next : List ℕ) (k q : ℕ) (w : List ℕ) (n : ℕ) (many : 
   asked-same : (i : ℕ) → i ≤ length w → qualifies (restAmong winning n) (over [] next) q w i ≡ qualifies (restIn t ranks k) (over ranks next) q w i
   unfolding qualifies
   asked-same i h =
-      sym (among winning n w many i (omega arith) (reached (over [] next) q (take i w))) ∙
+      sym (rest-among winning n w many i (omega arith) (reached (over [] next) q (take i w))) ∙
       winning-set t ranks k w winning read i h (reached (over [] next) q (take i w)) ∙
       ap (restIn t ranks k (drop i w)) (sym (reached-over (over [] next) ranks (take i w) q))
 

@@ -1,7 +1,7 @@
 -- Over a solved table the monitor rests where the sets say, and the search finds what qualifies by
 -- them.
 use mathlib.Core.List.{List}
-use Prim.Native.Nat.{ℕ, _<_}
+use Prim.Native.Nat.{ℕ}
 use mathlib.Core.Path.{_≡_, _∙_}
 use native.Mathlib.Omega.{arith}
 use lib.ListN.{take, drop}
@@ -12,7 +12,7 @@ use Rattle.automaton_symbols.specs.declared.Ranking.{Ranking}
 use Rattle.automaton_symbols.specs.Symbols.{rankingOf}
 use Rattle.solver_sets.specs.Table.{Solved}
 use Rattle.solver_sets.proofs.Total.{total}
-use Rattle.monitor_rule.specs.Step.{bySets, byTable, qualifies, qualifying}
+use Rattle.monitor_rule.specs.Step.{bySets, byTable, qualifies}
 use Rattle.monitor_rule.specs.Fronts.{restIn, over, foundIn}
 use Rattle.monitor_rule.specs.Claims.{SearchOfSolved}
 use Rattle.monitor_rule.proofs.Worded.{search-as-worded}

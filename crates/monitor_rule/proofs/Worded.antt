@@ -96,50 +96,49 @@ module _ (rest : Rest) (a : Automaton) (q : ℕ) (w : List ℕ) where
   qualifies-at x y j = rw (cut-take w x y j, cut-drop w x y j)
 
   -- what stands in the list, and where
-  module _ (few : length w ≤ 6) where
-    abbrev lengths : List ℕ
-    lengths = pad 7 (qualifying rest a q w)
+  abbrev lengths : List ℕ
+  lengths = pad 7 (qualifying rest a q w)
 
-    abbrev many : ℕ
-    many = foundIn rest a q w .listed
+  abbrev many : ℕ
+  many = foundIn rest a q w .listed
 
-    inside : (i : ℕ) → i < many → getD lengths i 0 ≡ getD (qualifying rest a q w) i 0
-    unfolding foundIn
-    inside = pad-inside 7 (qualifying rest a q w)
+  inside : (i : ℕ) → i < many → getD lengths i 0 ≡ getD (qualifying rest a q w) i 0
+  unfolding foundIn
+  inside = pad-inside 7 (qualifying rest a q w)
 
-    listed-qualifies : (k : ℕ) → Among lengths many k → Qualifies (λ r p. rest r p ≡ true) a q w k
-    unfolding foundIn qualifying qualifies
-    listed-qualifies k l =
-        let e = sym (inside (l .place) (l .below)) ∙ l .holds in
-        let h = rw e at (those-holds (suc (length w)) (qualifies rest a q w) (l .place) (l .below)) in
-        record {
-          front = take k w;
-          left = drop k w;
-          parts = take-append-drop k w;
-          long = length-take-le k w (omega (arith, h .0));
-          leads = h .1;
-        }
+  listed-qualifies : (k : ℕ) → Among lengths many k → Qualifies (λ r p. rest r p ≡ true) a q w k
+  unfolding foundIn qualifying qualifies
+  listed-qualifies k l =
+      let e = sym (inside (l .place) (l .below)) ∙ l .holds in
+      let h = rw e at (those-holds (suc (length w)) (qualifies rest a q w) (l .place) (l .below)) in
+      record {
+        front = take k w;
+        left = drop k w;
+        parts = take-append-drop k w;
+        long = length-take-le k w (omega (arith, h .0));
+        leads = h .1;
+      }
 
-    qualifies-listed : (k : ℕ) → Qualifies (λ r p. rest r p ≡ true) a q w k → Among lengths many k
-    unfolding foundIn qualifying
-    qualifies-listed k g =
-        let test = qualifies rest a q w in
-        let short = cut-in w (g .front) (g .left) (g .parts) in
-        let holds : test k ≡ true = rw (g .long) at (qualifies-at (g .front) (g .left) (g .parts)) ∙ g .leads in
-        let h = those-has (suc (length w)) test k (omega (arith, g .long, short)) holds in
-        record { place = length (those k test); below = h .0; holds = inside (length (those k test)) (h .0) ∙ h .1 }
+  qualifies-listed : (k : ℕ) → Qualifies (λ r p. rest r p ≡ true) a q w k → Among lengths many k
+  unfolding foundIn qualifying
+  qualifies-listed k g =
+      let test = qualifies rest a q w in
+      let short = cut-in w (g .front) (g .left) (g .parts) in
+      let holds : test k ≡ true = rw (g .long) at (qualifies-at (g .front) (g .left) (g .parts)) ∙ g .leads in
+      let h = those-has (suc (length w)) test k (omega (arith, g .long, short)) holds in
+      record { place = length (those k test); below = h .0; holds = inside (length (those k test)) (h .0) ∙ h .1 }
 
-    lists : ListsQualifying (λ r p. rest r p ≡ true) a q w lengths many
-    unfolding foundIn qualifying
-    lists =
-        let test = qualifies rest a q w in
-        let fit : length (those (suc (length w)) test) ≤ 7 = omega (arith, those-few (suc (length w)) test) in
-        record {
-          exactly = λ k. (listed-qualifies k, qualifies-listed k);
-          rising = λ i j r l. rw (inside i (omega arith), inside j l) (those-rise (suc (length w)) test i j r l);
-          enough = fit;
-          used = pad-used 7 (those (suc (length w)) test) fit;
-        }
+  lists : length w ≤ 6 → ListsQualifying (λ r p. rest r p ≡ true) a q w lengths many
+  unfolding foundIn qualifying
+  lists few =
+      let test = qualifies rest a q w in
+      let fit : length (those (suc (length w)) test) ≤ 7 = omega (arith, those-few (suc (length w)) test) in
+      record {
+        exactly = λ k. (listed-qualifies k, qualifies-listed k);
+        rising = λ i j r l. rw (inside i (omega arith), inside j l) (those-rise (suc (length w)) test i j r l);
+        enough = fit;
+        used = pad-used 7 (those (suc (length w)) test) fit;
+      }
 
 pub search-as-worded : SearchAsWorded
 search-as-worded = lists

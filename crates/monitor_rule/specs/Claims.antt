@@ -38,9 +38,9 @@ abbrev pub EventRowsAsWorded : Type 0
 EventRowsAsWorded =
     (rest : Rest) (a : Automaton) (p : Position) (e : ℕ) → RowsOfEvent a (length (p .buffer)) e (eventRefusal rest a p e)
 
--- The search, beside Definition 3.10 of source document 001, where P says with what is left, and
--- in which state, one may rest: k is the length of a front part of w that leads q there. (By S
--- these are the paper's G(q, w).)
+-- The search, beside κ in Definition 3.10 of source document 001. P says with what is left, and in
+-- which state, one may rest; k is the length of a front part of w after which one may. (By S these
+-- are G(q, w), as Definition 7 of source document 000 words it.)
 pub record Qualifies (P : List ℕ → ℕ → Type 0) (a : Automaton) (q : ℕ) (w : List ℕ) (k : ℕ) : Type 0 where
   pub front : List ℕ
   pub left : List ℕ

@@ -1,5 +1,6 @@
 use lib.ListN.{getD}
-use Rattle.automaton_symbols.proofs.Free.{Listed, listed-room, listed-more, listed-same, listed-all}
+use Rattle.automaton_symbols.proofs.Free.{free, free-not, free-is, free-all}
+use Rattle.base.proofs.Picking.{Picked, picked-room, picked-more, picked-same}
 use Rattle.base.specs.Each.{those}
 use Rattle.base.specs.Pad.{pad}
 use Prim.Native.Nat.{_≤_, _-_}
@@ -11,7 +12,7 @@ use Rattle.automaton_symbols.proofs.uncontrollable.Statement.{statement
 use Rattle.automaton_symbols.proofs.uncontrollable.Tie as tie
 
 abbrev Inv-loop : tie.InvT-loop
-Inv-loop classes m list₀ count₀ e₀ list count e = (e ≤ m) × Listed classes e list count
+Inv-loop classes m list₀ count₀ e₀ list count e = (e ≤ m) × Picked 16 (free classes) e list count
 
 abbrev μ-loop : tie.MeasureT-loop
 μ-loop classes m list₀ count₀ e₀ list count e = m - e
@@ -35,10 +36,10 @@ element-copy-out-if2 : tie.Need-element-copy-out-if2 Inv-loop μ-loop
 element-copy-out-if2 c = search needs
 
 array-write-list : tie.Need-array-write-list Inv-loop μ-loop
-array-write-list c = omega (arith, listed-room _ _ _ _ (turn (c .before .before) .loop .inv .1))
+array-write-list c = omega (arith, picked-room (turn (c .before .before) .loop .inv .1))
 
 add-count : tie.Need-add-count Inv-loop μ-loop
-add-count c = omega (arith, listed-room _ _ _ _ (turn (c .before .before) .loop .inv .1))
+add-count c = omega (arith, picked-room (turn (c .before .before) .loop .inv .1))
 
 add-e : tie.Need-add-e Inv-loop μ-loop
 add-e c = search needs
@@ -53,13 +54,13 @@ loop-again c = (
       let v = o .loop .inv .1 in
       let class = ap (λ i. getD (o .before .args .classes .now) i 0) (c .before .before .as-usize2 .ensures .0) in
       ⊎-elim
-      (λ w. rw (w .1, w .2) (listed-more _ _ _ _ v (omega arith) (λ h. w .0 .taken (class ∙ h))))
-      (λ w. rw (w .1, w .2) (listed-same _ _ _ _ v (sym class ∙ w .0 .left)))
+      (λ w. rw (w .1, w .2) (picked-more v (omega arith) (free-is (o .before .args .classes .now) (o .loop .e) (λ h. w .0 .taken (class ∙ h)))))
+      (λ w. rw (w .1, w .2) (picked-same v (free-not (o .before .args .classes .now) (o .loop .e) (sym class ∙ w .0 .left))))
       (c .if2 .came),
 )
 
 returns : tie.Need-returns Inv-loop μ-loop
-returns c = listed-all _ _ _ _ (c .before .before .loop .inv .1) _ (omega arith)
+returns c = free-all _ _ _ _ (c .before .before .loop .inv .1) _ (omega arith)
 
 pub uncontrollable-spec : {M : Type 1} → statement M
 uncontrollable-spec =

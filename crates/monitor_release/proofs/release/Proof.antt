@@ -8,7 +8,7 @@ use borrow.Author.Needs.{needs}
 use Rattle.monitor_release.proofs.release.Statement.{statement}
 use Rattle.monitor_release.proofs.release.Tie as tie
 
--- the search's answer and its array
+-- the array has seven places, and no more are listed
 fits : (c : tie.After-lengths2) → let l = c .before .qualifying .last .1 .1 .1 .1 .1 .1 .1 .0 in
     (length l ≡ 7) × (c .before .qualifying .result .listed ≤ length l)
 fits c =

@@ -6,7 +6,7 @@ use lib.ListN.{length, take}
 use lib.Seq.{length-take-le}
 use borrow.Author.Needs.{needs}
 use Rattle.monitor_rule.specs.Fronts.{restAmong, over}
-use Rattle.monitor_rule.proofs.Searching.{Searching, searching-begins, searching-room, searching-asks, searching-goes-on, searching-done, next-state, among}
+use Rattle.monitor_rule.proofs.Searching.{Searching, searching-begins, searching-room, searching-asks, searching-goes-on, searching-done, next-state, rest-among}
 use Rattle.monitor_release.proofs.search.Statement.{statement}
 use Rattle.monitor_release.proofs.search.Tie as tie
 
@@ -36,7 +36,7 @@ asked c =
     let v = r .loop .inv in
     let a = r .before .args in
     searching-asks _ _ _ _ (v .3) (few r) _
-    (c .before .before .has .ensures ∙ among (a .winning .now) (a .held) (take (a .held) (a .t4)) (v .2) (r .loop .r) (v .0) (r .loop .p))
+    (c .before .before .has .ensures ∙ rest-among (a .winning .now) (a .held) (take (a .held) (a .t4)) (v .2) (r .loop .r) (v .0) (r .loop .p))
     _ (c .keep .ensures .0) _ (c .keep .ensures .1)
 
 loop-holds : tie.Need-loop-holds Inv-loop μ-loop

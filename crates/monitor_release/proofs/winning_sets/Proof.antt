@@ -11,11 +11,11 @@ use Rattle.monitor_release.proofs.winning_sets.Statement.{statement}
 use Rattle.monitor_release.proofs.winning_sets.Tie as tie
 
 abbrev Inv-loop : tie.InvT-loop
-Inv-loop ranks k table held sets₀ buffer index₀ weight₀ i₀ winning index weight i =
+Inv-loop ranks k table held winning₀ buffer index₀ weight₀ i₀ winning index weight i =
     (i ≤ held) × (length (take held buffer) ≡ held) × Reading table ranks k (take held buffer) winning index weight i
 
 abbrev μ-loop : tie.MeasureT-loop
-μ-loop ranks k table held sets₀ buffer index₀ weight₀ i₀ winning index weight i = i
+μ-loop ranks k table held winning₀ buffer index₀ weight₀ i₀ winning index weight i = i
 
 -- The places that later needs look back to, and what stands there.
 
