@@ -52,8 +52,8 @@ fn moved(next: &[u8; 512], passes: bool, q: usize, e: usize) -> usize
     q
 }
 
-// Holds an event at the buffer's end, unless it passes: how many are held then.
-fn hold(passes: bool, e: u8, buffer: &mut [u8; 6], held: usize) -> usize
+// Puts an event at the end of the buffer, unless it passes: how many it has then.
+fn enqueue(passes: bool, e: u8, buffer: &mut [u8; 6], held: usize) -> usize
     requires { ⌜ (passes ≡ false → held < 6) ⌝ }
     ensures { λ n. ⌜ (n ≡ held + cond passes 0 1)
         × (now (buffer .exit) ≡ cond passes (now (buffer .entry)) (set (now (buffer .entry)) held e)) ⌝ }
@@ -124,7 +124,7 @@ pub fn step<'a>(
     let passes = ranks[as_usize(e)] == 0;
     let p = moved(next, passes, q, as_usize(e));
     let mut longer = buffer;
-    let all = hold(passes, e, &mut longer, held);
+    let all = enqueue(passes, e, &mut longer, held);
     let from = pass(passes, e, out, at);
     let front = release(next, ranks, k, table, p, longer, all);
     emit(&longer, front.count, out, from);

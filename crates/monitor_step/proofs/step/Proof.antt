@@ -15,33 +15,33 @@ use Rattle.monitor_step.proofs.step.Tie as tie
 
 -- The places that later needs look back to.
 
-abbrev start : tie.After-hold → tie.Start
+abbrev start : tie.After-enqueue → tie.Start
 start c = c .before .before .before .before .before .before .before .before
 
-abbrev held : tie.After-slice-known2 → tie.After-hold
+abbrev held : tie.After-slice-known2 → tie.After-enqueue
 held c = c .before .before .before .before
 
 abbrev passed : tie.After-slice-known2 → tie.After-pass
 passed c = c .before .before
 
 -- whether the event passes, and how many symbols it then puts out itself
-abbrev passes : tie.After-hold → Bool
+abbrev passes : tie.After-enqueue → Bool
 passes c = eqb (getD (start c .args .ranks .now) (c .before .before .before .before .before .as-usize .result) 0) 0
 
-abbrev own : tie.After-hold → ℕ
+abbrev own : tie.After-enqueue → ℕ
 own c = cond (passes c) 1 0
 
 -- the event has arrived, and nothing is released yet
 arrived : (c : tie.After-slice-known2) → let h = held c in
     let a = start h .args in
-    Arrived (over (a .ranks .now) (a .next .now)) (a .q) (take (a .held) (a .buffer)) (a .e) (h .before .before .moved .result) (h .hold .last .1 .1 .0) (own h) (h .hold .result)
+    Arrived (over (a .ranks .now) (a .next .now)) (a .q) (take (a .held) (a .buffer)) (a .e) (h .before .before .moved .result) (h .enqueue .last .1 .1 .0) (own h) (h .enqueue .result)
 arrived c =
     let h = held c in
     let m = h .before .before in
     ready-arrives (start h .pre) _ _ (m .before .before .before .as-usize .ensures .0) (m .before .as-usize2 .ensures .0) _ _ _
-    (m .moved .ensures) (h .hold .ensures .1) (h .hold .ensures .0)
+    (m .moved .ensures) (h .enqueue .ensures .1) (h .enqueue .ensures .0)
 
-few : (c : tie.After-release) → c .release .result .count ≤ held (c .before) .hold .result
+few : (c : tie.After-release) → c .release .result .count ≤ held (c .before) .enqueue .result
 few c = released-few _ _ _ _ _ _ _ _ _ (arrived (c .before)) _ (c .release .ensures)
 
 as-usize-requires : tie.Need-as-usize-requires
@@ -56,8 +56,8 @@ as-usize-requires-2 c κs = search needs
 moved-requires : tie.Need-moved-requires
 moved-requires c κs = search needs
 
-hold-requires : tie.Need-hold-requires
-hold-requires c κs = ready-space (c .before .before .before .before .before .before .before .pre) _ (c .before .before .before .before .as-usize .ensures .0)
+enqueue-requires : tie.Need-enqueue-requires
+enqueue-requires c κs = ready-space (c .before .before .before .before .before .before .before .pre) _ (c .before .before .before .before .as-usize .ensures .0)
 
 pass-requires : tie.Need-pass-requires
 pass-requires c κs = search needs
@@ -114,7 +114,7 @@ step-spec =
     element-copy-out-passes
     as-usize-requires-2
     moved-requires
-    hold-requires
+    enqueue-requires
     pass-requires
     release-requires
     emit-requires

@@ -1,6 +1,6 @@
 use native.Mathlib.Omega.{arith}
-use Rattle.monitor_step.proofs.hold.Statement.{statement}
-use Rattle.monitor_step.proofs.hold.Tie as tie
+use Rattle.monitor_step.proofs.enqueue.Statement.{statement}
+use Rattle.monitor_step.proofs.enqueue.Tie as tie
 
 returns : tie.Need-returns
 returns c = (rw (c .if1 .taken) (omega arith), rw (c .if1 .taken))
@@ -14,5 +14,5 @@ add-result c = omega (arith, c .before .pre (c .if1 .left))
 returns-2 : tie.Need-returns-2
 returns-2 c = (rw (c .if1 .left), rw (c .if1 .left))
 
-pub hold-spec : {M : Type 1} → statement M
-hold-spec = tie.close (tie.spec returns element-write-buffer add-result returns-2)
+pub enqueue-spec : {M : Type 1} → statement M
+enqueue-spec = tie.close (tie.spec returns element-write-buffer add-result returns-2)
