@@ -1,13 +1,16 @@
 -- The cases of reading and writing a number.
-use Prim.Native.Nat.{ℕ, suc, _+_, _-_, _*_, _/_, _%_, _<_, _≤_}
+use Prim.Native.Nat.{ℕ, zero, suc, _+_, _-_, _*_, _/_, _%_, _<_, _≤_}
 use mathlib.Core.Path.{_≡_, refl, _∙_, ap, ap₂}
+use mathlib.Core.Logic.{_⊎_, inl, inr}
 use mathlib.Core.Bool.{true, false}
 use mathlib.Core.List.{List, [], _∷_}
 use lib.ListN.{length, getD}
 use lib.Seq.{sets, sets-eq}
 use native.Mathlib.Nat.{zero-add}
 use native.Mathlib.Omega.{arith}
+use lib.Dec.{ltb}
 use borrow.Author.Tests.{lt-ltb, le-ltb, le-leb, lt-leb}
+use Rattle.base.proofs.Bools.{by}
 use Rattle.varint.specs.Varint.{value, fault, groups, read, encode, bytes, fits, written, writtenLength}
 
 -- one group
@@ -108,3 +111,26 @@ module _ (out : List ℕ) (v : ℕ) where
     room h =
         let f : fits out v ≡ true = rw (lt-ltb v 2097152 small, e, le-leb (length bs) (length out) h) in
         (rw (f, e), sets-eq bs out 0 (omega arith) ∙ rw (zero-add (length bs), f, e))
+
+-- what is read: a value and the place after it, or row 1 or 2 where the number begins
+groups-cases : {R : Type 0} (s : List ℕ) (start k unit low at : ℕ)
+    → ((row : ℕ) → (row ≡ 1) ⊎ (row ≡ 2) → groups s start k unit low at ≡ fault row start → R)
+    → ((v next : ℕ) → groups s start k unit low at ≡ value v next → R)
+    → R
+unfolding groups
+groups-cases s start zero unit low at refused read′ = refused 2 (inr refl) refl
+groups-cases s start (suc k) unit low at refused read′ =
+    by (ltb at (length s))
+    (λ e. by (ltb (getD s at 0) 128)
+    (λ f. read′ (low + getD s at 0 * unit) (at + 1) (rw (e, f)))
+    (λ f. groups-cases s start k (unit * 128) (low + (getD s at 0 - 128) * unit) (at + 1)
+    (λ row l h. refused row l (rw (e, f) h))
+    (λ v next h. read′ v next (rw (e, f) h))))
+    (λ e. refused 1 (inl refl) (rw e))
+
+pub read-cases : {R : Type 0} (s : List ℕ) (at : ℕ)
+    → ((row : ℕ) → (row ≡ 1) ⊎ (row ≡ 2) → read s at ≡ fault row at → R)
+    → ((v next : ℕ) → read s at ≡ value v next → R)
+    → R
+unfolding read
+read-cases s at = groups-cases s at 3 1 0 at

@@ -1,0 +1,4 @@
+pub mod Laws
+pub mod Ring
+pub mod Worded
+pub mod Telling
