@@ -1,6 +1,6 @@
 -- Rows 11, 12 and 20, which a call over a list checks first.
 use Prim.Native.Nat.{ℕ, _<_}
-use mathlib.Core.Path.{_≡_, sym}
+use mathlib.Core.Path.{_≡_, refl, sym}
 use mathlib.Core.Logic.{_⊎_, inl, inr, _↔_, Iff·rfl, Iff·trans}
 use mathlib.Core.Bool.{Bool, true, false, not}
 use mathlib.Core.List.{List, [], _∷_, _++_}
@@ -51,12 +51,16 @@ module _ (count : ℕ) where
 
 -- a number that none of the three rows has
 abbrev pub Later : ℕ → Type 0
-Later n = (n < 11) ⊎ ((12 < n) × (n < 20))
+Later n = (n ≡ 11 → ⊥) × (n ≡ 12 → ⊥) × (n ≡ 20 → ⊥)
 
-later : (n : ℕ) → Later n → (n ≡ 11 → ⊥) × (n ≡ 12 → ⊥) × (n ≡ 20 → ⊥)
-later n l =
+-- that of a later row of an event or a day, or none
+abbrev pub Inner : ℕ → Type 0
+Inner n = (n ≡ 0) ⊎ ((12 < n) × (n < 20))
+
+pub inner-later : (n : ℕ) → Inner n → Later n
+inner-later n l =
     either l
-    (λ low. (λ h. omega arith, λ h. omega arith, λ h. omega arith))
+    (λ z. (λ h. omega arith, λ h. omega arith, λ h. omega arith))
     (λ (low, high). (λ h. omega arith, λ h. omega arith, λ h. omega arith))
 
 -- a call that checks these rows first, and then others
@@ -79,7 +83,7 @@ module _ (a : Automaton) (t : List ℕ) (count : ℕ) where
     pub list-later : {Z : Type 0} (m : ℕ) → Later m → (ListClear a t count → (first rows ≡ m) ↔ Z) → (n ≡ m) ↔ (ListClear a t count × Z)
     unfolding listRows tableRows
     list-later m l z =
-        let (n11, n12, n20) = later m l in
+        let (n11, n12, n20) = l in
         Iff·trans
         (after-12 a t from-20 m n11 n12
         (λ v s. first-later 20 wrong rows (wrong-words count) (right-words count) m (λ h. n20 (sym h))
@@ -92,7 +96,7 @@ module _ (a : Automaton) (t : List ℕ) (count : ℕ) where
     pub list-rows : Later (first rows) → ListRows a t count n
     unfolding listRows tableRows
     list-rows l =
-        let (n11, n12, n20) = later (first rows) l in
+        let (n11, n12, n20) = l in
         record {
           row-11 = row-11 a t from-20 (first-never 20 wrong rows 11 (λ h. omega arith) n11);
           row-12 = row-12 a t from-20 (first-never 20 wrong rows 12 (λ h. omega arith) n12);
@@ -103,7 +107,7 @@ module _ (a : Automaton) (t : List ℕ) (count : ℕ) where
   -- with no rows after them
   pub list-wrong : (valid a ≡ true) × (short a t ≡ false) × WrongCount count → listRefusal a t count ≡ 20
   unfolding listRefusal listRows tableRows first
-  list-wrong w = list-rows [] (inl (omega arith)) .row-20 .1 w
+  list-wrong w = list-rows [] (inner-later 0 (inl refl)) .row-20 .1 w
 
   pub clear-list : ListClear a t count → listRefusal a t count ≡ 0
   unfolding listRefusal listRows tableRows first
@@ -111,7 +115,7 @@ module _ (a : Automaton) (t : List ℕ) (count : ℕ) where
 
   pub list-clear : listRefusal a t count ≡ 0 → ListClear a t count
   unfolding listRefusal listRows tableRows first
-  list-clear z = list-later [] 0 (inl (omega arith)) (λ k. Iff·rfl) .0 z .0
+  list-clear z = list-later [] 0 (inner-later 0 (inl refl)) (λ k. Iff·rfl) .0 z .0
 
   pub clear-opened : ListClear a t count → Opened a t
   clear-opened k = record { record-valid = k .record-valid; table-long = k .table-long }

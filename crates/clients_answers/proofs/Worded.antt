@@ -28,7 +28,7 @@ use Rattle.clients_answers.specs.Listed.{outcome}
 use Rattle.clients_answers.specs.Clients.{none, monitored, listRows, clientRows, heldIn, heldInAll}
 use Rattle.clients_answers.specs.Clients.{receiveForRefusal, receivedFor, roomRows, runForRefusal, ranFor}
 use Rattle.clients_answers.specs.Claims.{ClientRows, sumBelow, holds, ClientRowsAsWorded}
-use Rattle.clients_answers.proofs.Refusals.{Later, list-later, list-rows}
+use Rattle.clients_answers.proofs.Refusals.{Inner, inner-later, list-later, list-rows}
 
 -- the sum from the front
 sum-front : (n : ℕ) (f : ℕ → ℕ) → sumBelow (suc n) f ≡ f 0 + sumBelow n (λ g. f (suc g))
@@ -79,16 +79,16 @@ module _ (a : Automaton) (t : List ℕ) (cs : List Configuration) (i e : ℕ) wh
   own-other : (m : ℕ) → (m ≡ 13) ⊎ (m ≡ 19) → own ≡ m → ⊥
   own-other m f h = either f (λ z. own-number (λ k. omega arith) (λ l k. omega arith)) (λ z. own-number (λ k. omega arith) (λ l k. omega arith))
 
-  pub client-later : Later row
+  pub client-inner : Inner row
   unfolding clientRows turnRows configurationRows
-  client-later =
+  client-inner =
       by absent
-      (λ h. subst Later (sym (first-stands 19 absent from-13 h)) (inr (omega arith, omega arith)))
-      (λ h. subst Later (sym (first-passes 19 absent from-13 h))
+      (λ h. subst Inner (sym (first-stands 19 absent from-13 h)) (inr (omega arith, omega arith)))
+      (λ h. subst Inner (sym (first-passes 19 absent from-13 h))
       (by broken
-      (λ k. subst Later (sym (first-stands 13 broken _ k)) (inr (omega arith, omega arith)))
-      (λ k. subst Later (sym (first-passes 13 broken _ k))
-      (own-number (λ z. inl (omega arith)) (λ l u. inr (omega arith, omega arith))))))
+      (λ k. subst Inner (sym (first-stands 13 broken _ k)) (inr (omega arith, omega arith)))
+      (λ k. subst Inner (sym (first-passes 13 broken _ k))
+      (own-number inl (λ l u. inr (omega arith, omega arith))))))
 
   -- its configuration's rows, in words
   own-rows : valid a ≡ true → consistent a c ≡ true → RowsOfEvent a (c .held) e own
@@ -97,8 +97,8 @@ module _ (a : Automaton) (t : List ℕ) (cs : List Configuration) (i e : ℕ) wh
       rw (consistent-facts a c (valid-facts a v) k .held-length) at (event-rows-as-worded (byTable a t) a (positionOf c) e)
 
   -- under a condition P that the call's first rows want
-  module _ {P : Type 0} (m : ℕ) (on : (Z : Type 0) (k : ℕ) → Later k → (P → (row ≡ k) ↔ Z) → (m ≡ k) ↔ (P × Z)) (v : P → valid a ≡ true) where
-    of-own : {X : Type 0} (k : ℕ) → Later k → (19 ≡ k → ⊥) → (13 ≡ k → ⊥) → (P → consistent a c ≡ true → (own ≡ k) ↔ X)
+  module _ {P : Type 0} (m : ℕ) (on : (Z : Type 0) (k : ℕ) → Inner k → (P → (row ≡ k) ↔ Z) → (m ≡ k) ↔ (P × Z)) (v : P → valid a ≡ true) where
+    of-own : {X : Type 0} (k : ℕ) → Inner k → (19 ≡ k → ⊥) → (13 ≡ k → ⊥) → (P → consistent a c ≡ true → (own ≡ k) ↔ X)
         → (m ≡ k) ↔ (P × (i < length cs) × (consistent a c ≡ true) × X)
     unfolding clientRows turnRows configurationRows
     of-own k l n19 n13 f =
@@ -121,7 +121,7 @@ module _ (a : Automaton) (t : List ℕ) (cs : List Configuration) (i e : ℕ) wh
               (λ (p, (b, d)). (p, b, d), λ (p, b, d). (p, (b, d)));
           row-14 = of-own 14 (inr (omega arith, omega arith)) (λ h. omega arith) (λ h. omega arith) (λ p k. own-rows (v p) k .row-14);
           row-15 = of-own 15 (inr (omega arith, omega arith)) (λ h. omega arith) (λ h. omega arith) (λ p k. own-rows (v p) k .row-15);
-          accepted = of-own 0 (inl (omega arith)) (λ h. omega arith) (λ h. omega arith) (λ p k. own-rows (v p) k .accepted);
+          accepted = of-own 0 (inl refl) (λ h. omega arith) (λ h. omega arith) (λ p k. own-rows (v p) k .accepted);
         }
 
   -- the row of an event inside a day
@@ -149,8 +149,8 @@ module _ (a : Automaton) (cs : List Configuration) (vs out : List ℕ) where
   unfolding first
   room-0 h = rw h
 
-  day-later : Later (first rows)
-  day-later = by lacking (λ h. let z = room-16 h in inr (omega arith, omega arith)) (λ h. let z = room-0 h in inl (omega arith))
+  day-inner : Inner (first rows)
+  day-inner = by lacking (λ h. let z = room-16 h in inr (omega arith, omega arith)) (λ h. inl (room-0 h))
 
   day-row : RowOfRun (length out) vs (holds a cs) (first rows)
   day-row =
@@ -162,14 +162,14 @@ unfolding receiveForRefusal runForRefusal ranFor heldIn
 client-rows-as-worded a t cs =
     let count = length cs in
     record {
-      event-first = λ i e. list-rows a t count (clientRows a t cs i e) (client-later a t cs i e);
+      event-first = λ i e. list-rows a t count (clientRows a t cs i e) (inner-later _ (client-inner a t cs i e));
       event = λ i e.
           let rows = clientRows a t cs i e in
-          client-rows a t cs i e (first (listRows a t count ++ rows)) (λ Z. list-later a t count rows) (λ k. k .record-valid);
+          client-rows a t cs i e (first (listRows a t count ++ rows)) (λ Z k l. list-later a t count rows k (inner-later k l)) (λ k. k .record-valid);
       answered = answered-row a t cs;
-      day-first = λ vs out. list-rows a t count (roomRows a cs vs out) (day-later a cs vs out);
-      row-16 = λ vs out. list-later a t count (roomRows a cs vs out) 16 (inr (omega arith, omega arith)) (λ _. day-row a cs vs out .row-16);
-      accepted = λ vs out. list-later a t count (roomRows a cs vs out) 0 (inl (omega arith)) (λ _. day-row a cs vs out .accepted);
+      day-first = λ vs out. list-rows a t count (roomRows a cs vs out) (inner-later _ (day-inner a cs vs out));
+      row-16 = λ vs out. list-later a t count (roomRows a cs vs out) 16 (inner-later 16 (inr (omega arith, omega arith))) (λ _. day-row a cs vs out .row-16);
+      accepted = λ vs out. list-later a t count (roomRows a cs vs out) 0 (inner-later 0 (inl refl)) (λ _. day-row a cs vs out .accepted);
       day-answered = λ vs out. refl;
       inside = λ v i e.
           rw (outcome-row a t cs i e) (client-rows a t cs i e (first (clientRows a t cs i e)) (λ Z k l z. (λ h. (tt, z tt .0 h), λ (_, x). z tt .1 x)) (λ _. v));

@@ -3,14 +3,14 @@ use Prim.Native.Nat.{ℕ, suc, _<_, _≤_}
 use mathlib.Core.Path.{_≡_, refl, sym, _∙_, ap}
 use mathlib.Core.Logic.{_⊎_, inl, inr}
 use mathlib.Core.Bool.{Bool, true, false, not}
-use mathlib.Core.List.{List, [], _∷_, _++_}
+use mathlib.Core.List.{List, [], _∷_, _++_, append-assoc}
 use native.Mathlib.Omega.{arith}
 use lib.ListN.{length}
-use lib.Dec.{eqb, ltb}
+use lib.Dec.{eqb, leb, ltb}
 use borrow.Author.Tests.{eqb-true, eqb-false, eq-eqb, ne-eqb, lt-ltb, le-ltb, ltb-true, ltb-false, le-leb, lt-leb}
 use Rattle.base.specs.Rows.{first}
 use Rattle.base.proofs.Bools.{by, either}
-use Rattle.base.proofs.Refusals.{first-before}
+use Rattle.base.proofs.Refusals.{first-before, first-clear}
 use Rattle.varint.specs.declared.Number.{Number}
 use Rattle.varint.specs.Varint.{value, fault, read}
 use Rattle.varint.proofs.Laws.{read-cases}
@@ -252,3 +252,35 @@ module _ (s : List ℕ) (expected : Expected) (r : Record) (e : r ≡ recordIn s
     unfolding admission serialRows first
     admit-in l d =
         rw (row-of-serial, le-ltb 65535 (r .serial) l, lt-leb 32768 (ahead expected (r .serial)) d, parts .1, parts .2, parts .3)
+
+-- The rows of a record before others.
+module _ (s : List ℕ) (expected : Expected) where
+  pub admission-row : admission s expected .refusal ≡ first (recordRows s expected)
+  unfolding admission
+  admission-row = let n = first (recordRows s expected) in by (eqb n 0) (λ h. rw h (sym (eqb-true n 0 h))) (λ h. rw h)
+
+  pub rows-stand : (rows : List (ℕ × Bool)) → (admission s expected .refusal ≡ 0 → ⊥)
+      → first (recordRows s expected ++ rows) ≡ admission s expected .refusal
+  rows-stand rows z = first-before (recordRows s expected) rows (λ h. z (admission-row ∙ h)) ∙ sym admission-row
+
+  -- where none of the bytes' stands, those of the serial
+  bytes-clear : admission s expected .refusal ≡ 0 → recordIn s .refusal ≡ 0
+  unfolding recordRows
+  bytes-clear z = row-is s ∙ first-clear (byteRows s) (serialRows expected (serialIn s)) (sym admission-row ∙ z)
+
+  serial-clear : first (serialRows expected (serialIn s)) ≡ 0 → (rows : List (ℕ × Bool))
+      → first (serialRows expected (serialIn s) ++ rows) ≡ first rows
+  unfolding serialRows first
+  serial-clear z rows =
+      by (ltb 65535 (serialIn s))
+      (λ h. let k : _≡_ {A = ℕ} 21 0 = rw h at z in absurd (omega arith))
+      (λ h. by (leb 32768 (ahead expected (serialIn s))) (λ g. let k : _≡_ {A = ℕ} 22 0 = rw (h, g) at z in absurd (omega arith)) (λ g. rw (h, g)))
+
+  pub rows-pass : (rows : List (ℕ × Bool)) → admission s expected .refusal ≡ 0 → first (recordRows s expected ++ rows) ≡ first rows
+  unfolding recordRows
+  rows-pass rows z =
+      let more = serialRows expected (serialIn s) in
+      let clear = bytes-clear z in
+      ap first (append-assoc (byteRows s) more rows) ∙
+      passed s (more ++ rows) clear ∙
+      serial-clear (sym (passed s more clear) ∙ sym admission-row ∙ z) rows
