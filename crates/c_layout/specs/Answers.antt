@@ -8,6 +8,7 @@ use Rattle.monitor_answers.specs.declared.Received.{Received}
 use Rattle.monitor_answers.specs.declared.Ran.{Ran}
 use Rattle.clients_answers.specs.declared.ReceivedFor.{ReceivedFor}
 use Rattle.clients_answers.specs.declared.RanFor.{RanFor}
+use Rattle.feed_answers.specs.declared.Fed.{Fed}
 use Rattle.game.specs.declared.Verdict.{Verdict}
 use Rattle.c_layout.specs.Offsets.{numberSize}
 use Rattle.c_layout.specs.Layout.{numberBytes}
@@ -37,6 +38,11 @@ ranBytes r = dayBytes (r .length) (r .refused)
 
 unfoldable pub ranForBytes : RanFor → List ℕ
 ranForBytes r = dayBytes (r .length) (r .refused)
+
+-- one record of the feed: the answer to its event, how many records were lost before it, and the
+-- place of a fault
+unfoldable pub fedBytes : Fed → List ℕ
+fedBytes r = receivedForBytes (r .answer) ++ (numberBytes numberSize (r .loss) ++ numberBytes numberSize (r .place))
 
 -- both answers of the game (document 01's second judge): whether it may rest here, and whether it
 -- can come to rest

@@ -1,6 +1,7 @@
 -- What the calls of the interface for C leave in the bytes that are lent to them. The contracts of
--- `jaxhophasi_initial`, `jaxhophasi_receive`, `jaxhophasi_run`, `jaxhophasi_receive_for` and
--- `jaxhophasi_run_for` cite these definitions, and so do the claims on lists of calls.
+-- `jaxhophasi_initial`, `jaxhophasi_receive`, `jaxhophasi_run`, `jaxhophasi_receive_for`,
+-- `jaxhophasi_run_for` and `jaxhophasi_feed` cite these definitions, and so do the claims on lists
+-- of calls.
 use Prim.Native.Nat.{ℕ}
 use mathlib.Core.Bool.{cond}
 use mathlib.Core.List.{List, []}
@@ -13,8 +14,10 @@ use Rattle.monitor_answers.specs.Answers.{received, ran, ranBuffer}
 use Rattle.clients_answers.specs.declared.ReceivedFor.{ReceivedFor}
 use Rattle.clients_answers.specs.declared.RanFor.{RanFor}
 use Rattle.clients_answers.specs.Clients.{receivedFor, receivedClients, ranFor, ranClients, ranForBuffer}
-use Rattle.c_layout.specs.Layout.{automatonOf, configurationOf, configurationBytes}
-use Rattle.c_layout.specs.Answers.{receivedBytes, receivedForBytes, ranBytes, ranForBytes}
+use Rattle.feed_answers.specs.declared.Fed.{Fed}
+use Rattle.feed_answers.specs.Feed.{fedFor, fedClients}
+use Rattle.c_layout.specs.Layout.{automatonOf, configurationOf, configurationBytes, expectedOf, expectedLaid}
+use Rattle.c_layout.specs.Answers.{receivedBytes, receivedForBytes, ranBytes, ranForBytes, fedBytes}
 
 -- the lent configuration after `jaxhophasi_initial`: the initial one where the record is not
 -- refused, and what stood there where it is
@@ -51,18 +54,33 @@ runLeaves record-bytes t c events out =
     ranLeft (ran a t (configurationOf c) events out) (ranBuffer a t (configurationOf c) events out)
 
 -- what a call over a list of clients leaves: its refusal, the lent list, whose configurations lie
--- one after the other, and the bytes lent for the answer and, by a day, for the output
+-- one after the other, and the bytes lent for the answer, by a day for the output, and by a record
+-- of the feed for the expected serial
 pub record LeftFor : Type 0 where
   pub refusal : ℕ
   pub configurations : List Configuration
   pub answer : List ℕ
   pub output : List ℕ
+  pub expected : List ℕ
 
 unfoldable pub receivedForLeft : ReceivedFor → List Configuration → LeftFor
-receivedForLeft x cs = record { refusal = x .refusal; configurations = cs; answer = receivedForBytes x; output = [] }
+receivedForLeft x cs =
+    record { refusal = x .refusal; configurations = cs; answer = receivedForBytes x; output = []; expected = [] }
 
 unfoldable pub ranForLeft : RanFor → List Configuration → List ℕ → LeftFor
-ranForLeft x cs out = record { refusal = x .refusal; configurations = cs; answer = ranForBytes x; output = out }
+ranForLeft x cs out =
+    record { refusal = x .refusal; configurations = cs; answer = ranForBytes x; output = out; expected = [] }
+
+-- (the bytes lent for the expected serial, before and after)
+unfoldable pub fedLeft : Fed → List Configuration → List ℕ → LeftFor
+fedLeft x cs lent =
+    record {
+      refusal = x .answer .refusal;
+      configurations = cs;
+      answer = fedBytes x;
+      output = [];
+      expected = expectedLaid (x .expected) lent;
+    }
 
 -- `jaxhophasi_receive_for` over a lent record, table and list
 unfoldable pub receiveForLeaves : List ℕ → List ℕ → List Configuration → ℕ → ℕ → LeftFor
@@ -75,3 +93,9 @@ unfoldable pub runForLeaves : List ℕ → List ℕ → List Configuration → L
 runForLeaves record-bytes t cs vs out =
     let a = automatonOf record-bytes in
     ranForLeft (ranFor a t cs vs out) (ranClients a t cs vs out) (ranForBuffer a t cs vs out)
+
+-- `jaxhophasi_feed` over the same, a record's bytes and those lent for the expected serial
+unfoldable pub feedLeaves : List ℕ → List ℕ → List Configuration → List ℕ → List ℕ → LeftFor
+feedLeaves record-bytes t cs s lent =
+    let a = automatonOf record-bytes in
+    fedLeft (fedFor a t cs s (expectedOf lent)) (fedClients a t cs s (expectedOf lent)) lent

@@ -3,8 +3,8 @@
 use Prim.Native.Nat.{ℕ, _+_, _*_, _/_, _%_, _<_, _^_}
 use mathlib.Core.Path.{_≡_}
 use mathlib.Core.Bool.{Bool, true, false}
-use mathlib.Core.List.{List}
-use lib.ListN.{length, getD, replicate}
+use mathlib.Core.List.{List, [], _∷_}
+use lib.ListN.{length, getD, take, replicate}
 use Rattle.automaton.specs.declared.Automaton.{Automaton}
 use Rattle.automaton.specs.Automaton.{class, flag, step, shaped}
 use Rattle.configuration.specs.declared.Configuration.{Configuration}
@@ -18,17 +18,25 @@ use Rattle.clients_answers.specs.declared.ReceivedFor.{ReceivedFor}
 use Rattle.clients_answers.specs.declared.RanFor.{RanFor}
 use Rattle.clients_answers.specs.Clients.{receiveForRefusal, receivedFor, receivedClients}
 use Rattle.clients_answers.specs.Clients.{runForRefusal, ranFor, ranClients, ranForBuffer}
+use Rattle.feed_record.specs.declared.Expected.{Expected}
+use Rattle.feed_record.specs.declared.Expected.the-variants.{Any, Serial}
+use Rattle.feed_record.specs.Serials.{following, ahead}
+use Rattle.feed_record.specs.Records.{admission}
+use Rattle.feed_record.specs.Claims.{InTime}
+use Rattle.feed_answers.specs.declared.Fed.{Fed}
+use Rattle.feed_answers.specs.Feed.{entryRefusal, feedRefusal, fedFor, fedClients}
 use Rattle.c_layout.specs.Offsets.{maxStates, maxSymbols, maxCapacity, maxEmitted}
 use Rattle.c_layout.specs.Offsets.{automatonSize, automatonStates, automatonSymbols, automatonCapacity, automatonInitial}
 use Rattle.c_layout.specs.Offsets.{automatonClasses, automatonAccepting, automatonNext}
 use Rattle.c_layout.specs.Offsets.{configurationSize, configurationState, configurationHeld, configurationBuffer}
 use Rattle.c_layout.specs.Offsets.{numberSize, statusSize, receivedSize, receivedEmitted, receivedCount, receivedWinning}
 use Rattle.c_layout.specs.Offsets.{ranSize, ranLength, ranRefused, verdictSize, verdictMayRest, verdictCanRest}
+use Rattle.c_layout.specs.Offsets.{expectedSize, expectedKnown, expectedSerial, fedSize, fedLoss, fedPlace}
 use Rattle.c_layout.specs.Layout.{byteAt, part, automatonOf, automatonBytes, configurationOf, configurationBytes}
-use Rattle.c_layout.specs.Layout.{numberOf, numberBytes}
+use Rattle.c_layout.specs.Layout.{numberOf, numberBytes, expectedOf, expectedBytes, expectedLaid}
 use Rattle.c_layout.specs.Answers.{statusBytes, verdictBytes}
 use Rattle.c_layout.specs.Calls.{initialBytes, receivedLeft, ranLeft, receiveLeaves, runLeaves}
-use Rattle.c_layout.specs.Calls.{receivedForLeft, ranForLeft, receiveForLeaves, runForLeaves}
+use Rattle.c_layout.specs.Calls.{receivedForLeft, ranForLeft, fedLeft, receiveForLeaves, runForLeaves, feedLeaves}
 
 -- What stands at each offset, in the header's words.
 
@@ -72,6 +80,22 @@ pub record RanIn (bytes-written events-refused : ℕ) (bytes : List ℕ) : Type 
   pub written : NumberAt bytes-written ranLength bytes
   pub refused : NumberAt events-refused ranRefused bytes
 
+-- the answer to the event as above, then the loss and the place
+pub record FedIn (r : Fed) (bytes : List ℕ) : Type 0 where
+  pub size : length bytes ≡ fedSize
+  pub emitted : (i : ℕ) → i < maxEmitted → byteAt bytes (receivedEmitted + i) ≡ getD (r .answer .emitted) i 0
+  pub count : byteAt bytes receivedCount ≡ r .answer .count
+  pub winning : YesOrNo (r .answer .winning) (byteAt bytes receivedWinning)
+  pub loss : NumberAt (r .loss) fedLoss bytes
+  pub place : NumberAt (r .place) fedPlace bytes
+
+-- what three bytes say of the expected serial: 0, none, whatever the others are; else one, its low
+-- byte first
+pub record ExpectedIn (bytes : List ℕ) : Type 0 where
+  pub unknown : byteAt bytes expectedKnown ≡ 0 → expectedOf bytes ≡ Any
+  pub known : (byteAt bytes expectedKnown ≡ 0 → ⊥)
+      → expectedOf bytes ≡ Serial (byteAt bytes expectedSerial + 256 * byteAt bytes (expectedSerial + 1))
+
 pub record VerdictIn (v : Verdict) (bytes : List ℕ) : Type 0 where
   pub size : length bytes ≡ verdictSize
   pub may-rest : YesOrNo (v .«may_rest») (byteAt bytes verdictMayRest)
@@ -92,6 +116,9 @@ pub record OffsetsHold : Type 0 where
   pub ran : (r : Ran) (out : List ℕ) → RanIn (r .length) (r .refused) (ranLeft r out .answer)
   pub ran-for : (r : RanFor) (cs : List Configuration) (out : List ℕ)
       → RanIn (r .length) (r .refused) (ranForLeft r cs out .answer)
+  pub expected : (bytes : List ℕ) → length bytes ≡ expectedSize → ExpectedIn bytes
+  pub fed : (r : Fed) (cs : List Configuration) (lent : List ℕ) → length (r .answer .emitted) ≡ maxEmitted
+      → FedIn r (fedLeft r cs lent .answer)
   pub verdict : (v : Verdict) → VerdictIn v (verdictBytes v)
 
 -- a record comes back from its bytes, and its bytes from it
@@ -107,6 +134,12 @@ ConfigurationKept = (c : Configuration) → length (c .buffer) ≡ maxCapacity �
 
 abbrev pub ConfigurationBytesKept : Type 0
 ConfigurationBytesKept = (bytes : List ℕ) → length bytes ≡ configurationSize → configurationBytes (configurationOf bytes) ≡ bytes
+
+-- so does an expected serial, whatever the bytes were that it is laid into
+abbrev pub ExpectedKept : Type 0
+ExpectedKept =
+    (lent : List ℕ) → (expectedOf (expectedLaid Any lent) ≡ Any)
+    × ((s : ℕ) → s < 65536 → expectedOf (expectedLaid (Serial s) lent) ≡ Serial s)
 
 -- a number comes back where the bytes are enough for it
 abbrev pub NumberKept : Type 0
@@ -145,6 +178,30 @@ pub record LeftForAsAnswered (record-bytes t : List ℕ) (cs : List Configuratio
   pub run-refused : (vs out : List ℕ) → (runForLeaves record-bytes t cs vs out .refusal ≡ 0 → ⊥)
       → let x = runForLeaves record-bytes t cs vs out in
       (x .configurations ≡ cs) × (x .answer ≡ replicate ranSize 0) × (x .output ≡ out)
+
+-- one record of the feed, lent the bytes of an expected serial
+pub record FedAsAnswered (record-bytes t : List ℕ) (cs : List Configuration) (s lent : List ℕ) : Type 0 where
+  pub refusal : feedLeaves record-bytes t cs s lent .refusal ≡ feedRefusal (automatonOf record-bytes) t cs s (expectedOf lent)
+  pub list : feedLeaves record-bytes t cs s lent .configurations ≡ fedClients (automatonOf record-bytes) t cs s (expectedOf lent)
+  pub answer : FedIn (fedFor (automatonOf record-bytes) t cs s (expectedOf lent)) (feedLeaves record-bytes t cs s lent .answer)
+  -- refused before its event is looked at, the bytes of the expected serial stay as they were,
+  -- whatever they were, and of the loss every byte is 0
+  pub kept : (entryRefusal (automatonOf record-bytes) t (length cs) s (expectedOf lent) ≡ 0 → ⊥)
+      → (feedLeaves record-bytes t cs s lent .expected ≡ lent)
+      × (part fedLoss numberSize (feedLeaves record-bytes t cs s lent .answer) ≡ replicate numberSize 0)
+  -- let in: 1 and the serial that follows, refused then or not
+  pub next : entryRefusal (automatonOf record-bytes) t (length cs) s (expectedOf lent) ≡ 0
+      → (serial client symbol : ℕ) → InTime s (expectedOf lent) serial client symbol
+      → feedLeaves record-bytes t cs s lent .expected ≡ 1 ∷ following serial % 256 ∷ following serial / 256 ∷ []
+  -- refused, the list stays, and of the event's answer every byte is 0
+  pub refused : (feedLeaves record-bytes t cs s lent .refusal ≡ 0 → ⊥)
+      → (feedLeaves record-bytes t cs s lent .configurations ≡ cs)
+      × (take receivedSize (feedLeaves record-bytes t cs s lent .answer) ≡ replicate receivedSize 0)
+
+abbrev pub FeedLeftAsAnswered : Type 0
+FeedLeftAsAnswered =
+    (record-bytes t : List ℕ) (cs : List Configuration) (s lent : List ℕ) → length lent ≡ expectedSize
+    → FedAsAnswered record-bytes t cs s lent
 
 abbrev pub ClientsLeftAsAnswered : Type 0
 ClientsLeftAsAnswered = (record-bytes t : List ℕ) (cs : List Configuration) → LeftForAsAnswered record-bytes t cs

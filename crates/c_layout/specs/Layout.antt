@@ -1,13 +1,18 @@
 -- How the record, the configuration and numbers lie in the bytes that a caller lends.
 use Prim.Native.Nat.{ℕ, zero, suc, _+_, _*_, _/_, _%_}
 use mathlib.Core.List.{List, [], _∷_, _++_}
+use mathlib.Core.Bool.{Bool, true, false, cond}
 use lib.ListN.{getD, take, drop}
+use lib.Dec.{eqb}
 use Rattle.automaton.specs.declared.Automaton.{Automaton}
 use Rattle.configuration.specs.declared.Configuration.{Configuration}
+use Rattle.feed_record.specs.declared.Expected.{Expected}
+use Rattle.feed_record.specs.declared.Expected.the-variants.{Any, Serial}
 use Rattle.c_layout.specs.Offsets.{maxStates, maxSymbols, maxNext, maxCapacity}
 use Rattle.c_layout.specs.Offsets.{automatonStates, automatonSymbols, automatonCapacity, automatonInitial}
 use Rattle.c_layout.specs.Offsets.{automatonClasses, automatonAccepting, automatonNext}
 use Rattle.c_layout.specs.Offsets.{configurationState, configurationHeld, configurationBuffer}
+use Rattle.c_layout.specs.Offsets.{expectedKnown, expectedSerial}
 
 -- the byte at a place
 abbrev pub byteAt : List ℕ → ℕ → ℕ
@@ -55,3 +60,24 @@ numberBytes (suc width) v = v % 256 ∷ numberBytes width (v / 256)
 unfoldable pub numberOf : List ℕ → ℕ
 numberOf [] = 0
 numberOf (b ∷ bytes) = b + 256 * numberOf bytes
+
+-- The expected serial of a feed: 0 where none is expected, whatever stands behind it; any other
+-- number where one is, in two bytes, low byte first.
+unfoldable pub expectedOf : List ℕ → Expected
+expectedOf bytes =
+    cond (eqb (byteAt bytes expectedKnown) 0) Any (Serial (numberOf (part expectedSerial 2 bytes)))
+
+unfoldable pub expectedBytes : Expected → List ℕ
+expectedBytes Any = 0 ∷ 0 ∷ 0 ∷ []
+expectedBytes (Serial s) = 1 ∷ numberBytes 2 s
+
+unfoldable pub sameExpected : Expected → Expected → Bool
+sameExpected Any Any = true
+sameExpected Any (Serial y) = false
+sameExpected (Serial x) Any = false
+sameExpected (Serial x) (Serial y) = eqb x y
+
+-- lent bytes that an expected serial is laid into: where they say it already, they stay as they
+-- are
+unfoldable pub expectedLaid : Expected → List ℕ → List ℕ
+expectedLaid x lent = cond (sameExpected (expectedOf lent) x) lent (expectedBytes x)

@@ -86,6 +86,26 @@ ranLength = 0
 abbrev pub ranRefused : ℕ
 ranRefused = 8
 
+-- the expected serial of a feed: whether one is expected, and the serial's two bytes
+abbrev pub expectedSize : ℕ
+expectedSize = 3
+
+abbrev pub expectedKnown : ℕ
+expectedKnown = 0
+
+abbrev pub expectedSerial : ℕ
+expectedSerial = 1
+
+-- of `jaxhophasi_feed`: behind the bytes of `jaxhophasi_receive_for`, two numbers
+abbrev pub fedSize : ℕ
+fedSize = 25
+
+abbrev pub fedLoss : ℕ
+fedLoss = 9
+
+abbrev pub fedPlace : ℕ
+fedPlace = 17
+
 -- of `jaxhophasi_judge`
 abbrev pub verdictSize : ℕ
 verdictSize = 2

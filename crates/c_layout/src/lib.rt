@@ -56,4 +56,16 @@ pub const RAN_LENGTH: usize = 0;
 
 pub const RAN_REFUSED: usize = 8;
 
+pub const EXPECTED_SIZE: usize = 3;
+
+pub const EXPECTED_KNOWN: usize = 0;
+
+pub const EXPECTED_SERIAL: usize = 1;
+
+pub const FED_SIZE: usize = 25;
+
+pub const FED_LOSS: usize = 9;
+
+pub const FED_PLACE: usize = 17;
+
 pub const VERDICT_SIZE: usize = 2;

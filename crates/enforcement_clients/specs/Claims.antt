@@ -1,4 +1,5 @@
--- Demand 3 over a list of clients (document 02, Card 1), and noninterference over lists of calls.
+-- Demand 3 over a list of clients (document 02, Cards 1 and 3), and noninterference over lists of
+-- calls: events, days and records of the feed.
 use Prim.Native.Nat.{ℕ, _<_, _≤_, min}
 use mathlib.Core.Path.{_≡_}
 use mathlib.Core.Bool.{true}
@@ -21,7 +22,10 @@ use Rattle.clients_answers.specs.Listed.{eventsOf, partOf}
 use Rattle.clients_answers.specs.Clients.{none, initialClients, named, listRefusal, Outcome, monitored, emittedOf}
 use Rattle.clients_answers.specs.Clients.{receivedFor, receivedClients, runForRefusal, dayOutcomes}
 use Rattle.clients_answers.specs.Claims.{outcomeOf}
-use Rattle.enforcement_clients.specs.ClientCalls.{ClientCall, receiveFor, runFor, lentBy, reply, leaves, replies, leavesAll}
+use Rattle.feed_record.specs.declared.Expected.{Expected}
+use Rattle.feed_record.specs.Claims.{InTime}
+use Rattle.feed_answers.specs.Feed.{entryRefusal, fedFor}
+use Rattle.enforcement_clients.specs.ClientCalls.{ClientCall, receiveFor, runFor, feedFor, lentBy, reply, leaves, replies, leavesAll}
 use Rattle.enforcement_clients.specs.ClientCalls.{ownAll, seenAll, momentsOf}
 use Rattle.enforcement_clients.specs.Functions.{Functions, unfed, fedIn, expectedIn, expectedAll, fedAll}
 use Rattle.enforcement_clients.specs.Functions.{eventsTo, refusalsOf, configurationsAt}
@@ -60,9 +64,16 @@ pub record EventsBrought (a : Automaton) (t : List ℕ) (cs : List Configuration
   pub other-event : (n i e : ℕ) → (i ≡ g → ⊥) → ownAll a t cs g (receiveFor n i e ∷ []) ≡ []
   pub day : (n : ℕ) (vs out : List ℕ) → runForRefusal a t (take n cs) vs out ≡ 0 → g < length (take n cs)
       → ownAll a t cs g (runFor n vs out ∷ []) ≡ eventsOf g (named vs)
+  -- a record of the feed: one that is let in, of this client or another
+  pub own-record : (n : ℕ) (s : List ℕ) (x : Expected) (serial e : ℕ) → listRefusal a t (length (take n cs)) ≡ 0
+      → g < length (take n cs) → InTime s x serial g e → ownAll a t cs g (feedFor n s x ∷ []) ≡ e ∷ []
+  pub other-record : (n : ℕ) (s : List ℕ) (x : Expected) (serial i e : ℕ) → (i ≡ g → ⊥) → InTime s x serial i e
+      → ownAll a t cs g (feedFor n s x ∷ []) ≡ []
   pub refused-event : (n i e : ℕ) → (listRefusal a t (length (take n cs)) ≡ 0 → ⊥) → ownAll a t cs g (receiveFor n i e ∷ []) ≡ []
   pub refused-day : (n : ℕ) (vs out : List ℕ) → (runForRefusal a t (take n cs) vs out ≡ 0 → ⊥)
       → ownAll a t cs g (runFor n vs out ∷ []) ≡ []
+  pub refused-record : (n : ℕ) (s : List ℕ) (x : Expected) → (entryRefusal a t (length (take n cs)) s x ≡ 0 → ⊥)
+      → ownAll a t cs g (feedFor n s x ∷ []) ≡ []
   pub not-lent : (x : ClientCall) → length (take (lentBy x) cs) ≤ g → ownAll a t cs g (x ∷ []) ≡ []
 
 abbrev pub EventsBroughtAsWorded : Type 0
@@ -72,8 +83,8 @@ EventsBroughtAsWorded = (a : Automaton) (t : List ℕ) (cs : List Configuration)
 unfoldable pub outcomesTo : Automaton → List ℕ → List Configuration → ℕ → List ClientCall → List Outcome
 outcomesTo a t = seenAll a t (monitored a t .says) (monitored a t .absent)
 
--- It is what the calls answer: to an event the row and the symbols of its answer; in a day the
--- client's part of what the day's events bring.
+-- It is what the calls answer: to an event, or to a record that brings it, the row and the symbols
+-- of its answer; in a day the client's part of what the day's events bring.
 pub record OutcomesAnswered (a : Automaton) (t : List ℕ) (cs : List Configuration) (g : ℕ) : Type 0 where
   pub nothing : outcomesTo a t cs g [] ≡ []
   pub first : (x : ClientCall) (xs : List ClientCall)
@@ -82,11 +93,14 @@ pub record OutcomesAnswered (a : Automaton) (t : List ℕ) (cs : List Configurat
       → outcomesTo a t cs g (receiveFor n g e ∷ []) ≡ outcomeOf (receivedFor a t (take n cs) g e) ∷ []
   pub day : (n : ℕ) (vs out : List ℕ) → g < length (take n cs)
       → outcomesTo a t cs g (runFor n vs out ∷ []) ≡ partOf g (named vs) (dayOutcomes a t (take n cs) vs out)
+  pub fed : (n : ℕ) (s : List ℕ) (x : Expected) (serial e : ℕ) → listRefusal a t (length (take n cs)) ≡ 0
+      → g < length (take n cs) → InTime s x serial g e
+      → outcomesTo a t cs g (feedFor n s x ∷ []) ≡ outcomeOf (fedFor a t (take n cs) s x .answer) ∷ []
 
 abbrev pub OutcomesAsAnswered : Type 0
 OutcomesAsAnswered = (a : Automaton) (t : List ℕ) (cs : List Configuration) (g : ℕ) → OutcomesAnswered a t cs g
 
--- Two lists of calls, events and days mixed, over one automaton and table (of any contents), that
+-- Two lists of calls, events, days and records mixed, over one automaton and table (of any contents), that
 -- bring a client with the same configuration the same events: each of them brings the same row and
 -- emits the same, and the last configuration is the same.
 abbrev pub CallsNoninterference : Type 0

@@ -15,42 +15,53 @@ use Rattle.clients_answers.specs.declared.RanFor.{RanFor}
 use Rattle.clients_answers.specs.Listed.{Stepping, outcomes, eventsOf, partOf}
 use Rattle.clients_answers.specs.Clients.{none, named, listRefusal, receivedFor, receivedClients}
 use Rattle.clients_answers.specs.Clients.{runForRefusal, ranFor, ranClients, ranForBuffer}
+use Rattle.feed_record.specs.declared.Expected.{Expected}
+use Rattle.feed_answers.specs.declared.Fed.{Fed}
+use Rattle.feed_answers.specs.Feed.{entryRefusal, fedFor, eventIn, fedClients}
 
 -- A call lends so many of the caller's configurations, from the front (all of them, where there
 -- are no more), so that one call may lend none or too many and another not. Then one event, a
--- client's number and a symbol; or a day of all, its events' numbers and the output lent to it.
+-- client's number and a symbol; or a day of all, its events' numbers and the output lent to it; or
+-- one record of the feed, its bytes and the serial that is expected, which may be any.
 pub data ClientCall : Type 0 where
   receiveFor : ℕ → ℕ → ℕ → ClientCall
   runFor : ℕ → List ℕ → List ℕ → ClientCall
+  feedFor : ℕ → List ℕ → Expected → ClientCall
 
 unfoldable pub lentBy : ClientCall → ℕ
 lentBy (receiveFor n i e) = n
 lentBy (runFor n vs out) = n
+lentBy (feedFor n s x) = n
 
--- its events, each with its client's number
+-- its events, each with its client's number: of the feed one that is let in
 unfoldable pub eventsBy : ClientCall → List (ℕ × ℕ)
 eventsBy (receiveFor n i e) = (i, e) ∷ []
 eventsBy (runFor n vs out) = named vs
+eventsBy (feedFor n s x) = eventIn s x
 
 -- what it answers, and for a day the lent output afterwards
 pub data ClientReply : Type 0 where
   receive : ReceivedFor → ClientReply
   run : RanFor → List ℕ → ClientReply
+  feed : Fed → ClientReply
 
 -- its number of refusal
 unfoldable pub refusalIn : ClientReply → ℕ
 refusalIn (receive r) = r .refusal
 refusalIn (run r out) = r .refusal
+refusalIn (feed r) = r .answer .refusal
 
 unfoldable pub reply : Automaton → List ℕ → List Configuration → ClientCall → ClientReply
 reply a t cs (receiveFor n i e) = receive (receivedFor a t (take n cs) i e)
 reply a t cs (runFor n vs out) = run (ranFor a t (take n cs) vs out) (ranForBuffer a t (take n cs) vs out)
+reply a t cs (feedFor n s x) = feed (fedFor a t (take n cs) s x)
 
 -- all the caller's configurations afterwards: those lent as the call left them, the others as they
 -- were
 unfoldable pub leaves : Automaton → List ℕ → List Configuration → ClientCall → List Configuration
 leaves a t cs (receiveFor n i e) = receivedClients a t (take n cs) i e ++ drop n cs
 leaves a t cs (runFor n vs out) = ranClients a t (take n cs) vs out ++ drop n cs
+leaves a t cs (feedFor n s x) = fedClients a t (take n cs) s x ++ drop n cs
 
 unfoldable pub replies : Automaton → List ℕ → List Configuration → List ClientCall → List ClientReply
 replies a t cs [] = []
@@ -60,10 +71,11 @@ unfoldable pub leavesAll : Automaton → List ℕ → List Configuration → Lis
 leavesAll a t cs [] = cs
 leavesAll a t cs (x ∷ xs) = leavesAll a t (leaves a t cs x) xs
 
--- the row that refuses a call as a whole: 11, 12, 20, and 16 of a day
+-- the row that refuses a call as a whole: 11, 12, 20; 16 of a day; 1, 2, 10, 21 and 22 of a record
 unfoldable pub wholeRefusal : Automaton → List ℕ → List Configuration → ClientCall → ℕ
 wholeRefusal a t cs (receiveFor n i e) = listRefusal a t (length (take n cs))
 wholeRefusal a t cs (runFor n vs out) = runForRefusal a t (take n cs) vs out
+wholeRefusal a t cs (feedFor n s x) = entryRefusal a t (length (take n cs)) s x
 
 -- a call reaches the client g: it is not refused as a whole, and lends g's configuration
 unfoldable pub reaches : Automaton → List ℕ → List Configuration → ℕ → ClientCall → Bool

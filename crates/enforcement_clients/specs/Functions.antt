@@ -1,10 +1,11 @@
 -- The published functions, one for each client (document 02, Card 1): each is fed its client's own
 -- events, and together they say what every call answers. They know the automaton, and no table,
--- configuration or list of them.
+-- configuration or list of them. Whether a record of the feed is let in is no matter of theirs:
+-- that is `admission` (in words: `RecordsAsWorded` of crate `feed_record`).
 use Prim.Native.Nat.{ℕ, zero, suc, _+_, min}
-use mathlib.Core.Bool.{Bool, cond, _&&_, _||_}
+use mathlib.Core.Bool.{Bool, false, cond, _&&_, _||_}
 use mathlib.Core.List.{List, [], _∷_, _++_}
-use lib.ListN.{length, drop}
+use lib.ListN.{length, drop, replicate}
 use lib.Dec.{eqb, leb, ltb}
 use Rattle.base.specs.Pad.{pad}
 use Rattle.automaton.specs.declared.Automaton.{Automaton}
@@ -12,11 +13,13 @@ use Rattle.configuration.specs.declared.Configuration.{Configuration}
 use Rattle.monitor_rule.specs.Step.{bySets}
 use Rattle.enforcement.specs.Store.{Store, empty, stateOf, refusalAt, store, storeAll, refusedOf}
 use Rattle.enforcement.specs.Calls.{since, configurationAt}
+use Rattle.clients_answers.specs.declared.ReceivedFor.{ReceivedFor}
 use Rattle.clients_answers.specs.Listed.{eventsOf}
 use Rattle.clients_answers.specs.Clients.{named}
 use Rattle.clients_answers.specs.Claims.{sumBelow}
-use Rattle.enforcement_clients.specs.ClientCalls.{ClientCall, receiveFor, runFor, lentBy, eventsBy}
-use Rattle.enforcement_clients.specs.ClientCalls.{ClientReply, receive, run}
+use Rattle.feed_record.specs.Records.{admission}
+use Rattle.enforcement_clients.specs.ClientCalls.{ClientCall, receiveFor, runFor, feedFor, lentBy, eventsBy}
+use Rattle.enforcement_clients.specs.ClientCalls.{ClientReply, receive, run, feed}
 
 -- by the client's number
 abbrev pub Functions : Type 0
@@ -42,6 +45,7 @@ noRoom n ss vs size = ltb size (length vs + sumBelow n (λ g. length (ss g .buff
 unfoldable pub refusalOf : ℕ → Functions → ClientCall → ℕ
 refusalOf n ss (receiveFor l i e) = cond (badCount n) 20 0
 refusalOf n ss (runFor l vs out) = cond (badCount n) 20 (cond (noRoom n ss vs (length out)) 16 0)
+refusalOf n ss (feedFor l s x) = cond (badCount n) 20 (admission s x .refusal)
 
 -- such a call brings none of them an event
 unfoldable pub fedIn : Automaton → ℕ → Functions → ClientCall → Functions
@@ -66,24 +70,40 @@ refusedDay a n ss xs = sumBelow n (λ g. refusedOf a (ss g) (eventsOf g xs)) + a
 unfoldable pub eventRefusalOf : Automaton → ℕ → Functions → ℕ → ℕ → ℕ
 eventRefusalOf a n ss i e = cond (badCount n) 20 (cond (leb n i) 19 (refusalAt a (ss i) e))
 
--- the reply that they give to a call that lends n: to an event, what its client's function put out
--- then, and whether its state lies in S of its buffer; to a day, what they put out, then the old
--- bytes
-unfoldable pub expectedIn : Automaton → ℕ → Functions → ClientCall → ClientReply
-expectedIn a n ss (receiveFor l i e) =
-    let z = fedIn a n ss (receiveFor l i e) i in
+-- what they answer to an event where n are lent: what its client's function put out then, and
+-- whether its state lies in S of its buffer
+unfoldable pub answerIn : Automaton → ℕ → Functions → ℕ → ℕ → ReceivedFor
+answerIn a n ss i e =
+    let z = fedIn a n ss (receiveFor n i e) i in
     let m = eventRefusalOf a n ss i e in
-    receive (record {
+    record {
       refusal = m;
       emitted = pad 7 (since (ss i) z);
       count = length (since (ss i) z);
       winning = eqb m 0 && bySets a (z .buffer) (stateOf a z);
-    })
+    }
+
+-- the reply that they give to a call that lends n: to a day, what they put out, then the old
+-- bytes; to a record that is let in, their answer to its event, with the loss and the serial that
+-- is expected next; to one that is not, its row and place, and the expected serial as it was given
+unfoldable pub expectedIn : Automaton → ℕ → Functions → ClientCall → ClientReply
+expectedIn a n ss (receiveFor l i e) = receive (answerIn a n ss i e)
 expectedIn a n ss (runFor l vs out) =
     let m = refusalOf n ss (runFor l vs out) in
     let new = cond (eqb m 0) (putOut a n ss (named vs)) [] in
     run (record { refusal = m; length = length new; refused = cond (eqb m 0) (refusedDay a n ss (named vs)) 0 })
     (new ++ drop (length new) out)
+expectedIn a n ss (feedFor l s x) =
+    let m = admission s x in
+    let row = refusalOf n ss (feedFor l s x) in
+    feed (cond (eqb row 0)
+    (record { answer = answerIn a n ss (m .client) (m .symbol); place = 0; expected = m .expected; loss = m .loss })
+    (record {
+      answer = record { refusal = row; emitted = replicate 7 0; count = 0; winning = false };
+      place = cond (badCount n) 0 (m .place);
+      expected = x;
+      loss = 0;
+    }))
 
 -- a call lends what it says, or all
 unfoldable pub lentOf : ℕ → ClientCall → ℕ

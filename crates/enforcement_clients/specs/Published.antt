@@ -1,7 +1,8 @@
 -- The published functions in document 02's words: what they answer to a call that lends n, and
 -- what each of them is after it, from what it was before. (What one function makes of its own
 -- event is `FollowsPublished`, of crate `enforcement`.) Of the calls over the list only how a
--- day's numbers are read is used (`named`, pinned by `NumbersAsWorded`).
+-- day's numbers are read is used (`named`, pinned by `NumbersAsWorded`), and which records of the
+-- feed are let in (`admission`, pinned by `RecordsAsWorded`).
 use Prim.Native.Nat.{ℕ, suc, _+_, _<_, _≤_}
 use mathlib.Core.Path.{_≡_}
 use mathlib.Core.Logic.{_⊎_, _↔_}
@@ -14,9 +15,15 @@ use Rattle.monitor_rule.specs.Step.{bySets}
 use Rattle.monitor_rule.specs.Claims.{Unknown, Full, Admitted}
 use Rattle.enforcement.specs.Store.{stateOf, store}
 use Rattle.enforcement.specs.Calls.{since}
+use Rattle.clients_answers.specs.declared.ReceivedFor.{ReceivedFor}
 use Rattle.clients_answers.specs.Clients.{named}
 use Rattle.clients_answers.specs.Claims.{WrongCount, RightCount, sumBelow}
-use Rattle.enforcement_clients.specs.ClientCalls.{receiveFor, runFor, receive, run, refusalIn}
+use Rattle.feed_record.specs.declared.Expected.{Expected}
+use Rattle.feed_record.specs.declared.Expected.the-variants.{Serial}
+use Rattle.feed_record.specs.Serials.{following, ahead}
+use Rattle.feed_record.specs.Records.{admission}
+use Rattle.feed_record.specs.Claims.{InTime}
+use Rattle.enforcement_clients.specs.ClientCalls.{receiveFor, runFor, feedFor, receive, run, feed, refusalIn}
 use Rattle.enforcement_clients.specs.Functions.{Functions, fedOwn, fedIn, putOut, refusedDay, expectedIn}
 
 -- One event: k is how many the call asks to lend, n how many it lends, i the client, e the symbol.
@@ -94,10 +101,44 @@ pub record DayAsPublished (a : Automaton) (n : ℕ) (ss : Functions) (k : ℕ) (
       expectedIn a n ss (runFor k vs out)
       ≡ run (record { refusal = 0; length = length new; refused = refusedDay a n ss (named vs) }) (new ++ drop (length new) out)
 
+-- One record of the feed: its bytes s and the serial x that is expected, which may be any. (When
+-- it is let in: `RecordsAsWorded` of crate `feed_record`.)
+pub record FeedAsPublished (a : Automaton) (n : ℕ) (ss : Functions) (k : ℕ) (s : List ℕ) (x : Expected) : Type 0 where
+  -- row 20 first, then the record's own
+  pub row-20 : (refusalIn (expectedIn a n ss (feedFor k s x)) ≡ 20) ↔ WrongCount n
+  pub wrong-count : WrongCount n
+      → expectedIn a n ss (feedFor k s x)
+      ≡ feed (record {
+        answer = record { refusal = 20; emitted = replicate 7 0; count = 0; winning = false };
+        place = 0;
+        expected = x;
+        loss = 0;
+      })
+  pub not-let-in : RightCount n → (admission s x .refusal ≡ 0 → ⊥)
+      → expectedIn a n ss (feedFor k s x)
+      ≡ feed (record {
+        answer = record { refusal = admission s x .refusal; emitted = replicate 7 0; count = 0; winning = false };
+        place = admission s x .place;
+        expected = x;
+        loss = 0;
+      })
+  -- neither brings any of them an event
+  pub wrong-count-fed : (g : ℕ) → WrongCount n → fedIn a n ss (feedFor k s x) g ≡ ss g
+  pub not-let-in-fed : (g : ℕ) → (admission s x .refusal ≡ 0 → ⊥) → fedIn a n ss (feedFor k s x) g ≡ ss g
+  -- let in, it is fed and answered as its event, refused then or not; the serial that follows the
+  -- one received is expected next, and the loss is answered
+  pub let-in-fed : (g serial client symbol : ℕ) → InTime s x serial client symbol
+      → fedIn a n ss (feedFor k s x) g ≡ fedIn a n ss (receiveFor k client symbol) g
+  pub let-in : RightCount n → (serial client symbol : ℕ) → InTime s x serial client symbol
+      → (r : ReceivedFor) → expectedIn a n ss (receiveFor k client symbol) ≡ receive r
+      → expectedIn a n ss (feedFor k s x)
+      ≡ feed (record { answer = r; place = 0; expected = Serial (following serial); loss = ahead x serial })
+
 pub record ClientsAsPublished (a : Automaton) (n : ℕ) (ss : Functions) : Type 0 where
   pub event : (k i e : ℕ) → EventAsPublished a n ss k i e
   pub events : EventsAsPublished a n ss
   pub day : (k : ℕ) (vs out : List ℕ) → DayAsPublished a n ss k vs out
+  pub fed : (k : ℕ) (s : List ℕ) (x : Expected) → FeedAsPublished a n ss k s x
 
 -- so it is of every automaton, however many are lent and whatever the functions hold
 abbrev pub ClientsFollowPublished : Type 0
