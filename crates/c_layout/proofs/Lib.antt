@@ -3,3 +3,4 @@ pub mod Trips
 pub mod Offsets
 pub mod ClientCalls
 pub mod Handing
+pub mod FeedCalls

@@ -2,11 +2,12 @@
 use Prim.Native.Nat.{ℕ, zero, suc, _+_, _*_, _/_, _%_, _^_, _<_}
 use mathlib.Core.Path.{_≡_, refl, sym, _∙_, ap}
 use mathlib.Core.Bool.{Bool, true, cond}
-use mathlib.Core.List.{List, [], _∷_, _++_, append-nil}
+use mathlib.Core.List.{List, [], _∷_, _++_, append-nil, append-assoc}
 use native.Mathlib.Nat.{zero-add, div-one, div-div-eq-div-mul, mul-comm, pow-suc}
 use native.Mathlib.Omega.{arith}
 use lib.ListN.{length, getD, take, drop, length-append, List·getD-append}
 use lib.Seq.{getD-take, getD-drop, getD-append-add, getD-at, take-at, drop-at}
+use borrow.Author.Tests.{ne-eqb}
 use Rattle.automaton.specs.declared.Automaton.{Automaton}
 use Rattle.automaton.specs.Automaton.{step, shaped}
 use Rattle.configuration.specs.declared.Configuration.{Configuration}
@@ -14,14 +15,17 @@ use Rattle.monitor_answers.specs.declared.Received.{Received}
 use Rattle.monitor_answers.specs.declared.Ran.{Ran}
 use Rattle.clients_answers.specs.declared.ReceivedFor.{ReceivedFor}
 use Rattle.clients_answers.specs.declared.RanFor.{RanFor}
+use Rattle.feed_record.specs.declared.Expected.the-variants.{Serial}
+use Rattle.feed_answers.specs.declared.Fed.{Fed}
 use Rattle.c_layout.specs.Offsets.{maxSymbols, maxStates, maxNext, maxCapacity, maxEmitted}
 use Rattle.c_layout.specs.Offsets.{automatonSize, automatonClasses, automatonAccepting, automatonNext}
-use Rattle.c_layout.specs.Offsets.{configurationSize, configurationBuffer, numberSize, receivedCount, receivedWinning}
+use Rattle.c_layout.specs.Offsets.{configurationSize, configurationBuffer, numberSize, receivedSize, receivedEmitted, receivedCount, receivedWinning}
+use Rattle.c_layout.specs.Offsets.{expectedSize, fedPlace}
 use Rattle.c_layout.specs.Layout.{byteAt, part, automatonOf, automatonBytes, configurationOf, configurationBytes}
-use Rattle.c_layout.specs.Layout.{numberOf, numberBytes}
-use Rattle.c_layout.specs.Answers.{statusBytes, eventBytes, dayBytes, receivedBytes, receivedForBytes, ranBytes, ranForBytes, verdictBytes}
-use Rattle.c_layout.specs.Calls.{receivedLeft, ranLeft, receivedForLeft, ranForLeft}
-use Rattle.c_layout.specs.Claims.{YesOrNo, NumberAt, AutomatonIn, ConfigurationIn, ReceivedIn, RanIn, OffsetsHold}
+use Rattle.c_layout.specs.Layout.{numberOf, numberBytes, expectedOf}
+use Rattle.c_layout.specs.Answers.{statusBytes, eventBytes, dayBytes, receivedBytes, receivedForBytes, ranBytes, ranForBytes, fedBytes, verdictBytes}
+use Rattle.c_layout.specs.Calls.{receivedLeft, ranLeft, receivedForLeft, ranForLeft, fedLeft}
+use Rattle.c_layout.specs.Claims.{YesOrNo, NumberAt, AutomatonIn, ConfigurationIn, ReceivedIn, RanIn, FedIn, ExpectedIn, OffsetsHold}
 use Rattle.c_layout.proofs.Laying.{number-length}
 use Rattle.c_layout.proofs.Trips.{shaped-lengths, automaton-kept, configuration-kept, number-kept}
 
@@ -141,6 +145,40 @@ ran-for-in : (r : RanFor) (cs : List Configuration) (out : List ℕ) → RanIn (
 unfolding ranForLeft ranForBytes
 ran-for-in r cs out = day-in (r .length) (r .refused)
 
+-- a record of the feed: its event's bytes, then two numbers
+fed-in : (r : Fed) (cs : List Configuration) (lent : List ℕ) → length (r .answer .emitted) ≡ maxEmitted → FedIn r (fedLeft r cs lent .answer)
+unfolding fedLeft fedBytes receivedForBytes
+fed-in r cs lent long =
+    let answer = r .answer in
+    let event = eventBytes (answer .emitted) (answer .count) (answer .winning) in
+    let n = numberBytes numberSize (r .loss) in
+    let m = numberBytes numberSize (r .place) in
+    let e = event-in (answer .emitted) (answer .count) (answer .winning) long in
+    let size : length event ≡ receivedSize = e .size in
+    let front : (i : ℕ) → i < receivedSize → byteAt (event ++ (n ++ m)) i ≡ byteAt event i =
+    λ i h. List·getD-append event (n ++ m) 0 i (omega arith) in
+    let loss : NumberAt (r .loss) (length event) (event ++ (n ++ m)) = number-at (r .loss) event m in
+    let place : NumberAt (r .place) (length (event ++ n)) ((event ++ n) ++ (m ++ [])) = number-at (r .place) (event ++ n) [] in
+    let before : length (event ++ n) ≡ fedPlace = length-append event n ∙ omega (arith, number-length numberSize (r .loss)) in
+    record {
+      size = simp length-append (omega (arith, number-length numberSize (r .loss), number-length numberSize (r .place)));
+      emitted = λ i h. front (receivedEmitted + i) (omega arith) ∙ e .emitted i h;
+      count = front receivedCount (omega arith) ∙ e .count;
+      winning = rw (front receivedWinning (omega arith)) (e .winning);
+      loss = rw size at loss;
+      place = rw (before, append-nil m, append-assoc event n m) at place;
+    }
+
+-- the expected serial
+expected-in : (bytes : List ℕ) → length bytes ≡ expectedSize → ExpectedIn bytes
+unfolding expectedOf part numberOf
+expected-in (known ∷ low ∷ high ∷ []) long =
+    record { unknown = λ z. rw z; known = λ z. rw (ne-eqb known 0 z) (ap Serial (omega arith)) }
+expected-in [] long = absurd (omega arith)
+expected-in (known ∷ []) long = absurd (omega arith)
+expected-in (known ∷ low ∷ []) long = absurd (omega arith)
+expected-in (known ∷ low ∷ high ∷ x ∷ bytes) long = absurd (omega arith)
+
 pub offsets-hold : OffsetsHold
 unfolding statusBytes verdictBytes
 offsets-hold =
@@ -155,5 +193,7 @@ offsets-hold =
       received-for = received-for-in;
       ran = ran-in;
       ran-for = ran-for-in;
+      expected = expected-in;
+      fed = fed-in;
       verdict = λ v. record { size = refl; may-rest = yes-or-no (v .«may_rest»); can-rest = yes-or-no (v .«can_rest») };
     }
