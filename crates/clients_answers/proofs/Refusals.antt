@@ -117,6 +117,16 @@ module _ (a : Automaton) (t : List ℕ) (count : ℕ) where
   unfolding listRefusal listRows tableRows first
   list-clear z = list-later [] 0 (inner-later 0 (inl refl)) (λ k. Iff·rfl) .0 z .0
 
+  -- no other number
+  pub list-number : (listRefusal a t count ≡ 0 → ⊥) → (listRefusal a t count ≡ 11) ⊎ (listRefusal a t count ≡ 12) ⊎ (listRefusal a t count ≡ 20)
+  unfolding listRefusal listRows tableRows first
+  list-number z =
+      by (valid a)
+      (λ v. by (short a t)
+      (λ s. inr (inl (rw (v, s))))
+      (λ s. by (rightCount count) (λ c. absurd (z (rw (v, s, c)))) (λ c. inr (inr (rw (v, s, c))))))
+      (λ v. inl (rw v))
+
   pub clear-opened : ListClear a t count → Opened a t
   clear-opened k = record { record-valid = k .record-valid; table-long = k .table-long }
 
