@@ -7,6 +7,12 @@ ghost use Rattle.base.specs.Masks.{has};
 // A byte as a wider number. A byte of a slice that is read through these needs no proof of its
 // range.
 
+pub fn as_u16(b: u8) -> u16
+    ensures { λ r. ⌜ (r ≡ b) × (r < 256) ⌝ }
+{
+    b as u16
+}
+
 pub fn as_u32(b: u8) -> u32
     ensures { λ r. ⌜ (r ≡ b) × (r < 256) ⌝ }
 {

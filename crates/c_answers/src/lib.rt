@@ -1,6 +1,10 @@
 // How numbers and answers lie in the bytes that a caller lends: what a call hands back beside its
 // refusal and the configuration.
 use base::copy;
+use c_layout::EXPECTED_SIZE;
+use c_layout::FED_LOSS;
+use c_layout::FED_PLACE;
+use c_layout::FED_SIZE;
 use c_layout::MAX_EMITTED;
 use c_layout::NUMBER_SIZE;
 use c_layout::RAN_LENGTH;
@@ -12,17 +16,19 @@ use c_layout::RECEIVED_SIZE;
 use c_layout::RECEIVED_WINNING;
 use c_layout::STATUS_SIZE;
 use c_layout::VERDICT_SIZE;
+use c_records::lay_expected;
 use clients_answers::RanFor;
 use clients_answers::ReceivedFor;
+use feed_answers::Fed;
 use game::Verdict;
 use monitor_answers::Ran;
 use monitor_answers::Received;
 use monitor_answers::Status;
 ghost use mathlib.Core.Path.{_≡_};
 ghost use Rattle.c_layout.specs.Offsets.{numberSize};
-ghost use Rattle.c_layout.specs.Layout.{numberBytes};
+ghost use Rattle.c_layout.specs.Layout.{numberBytes, expectedLaid};
 ghost use Rattle.c_layout.specs.Answers.{statusBytes, eventBytes, dayBytes, receivedBytes, receivedForBytes};
-ghost use Rattle.c_layout.specs.Answers.{ranBytes, ranForBytes, verdictBytes};
+ghost use Rattle.c_layout.specs.Answers.{ranBytes, ranForBytes, fedBytes, verdictBytes};
 
 // A number in eight bytes, low byte first.
 pub fn number_bytes(value: usize) -> [u8; NUMBER_SIZE]
@@ -98,6 +104,34 @@ pub fn lay_ran_for(r: RanFor, answer: &mut [u8; RAN_SIZE]) -> u8
 {
     *answer = day_bytes(r.length, r.refused);
     r.refusal
+}
+
+// One record of the feed: the answer to its event, then the loss and the place.
+fn fed_bytes(r: Fed) -> [u8; FED_SIZE]
+    ensures { λ b. ⌜ b ≡ fedBytes r ⌝ }
+{
+    let answer = r.answer;
+    let emitted = answer.emitted;
+    let event = event_bytes(emitted, answer.count, answer.winning);
+    let loss = number_bytes(r.loss as usize);
+    let place = number_bytes(r.place);
+    let mut bytes = [0u8; FED_SIZE];
+    copy(&event, 0, RECEIVED_SIZE, &mut bytes, 0);
+    copy(&loss, 0, NUMBER_SIZE, &mut bytes, FED_LOSS);
+    copy(&place, 0, NUMBER_SIZE, &mut bytes, FED_PLACE);
+    bytes
+}
+
+// Lays the answer to a record and the expected serial, and gives the refusal, likewise.
+pub fn lay_fed(r: Fed, expected: &mut [u8; EXPECTED_SIZE], answer: &mut [u8; FED_SIZE]) -> u8
+    ensures { λ n. ⌜ (n ≡ r .answer .refusal) × (now (expected .exit) ≡ expectedLaid (r .expected) (now (expected .entry)))
+        × (now (answer .exit) ≡ fedBytes r) ⌝ }
+{
+    let next = r.expected;
+    lay_expected(next, expected);
+    *answer = fed_bytes(r);
+    let event = r.answer;
+    event.refusal
 }
 
 pub fn verdict_bytes(v: Verdict) -> [u8; VERDICT_SIZE]

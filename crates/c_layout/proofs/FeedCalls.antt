@@ -21,13 +21,22 @@ use Rattle.feed_answers.specs.Feed.{entryRefusal, fedFor, fedClients}
 use Rattle.feed_answers.proofs.Entering.{entry-list, entry-record, entry-clear, fed-list, fed-record}
 use Rattle.feed_answers.proofs.Worded.{feed-rows-as-worded, feed-answered-as-worded, feed-emitted-padded}
 use Rattle.clients_answers.proofs.Refusals.{list-clear}
-use Rattle.c_layout.specs.Offsets.{numberSize, receivedSize, expectedSize, fedLoss}
-use Rattle.c_layout.specs.Layout.{part, automatonOf, numberOf, numberBytes, expectedOf, expectedBytes, sameExpected, expectedLaid}
+use Rattle.c_layout.specs.Offsets.{numberSize, receivedSize, expectedSize, expectedKnown, expectedSerial, fedLoss}
+use Rattle.c_layout.specs.Layout.{byteAt, part, automatonOf, numberOf, numberBytes, expectedOf, expectedBytes, sameExpected, expectedLaid}
 use Rattle.c_layout.specs.Answers.{receivedForBytes, fedBytes}
 use Rattle.c_layout.specs.Calls.{receivedForLeft, fedLeft, feedLeaves}
 use Rattle.c_layout.specs.Claims.{ExpectedKept, FeedLeftAsAnswered}
 use Rattle.c_layout.proofs.Laying.{number-length}
 use Rattle.c_layout.proofs.Offsets.{offsets-hold}
+
+-- out of bytes
+pub expected-none : (bytes : List ℕ) → byteAt bytes expectedKnown ≡ 0 → Any ≡ expectedOf bytes
+unfolding expectedOf
+expected-none bytes z = rw z
+
+pub expected-some : (bytes : List ℕ) → length bytes ≡ expectedSize → (byteAt bytes expectedKnown ≡ 0 → ⊥) → (low high : ℕ)
+    → low ≡ byteAt bytes expectedSerial → high ≡ byteAt bytes (expectedSerial + 1) → Serial (low + high * 256) ≡ expectedOf bytes
+expected-some bytes long z low high l h = ap Serial (omega arith) ∙ sym (offsets-hold .expected bytes long .known z)
 
 -- the test whether two are the same
 same-itself : (x : Expected) → sameExpected x x ≡ true
@@ -50,6 +59,16 @@ laid-same lent = rw (same-itself (expectedOf lent))
 laid-other : (x : Expected) (lent : List ℕ) → sameExpected (expectedOf lent) x ≡ false → expectedLaid x lent ≡ expectedBytes x
 unfolding expectedLaid
 laid-other x lent h = rw h
+
+-- .. where what they say is y
+module _ (x y : Expected) (lent : List ℕ) (e : y ≡ expectedOf lent) where
+  pub lays-already : sameExpected y x ≡ true → lent ≡ expectedLaid x lent
+  unfolding expectedLaid
+  lays-already h = rw (sym e, h)
+
+  pub lays-anew : sameExpected y x ≡ false → expectedBytes x ≡ expectedLaid x lent
+  unfolding expectedLaid
+  lays-anew h = rw (sym e, h)
 
 kept-laid : (x : Expected) (lent : List ℕ) → expectedOf (expectedBytes x) ≡ x → expectedOf (expectedLaid x lent) ≡ x
 kept-laid x lent e =

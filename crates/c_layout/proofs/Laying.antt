@@ -11,13 +11,14 @@ use Rattle.base.specs.Pad.{pad}
 use Rattle.base.proofs.Padding.{pad-sets, pad-stored}
 use Rattle.automaton.specs.declared.Automaton.{Automaton}
 use Rattle.configuration.specs.declared.Configuration.{Configuration}
+use Rattle.feed_answers.specs.declared.Fed.{Fed}
 use Rattle.c_layout.specs.Offsets.{maxStates, maxSymbols, maxNext, maxCapacity, maxEmitted}
 use Rattle.c_layout.specs.Offsets.{automatonSize, automatonStates, automatonSymbols, automatonCapacity, automatonInitial}
 use Rattle.c_layout.specs.Offsets.{automatonClasses, automatonAccepting, automatonNext}
 use Rattle.c_layout.specs.Offsets.{configurationSize, configurationState, configurationHeld, configurationBuffer, numberSize}
 use Rattle.c_layout.specs.Offsets.{receivedSize, receivedEmitted, receivedCount, receivedWinning}
-use Rattle.c_layout.specs.Offsets.{ranSize, ranLength, ranRefused}
-use Rattle.c_layout.specs.Answers.{eventBytes, dayBytes}
+use Rattle.c_layout.specs.Offsets.{ranSize, ranLength, ranRefused, fedSize, fedLoss, fedPlace}
+use Rattle.c_layout.specs.Answers.{eventBytes, dayBytes, receivedForBytes, fedBytes}
 use Rattle.c_layout.specs.Layout.{byteAt, part, numberBytes, automatonOf, automatonBytes, configurationOf, configurationBytes}
 
 -- as many stores as there are places
@@ -197,3 +198,31 @@ day-laid written refused n m x y e f xs ys =
     pad-array ranSize ranRefused numberSize n m a b (omega arith) ∙
     pad-full ranSize (n ++ m) (length-append n m ∙ omega arith) ∙
     rw (e, f)
+
+pub fed-laid : (r : Fed) (e n m x y z : List ℕ) → length e ≡ receivedSize
+    → e ≡ eventBytes (r .answer .emitted) (r .answer .count) (r .answer .winning)
+    → n ≡ numberBytes numberSize (r .loss) → m ≡ numberBytes numberSize (r .place)
+    → x ≡ sets (replicate fedSize 0) 0 (take receivedSize (drop 0 e))
+    → y ≡ sets x fedLoss (take numberSize (drop 0 n))
+    → z ≡ sets y fedPlace (take numberSize (drop 0 m))
+    → z ≡ fedBytes r
+unfolding fedBytes receivedForBytes
+fed-laid r e n m x y z long ee en em xs ys zs =
+    let size = fedSize in
+    let b : length n ≡ numberSize = ap length en ∙ number-length numberSize (r .loss) in
+    let d : length m ≡ numberSize = ap length em ∙ number-length numberSize (r .place) in
+    let one : x ≡ pad size e =
+    xs ∙ ap (λ l. sets (replicate size 0) 0 l) (take-all receivedSize e (omega arith)) ∙ pad-stored size e (omega arith) in
+    let two : y ≡ pad size (e ++ n) =
+    ys ∙
+    ap (λ l. sets l fedLoss (take numberSize (drop 0 n))) one ∙
+    pad-array size fedLoss numberSize e n long b (omega arith) in
+    let k : length (e ++ n) ≡ fedPlace = length-append e n ∙ omega arith in
+    let three : z ≡ pad size ((e ++ n) ++ m) =
+    zs ∙
+    ap (λ l. sets l fedPlace (take numberSize (drop 0 m))) two ∙
+    pad-array size fedPlace numberSize (e ++ n) m k d (omega arith) in
+    three ∙
+    pad-full size ((e ++ n) ++ m) (length-append (e ++ n) m ∙ omega arith) ∙
+    append-assoc e n m ∙
+    rw (ee, en, em)

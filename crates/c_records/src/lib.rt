@@ -1,6 +1,7 @@
-// How an automaton and a configuration lie in the bytes that a caller lends: into bytes and out of
-// them.
+// How an automaton, a configuration and the expected serial of a feed lie in the bytes that a
+// caller lends: into bytes and out of them.
 use automaton::Automaton;
+use base::as_u16;
 use base::copy;
 use c_layout::AUTOMATON_ACCEPTING;
 use c_layout::AUTOMATON_CAPACITY;
@@ -14,13 +15,18 @@ use c_layout::CONFIGURATION_BUFFER;
 use c_layout::CONFIGURATION_HELD;
 use c_layout::CONFIGURATION_SIZE;
 use c_layout::CONFIGURATION_STATE;
+use c_layout::EXPECTED_KNOWN;
+use c_layout::EXPECTED_SERIAL;
+use c_layout::EXPECTED_SIZE;
 use c_layout::MAX_CAPACITY;
 use c_layout::MAX_NEXT;
 use c_layout::MAX_STATES;
 use c_layout::MAX_SYMBOLS;
 use configuration::Configuration;
+use feed_record::Expected;
 ghost use mathlib.Core.Path.{_≡_};
 ghost use Rattle.c_layout.specs.Layout.{automatonOf, automatonBytes, configurationOf, configurationBytes};
+ghost use Rattle.c_layout.specs.Layout.{expectedOf, expectedBytes, expectedLaid, sameExpected};
 
 pub fn automaton_of(bytes: &[u8; AUTOMATON_SIZE]) -> Automaton
     ensures { λ r. ⌜ r ≡ automatonOf (now (bytes .entry)) ⌝ }
@@ -76,4 +82,50 @@ pub fn configuration_bytes(c: Configuration) -> [u8; CONFIGURATION_SIZE]
     bytes[CONFIGURATION_HELD] = c.held;
     copy(&c.buffer, 0, MAX_CAPACITY, &mut bytes, CONFIGURATION_BUFFER);
     bytes
+}
+
+// The expected serial: 0 where none is expected, whatever stands behind it; else its two bytes.
+pub fn expected_of(bytes: [u8; EXPECTED_SIZE]) -> Expected
+    ensures { λ r. ⌜ r ≡ expectedOf bytes ⌝ }
+{
+    if bytes[EXPECTED_KNOWN] == 0 {
+        return Expected::Any;
+    }
+    let low = as_u16(bytes[EXPECTED_SERIAL]);
+    let high = as_u16(bytes[EXPECTED_SERIAL + 1]);
+    Expected::Serial(low + high * 256)
+}
+
+fn expected_bytes(x: Expected) -> [u8; EXPECTED_SIZE]
+    ensures { λ r. ⌜ r ≡ expectedBytes x ⌝ }
+{
+    match x {
+        Expected::Any => [0, 0, 0],
+        Expected::Serial(s) => [1, (s % 256) as u8, (s / 256 % 256) as u8],
+    }
+}
+
+fn same_expected(x: Expected, y: Expected) -> bool
+    ensures { λ r. ⌜ r ≡ sameExpected x y ⌝ }
+{
+    match x {
+        Expected::Any => match y {
+            Expected::Any => true,
+            Expected::Serial(_) => false,
+        },
+        Expected::Serial(s) => match y {
+            Expected::Any => false,
+            Expected::Serial(t) => s == t,
+        },
+    }
+}
+
+// Lays an expected serial into lent bytes. Where they say it already, they stay as they are.
+pub fn lay_expected(x: Expected, bytes: &mut [u8; EXPECTED_SIZE])
+    ensures { λ _. ⌜ now (bytes .exit) ≡ expectedLaid x (now (bytes .entry)) ⌝ }
+{
+    let lent = *bytes;
+    if !same_expected(expected_of(lent), x) {
+        *bytes = expected_bytes(x);
+    }
 }
