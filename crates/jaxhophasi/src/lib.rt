@@ -4,6 +4,7 @@
 // where there is none. `include/jaxhophasi.h` declares the functions for C. A list of clients is
 // lent as it lies, one configuration after the other (`repr(C)`), and their number.
 
+use c_answers::lay_fed;
 use c_answers::lay_ran_for;
 use c_answers::lay_received_for;
 use c_answers::number_bytes;
@@ -13,6 +14,8 @@ use c_answers::status_bytes;
 use c_answers::verdict_bytes;
 use c_layout::AUTOMATON_SIZE;
 use c_layout::CONFIGURATION_SIZE;
+use c_layout::EXPECTED_SIZE;
+use c_layout::FED_SIZE;
 use c_layout::NUMBER_SIZE;
 use c_layout::RAN_SIZE;
 use c_layout::RECEIVED_SIZE;
@@ -22,6 +25,7 @@ use c_records::automaton_bytes;
 use c_records::automaton_of;
 use c_records::configuration_bytes;
 use c_records::configuration_of;
+use c_records::expected_of;
 use configuration::Configuration;
 ghost use mathlib.Core.Path.{_≡_};
 ghost use Rattle.automaton_format.specs.Reading.{parse};
@@ -33,7 +37,7 @@ ghost use Rattle.game.specs.Game.{verdict};
 ghost use Rattle.c_layout.specs.Offsets.{numberSize};
 ghost use Rattle.c_layout.specs.Layout.{automatonOf, automatonBytes, configurationOf, numberBytes};
 ghost use Rattle.c_layout.specs.Answers.{statusBytes, verdictBytes};
-ghost use Rattle.c_layout.specs.Calls.{initialBytes, receiveLeaves, runLeaves, receiveForLeaves, runForLeaves};
+ghost use Rattle.c_layout.specs.Calls.{initialBytes, receiveLeaves, runLeaves, receiveForLeaves, runForLeaves, feedLeaves};
 
 // Reads an automaton and checks it. Answered are its record and the place of a fault.
 #[no_mangle]
@@ -217,6 +221,28 @@ pub extern "C" fn jaxhophasi_run_for(
     let a = automaton_of(automaton);
     let ran = clients_day::run(a, table, configurations, events, out);
     lay_ran_for(ran, answer)
+}
+
+// One record of a feed, by its bytes, for a client of a list, as an event of that client. The bytes
+// of the expected serial become those of the next one; kept, they stay as they are.
+#[no_mangle]
+pub extern "C" fn jaxhophasi_feed(
+    automaton: &[u8; AUTOMATON_SIZE],
+    table: &[u32],
+    configurations: &mut [Configuration],
+    bytes: &[u8],
+    expected: &mut [u8; EXPECTED_SIZE],
+    answer: &mut [u8; FED_SIZE],
+) -> u8
+    ensures { λ r. let t = now (table .entry) in let cs = now (configurations .entry) in
+        let x = feedLeaves (now (automaton .entry)) t cs (now (bytes .entry)) (now (expected .entry)) in
+        ⌜ (r ≡ x .refusal) × (now (configurations .exit) ≡ x .configurations) × (now (expected .exit) ≡ x .expected)
+        × (now (answer .exit) ≡ x .answer) ⌝ }
+{
+    let a = automaton_of(automaton);
+    let given = expected_of(*expected);
+    let fed = feed::receive(a, table, configurations, bytes, given);
+    lay_fed(fed, expected, answer)
 }
 
 // The game's two answers for a small automaton (document 01's second judge), without a table.
