@@ -3,19 +3,20 @@
 use Prim.Native.Nat.{ℕ, _<_, _≤_}
 use mathlib.Core.Path.{_≡_}
 use mathlib.Core.Logic.{_⊎_, _↔_}
+use mathlib.Core.Bool.{false}
 use mathlib.Core.List.{List, [], _∷_}
-use lib.ListN.{length, getD}
+use lib.ListN.{length, getD, replicate}
 use Rattle.base.specs.Pad.{UsedTo}
 use Rattle.automaton.specs.declared.Automaton.{Automaton}
 use Rattle.configuration.specs.declared.Configuration.{Configuration}
-use Rattle.clients_answers.specs.Clients.{none, listRefusal, refusedFor, receivedFor, receivedClients}
+use Rattle.clients_answers.specs.Clients.{none, listRefusal, receivedFor, receivedClients}
 use Rattle.clients_answers.specs.Claims.{ListRows, ListClear, ClientRows}
 use Rattle.feed_record.specs.declared.Expected.{Expected}
 use Rattle.feed_record.specs.declared.Expected.the-variants.{Serial}
 use Rattle.feed_record.specs.Serials.{following, ahead}
 use Rattle.feed_record.specs.Records.{admission}
 use Rattle.feed_record.specs.Claims.{InTime}
-use Rattle.feed_answers.specs.Feed.{feedRefusal, refusedFed, deliveredFed, fedFor, eventIn, fedClients}
+use Rattle.feed_answers.specs.Feed.{feedRefusal, fedFor, eventIn, fedClients}
 
 -- a row of the record itself (in words: `RecordsAsWorded` of crate `feed_record`)
 abbrev pub RecordRow : ℕ → Type 0
@@ -39,11 +40,24 @@ FeedRowsAsWorded =
 pub record FeedAnswered (a : Automaton) (t : List ℕ) (cs : List Configuration) (s : List ℕ) (expected : Expected) : Type 0 where
   -- refused by 11, 12 or 20: at no place of the record
   pub by-list : (listRefusal a t (length cs) ≡ 0 → ⊥)
-      → (fedFor a t cs s expected ≡ refusedFed expected (listRefusal a t (length cs)) 0) × (fedClients a t cs s expected ≡ cs)
+      → (fedFor a t cs s expected
+      ≡ record {
+        answer = record { refusal = listRefusal a t (length cs); emitted = replicate 7 0; count = 0; winning = false };
+        place = 0;
+        expected = expected;
+        loss = 0;
+      })
+      × (fedClients a t cs s expected ≡ cs)
   -- by 1, 2, 10, 21 or 22: at its place; the expected serial as it was given, none too
   pub by-record : ListClear a t (length cs) → (admission s expected .refusal ≡ 0 → ⊥)
-      → let m = admission s expected in
-      (fedFor a t cs s expected ≡ refusedFed expected (m .refusal) (m .place)) × (fedClients a t cs s expected ≡ cs)
+      → (fedFor a t cs s expected
+      ≡ record {
+        answer = record { refusal = admission s expected .refusal; emitted = replicate 7 0; count = 0; winning = false };
+        place = admission s expected .place;
+        expected = expected;
+        loss = 0;
+      })
+      × (fedClients a t cs s expected ≡ cs)
   -- let in: all that the call for one event answers, refused or not, and leaves; beside it the
   -- serial that follows the one received, and the loss
   pub let-in : ListClear a t (length cs) → (serial client symbol : ℕ) → InTime s expected serial client symbol
@@ -58,7 +72,8 @@ pub record FeedAnswered (a : Automaton) (t : List ℕ) (cs : List Configuration)
   -- a refused call changes nothing, and answers an event of zeros
   pub refused : (feedRefusal a t cs s expected ≡ 0 → ⊥)
       → (fedClients a t cs s expected ≡ cs)
-      × (fedFor a t cs s expected .answer ≡ refusedFor (feedRefusal a t cs s expected))
+      × (fedFor a t cs s expected .answer
+      ≡ record { refusal = feedRefusal a t cs s expected; emitted = replicate 7 0; count = 0; winning = false })
   -- nor does any call of another client
   pub others : (g : ℕ) → (g ≡ admission s expected .client → ⊥) → getD (fedClients a t cs s expected) g none ≡ getD cs g none
   pub count : length (fedClients a t cs s expected) ≡ length cs

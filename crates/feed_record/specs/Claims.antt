@@ -10,7 +10,7 @@ use Rattle.feed_record.specs.declared.Expected.{Expected}
 use Rattle.feed_record.specs.declared.Expected.the-variants.{Any, Serial}
 use Rattle.feed_record.specs.declared.Admitted.{Admitted}
 use Rattle.feed_record.specs.Serials.{serials, distance, following, ahead}
-use Rattle.feed_record.specs.Records.{turnedAway, letIn, admission}
+use Rattle.feed_record.specs.Records.{admission}
 
 -- The ring of serials in words: the distance forward from x is the one number of steps, fewer than
 -- all, that leads from x to s, and after 65,535 comes 0.
@@ -111,9 +111,19 @@ pub record RecordRows (s : List ℕ) (expected : Expected) (m : Admitted) : Type
   pub known : (m .refusal ≡ 0) ⊎ (m .refusal ≡ 1) ⊎ (m .refusal ≡ 2) ⊎ (m .refusal ≡ 10) ⊎ (m .refusal ≡ 21) ⊎ (m .refusal ≡ 22)
   -- let in: the event, the loss and the next expected serial
   pub admitted : (m .refusal ≡ 0) ↔ Timely s expected
-  pub answer : (serial client symbol : ℕ) → InTime s expected serial client symbol → m ≡ letIn expected serial client symbol
+  pub answer : (serial client symbol : ℕ) → InTime s expected serial client symbol
+      → m
+      ≡ record {
+        refusal = 0;
+        place = 0;
+        expected = Serial (following serial);
+        loss = ahead expected serial;
+        client = client;
+        symbol = symbol;
+      }
   -- refused, the expected serial is kept as given, and nothing is lost
-  pub refused : (m .refusal ≡ 0 → ⊥) → m ≡ turnedAway expected (m .refusal) (m .place)
+  pub refused : (m .refusal ≡ 0 → ⊥)
+      → m ≡ record { refusal = m .refusal; place = m .place; expected = expected; loss = 0; client = 0; symbol = 0 }
 
 abbrev pub RecordsAsWorded : Type 0
 RecordsAsWorded = (s : List ℕ) (expected : Expected) → RecordRows s expected (admission s expected)
@@ -136,7 +146,8 @@ abbrev pub TakenAs : ℕ → Admitted → ℕ → Type 0
 TakenAs S m loss = (m .refusal ≡ 0) × (m .loss ≡ loss) × (m .expected ≡ Serial (serialAt (S + 1)))
 
 abbrev pub TakenAsLate : ℕ → Admitted → Type 0
-TakenAsLate X m = m ≡ turnedAway (Serial (serialAt X)) 22 0
+TakenAsLate X m =
+    m ≡ record { refusal = 22; place = 0; expected = Serial (serialAt X); loss = 0; client = 0; symbol = 0 }
 
 -- m is the answer to it
 pub record Told (X S : ℕ) (m : Admitted) : Type 0 where
