@@ -44,16 +44,9 @@ import sys
 
 sys.path.insert(0, str(pathlib.Path(__file__).resolve().parent.parent / "examples"))
 from day import AUTOMATON_SIZE, CONFIGURATION_SIZE, NUMBER_SIZE, RAN_SIZE, RECEIVED_SIZE, STATUS_SIZE, VERDICT_SIZE
-from day import lent, library_at, number_at, numbers
+from day import filled, lent, library_at, number_at, numbers
 
 TABLE_PLACES = 64
-
-
-def filled(values):
-    """Bytes to lend, with these contents; one place more, so that they are nowhere empty."""
-    out = lent(len(values) + 1)
-    out[:len(values)] = values
-    return out
 
 
 def answer(size):
