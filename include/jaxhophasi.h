@@ -116,7 +116,8 @@ static inline uint64_t jaxhophasi_number_at(const uint8_t *bytes)
 #define JAXHOPHASI_RAN_LENGTH 0  /* bytes of output written */
 #define JAXHOPHASI_RAN_REFUSED 8 /* events refused by 14 or 15, over a list also by 19 or 13 */
 
-/* What jaxhophasi_feed answers: the nine bytes of JAXHOPHASI_RECEIVED_.., then two numbers. */
+/* What jaxhophasi_feed answers: nine bytes as jaxhophasi_receive_for, by the offsets of those, and
+ * then two numbers. */
 #define JAXHOPHASI_FED_SIZE 25
 #define JAXHOPHASI_FED_LOSS 9   /* how many records were lost before this one */
 #define JAXHOPHASI_FED_PLACE 17 /* where in the bytes the fault of row 1, 2 or 10 is; 0 else */
