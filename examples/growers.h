@@ -1,7 +1,7 @@
 /*
  * What the examples in C with many growers share: growers over a sheet, and a text with a few
- * numbers on each line. White space or commas part the numbers; comments go from # to the line's
- * end; a line may have neither.
+ * numbers on each line. White space or commas part the numbers, comments go from # to the line's
+ * end, and lines without a number are passed over.
  */
 #ifndef GROWERS_H
 #define GROWERS_H

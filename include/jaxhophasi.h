@@ -73,15 +73,16 @@ extern "C" {
 #define JAXHOPHASI_CLIENT_EVENT(client, kind) ((uint32_t)(client) * 65536 + (uint32_t)(kind))
 
 /* The expected serial of a feed, lent to jaxhophasi_feed and written by it: three zeros before the
- * first record, then kept as each call leaves it. A feed has one of its own.
+ * first record, then kept as each call leaves it. Each feed has its own.
  *
  * The records of a feed are numbered, and after 65,535 comes 0. How far the serial of a record is
  * forward of the expected one, round that ring, tells how many records were lost before it, 0 to
  * 32,767; from 32,768 on the record is late or a repeat, and 22 refuses it. As serials come round
  * again, they cannot tell all:
  * - A loss of 1 to 32,767 records is reported right. A longer one looks late, or shorter by whole
- *   turns of 65,536: after a loss of 32,768 the next record looks late, after one of 65,537 a loss
- *   of 1 is reported, and one of 65,536 is not seen.
+ *   turns of 65,536: after a loss of 32,768 the next record looks late (and so do those behind it,
+ *   until the expected serial comes round), after one of 65,537 a loss of 1 is reported, and one
+ *   of 65,536 is not seen.
  * - A record late by 1 to 32,768 is refused. One that is later can look new: late by 32,769 it is
  *   let in with a loss of 32,767, late by 65,536 it looks in turn.
  * - The first record is let in whatever its serial is; what was lost before it nobody can tell. */
