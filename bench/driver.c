@@ -1,10 +1,11 @@
 /*
  * Compares the archive with the C version of the same rules, and measures both.
  *
- *   driver compare COUNT   COUNT rounds of every call on sheets, records, tables, states and days,
- *                          valid and damaged; stops at the first difference
- *   driver time            the solver, one event and a day, then a day over lists of clients, both
- *                          in turn, best of several
+ *   driver compare COUNT   COUNT rounds of every call on sheets, records, tables, states, days and
+ *                          feeds, valid and damaged; stops at the first difference
+ *   driver time            the solver, one event and a day, then a day over lists of clients, then
+ *                          one event and one record of a feed over such a list, both in turn, best
+ *                          of several
  */
 #include <stdio.h>
 #include <stdlib.h>
@@ -14,7 +15,8 @@
 #include "jaxhophasi.h"
 #include "reference.h"
 
-enum { GUARD = 16, EVENTS = 1000000 };
+/* The greatest number in seven-bit groups; bytes of a feed's record, and one more. */
+enum { GUARD = 16, EVENTS = 1000000, MAX_NUMBER = 2097151, FEED_BYTES = 10 };
 
 /* Random numbers: the same on every machine. */
 static uint64_t seed;
@@ -106,17 +108,15 @@ static void damage_record(uint8_t *r)
     }
 }
 
-/* A number in seven-bit groups, perhaps padded. */
-static size_t put_number(uint8_t *bytes, uint8_t value, int padded)
+/* A number below 2,097,152 in seven-bit groups, perhaps padded. */
+static size_t put_number(uint8_t *bytes, uint32_t value, int padded)
 {
-    size_t used = 0;
-    unsigned more = padded ? below(8) : 0;
-    bytes[used++] = value > 127 || more == 1 || more == 2 ? value | 128 : value;
-    if (value > 127 || more == 1 || more == 2)
-        bytes[used++] = more == 2 ? value >> 7 | 128 : value >> 7;
-    if (more == 2)
-        bytes[used++] = 0;
-    return used;
+    unsigned last = value > 16383 ? 2 : value > 127, more = padded ? below(8) : 0;
+    if (more < 3 && more > last)
+        last = more;
+    for (unsigned i = 0; i <= last; i++)
+        bytes[i] = (uint8_t)((value >> 7 * i & 127) | (i < last ? 128 : 0));
+    return last + 1;
 }
 
 /* The numbers of a record, which need not be a valid one, as bytes. */
@@ -217,6 +217,44 @@ static uint32_t make_client_event(const uint8_t *r, size_t count)
     if (below(64) == 0)
         return below(2) ? any() : 0xffffffffu;
     return JAXHOPHASI_CLIENT_EVENT(make_client_number(count), kind);
+}
+
+/* The expected serial of a feed: none, with anything behind the 0, one, or any three bytes. */
+static void make_expected(uint8_t *expected)
+{
+    for (unsigned i = 0; i < JAXHOPHASI_EXPECTED_SIZE; i++)
+        expected[i] = (uint8_t)(below(4) ? any() : below(2) * 255);
+    if (below(3))
+        expected[JAXHOPHASI_EXPECTED_KNOWN] = (uint8_t)below(2);
+}
+
+/* A serial: often the one expected or a little further on, the last that is lost, the first that
+ * is late or the one before what is expected; sometimes at the ends of what it may be. */
+static uint32_t make_serial(const uint8_t *expected)
+{
+    static const uint32_t steps[] = { 0, 0, 0, 1, 2, 32766, 32767, 32768, 32769, 65534, 65535 };
+    static const uint32_t ends[] = { 0, 1, 32767, 32768, 65534, 65535, 65536, 65537, 131072, MAX_NUMBER };
+    uint32_t from = expected[JAXHOPHASI_EXPECTED_SERIAL] + 256u * expected[JAXHOPHASI_EXPECTED_SERIAL + 1];
+    switch (below(8)) {
+    case 0: return ends[below(10)];
+    case 1: return below(below(4) ? 65536 : MAX_NUMBER + 1);
+    default: return (from + steps[below(11)]) % 65536;
+    }
+}
+
+/* The bytes of a feed's record: three numbers, perhaps padded, perhaps one that goes on into the
+ * next or is too long, perhaps cut off, with bytes behind them or changed. */
+static size_t make_feed_record(const uint8_t *r, size_t count, const uint8_t *expected, uint8_t bytes[FEED_BYTES])
+{
+    uint32_t numbers[] = { make_serial(expected), make_client_number(count), make_event(r) };
+    size_t used = 0;
+    int padded = below(4) == 0;
+    for (unsigned i = 0; i < 3; i++) {
+        used += put_number(bytes + used, numbers[i] & MAX_NUMBER, padded);
+        if (below(32) == 0)
+            bytes[used - 1] |= 128;
+    }
+    return below(4) ? used : damage_bytes(bytes, used);
 }
 
 /* ---- comparing ---- */
@@ -429,6 +467,26 @@ static void compare_receive_for(twin record, twin table, size_t places, twin lis
     drop_twins(answer);
 }
 
+/* A record of a feed, whose expected serial goes on from call to call. */
+static void compare_feed(twin record, twin table, size_t places, twin list, size_t count, twin expected)
+{
+    uint8_t made[FEED_BYTES] = { 0 };
+    size_t used = make_feed_record(record.ours, count, expected.ours, made);
+    twin bytes = twins(used, 0), answer = twins(JAXHOPHASI_FED_SIZE, 0);
+    call_now = "feed";
+    set_twins(bytes, made, used);
+    same_row(jaxhophasi_feed(record.ours, (uint32_t *)table.ours, places, (list_of_clients)list.ours, count, bytes.ours, used,
+                 expected.ours, answer.ours),
+        ref_feed(record.theirs, (uint32_t *)table.theirs, places, (list_of_clients)list.theirs, count, bytes.theirs, used,
+            expected.theirs, answer.theirs));
+    same_twins("the record's bytes", bytes);
+    same_twins("the list", list);
+    same_twins("the expected serial", expected);
+    same_twins("the answer", answer);
+    drop_twins(bytes);
+    drop_twins(answer);
+}
+
 /* How many events the clients hold whose carried states are no fault. */
 static size_t held_in_list(twin record, twin table, size_t places, twin list, size_t count)
 {
@@ -469,25 +527,38 @@ static void compare_run_for(twin record, twin table, size_t places, twin list, s
     drop_twins(answer);
 }
 
-/* Calls in a row over one list of clients, events and days mixed. */
+/* Gives a feed some expected serial, the same in both copies. */
+static void set_expected(twin expected)
+{
+    make_expected(expected.ours);
+    memcpy(expected.theirs, expected.ours, JAXHOPHASI_EXPECTED_SIZE);
+}
+
+/* Calls in a row over one list of clients, events, days and records of a feed mixed. */
 static void compare_list(twin record, twin table, size_t places)
 {
     size_t count = make_count();
-    twin list = twins(count * JAXHOPHASI_CONFIGURATION_SIZE, 0);
+    twin list = twins(count * JAXHOPHASI_CONFIGURATION_SIZE, 0), expected = twins(JAXHOPHASI_EXPECTED_SIZE, 0);
     for (size_t i = 0; i < count; i++)
         set_client(record, list, i);
-    for (unsigned i = below(30); i > 0; i--) {
-        if (below(4))
+    set_expected(expected);
+    for (unsigned i = below(60); i > 0; i--) {
+        if (below(2))
+            compare_feed(record, table, places, list, count, expected);
+        else if (below(4))
             compare_receive_for(record, table, places, list, count);
         else
             compare_run_for(record, table, places, list, count, below(8) ? below(60) : below(2000));
         if (count && below(16) == 0)
             set_client(record, list, below((uint32_t)count));
+        if (below(8) == 0)
+            set_expected(expected);
     }
     call_now = "the calls over a list";
     same_twins("the record", record);
     same_twins("the table", table);
     drop_twins(list);
+    drop_twins(expected);
 }
 
 static void compare_round(uint32_t most)
@@ -567,6 +638,14 @@ static void best_of(int times, int many, const work *pieces, double *best)
         }
 }
 
+static void equal(const char *what, const void *a, const void *b, size_t size)
+{
+    if (memcmp(a, b, size)) {
+        printf("DIFFERENT: %s\n", what);
+        exit(1);
+    }
+}
+
 static uint8_t rounds[8], rounds_by_c[8];
 
 /* A small table is solved many times in a row, so that one measurement is long beside the clock's
@@ -593,7 +672,7 @@ static void solve_by_c_remembering(void)
         ref_solve(record, table_by_c, places, rounds_by_c);
 }
 
-static uint8_t state[8], state_by_c[8], answer[16], answer_by_c[16];
+static uint8_t state[8], state_by_c[8], answer[JAXHOPHASI_FED_SIZE], answer_by_c[JAXHOPHASI_FED_SIZE];
 static uint64_t emitted, emitted_by_c;
 
 typedef uint8_t (*receive_call)(const uint8_t *, const uint32_t *, size_t, uint8_t *, uint32_t, uint8_t *);
@@ -601,14 +680,18 @@ typedef uint8_t (*receive_call)(const uint8_t *, const uint32_t *, size_t, uint8
 /* So many of the events are also received one by one. */
 enum { SINGLE = 200000 };
 
-/* Events one by one from a state on: the refusals, and how many symbols were put out, summed. */
+/* What calls one by one came to, summed: the refusal, and how many symbols were put out. */
+static uint64_t came_to(uint8_t row, const uint8_t *to)
+{
+    return row + ((uint64_t)to[JAXHOPHASI_RECEIVED_COUNT] << 32);
+}
+
+/* Events one by one from a state on. */
 static uint64_t one_after_another(receive_call receive, uint8_t *from, uint8_t *to)
 {
     uint64_t sum = 0;
-    for (size_t i = 0; i < SINGLE; i++) {
-        sum += receive(record, table, places, from, events[i], to);
-        sum += (uint64_t)to[JAXHOPHASI_RECEIVED_COUNT] << 32;
-    }
+    for (size_t i = 0; i < SINGLE; i++)
+        sum += came_to(receive(record, table, places, from, events[i], to), to);
     return sum;
 }
 
@@ -624,16 +707,28 @@ static void events_by_c(void)
     emitted_by_c = one_after_another(ref_receive, state_by_c, answer_by_c);
 }
 
-static void events_by_c_early(void)
+/* Calls one by one by C, whose check of row 11 leaves at the first fault or goes over whole
+ * arrays. */
+static work singles_by_c;
+
+static void singles_by_c_early(void)
 {
     ref_flat_check = 0;
-    events_by_c();
+    singles_by_c();
 }
 
-static void events_by_c_flat(void)
+static void singles_by_c_flat(void)
 {
     ref_flat_check = 1;
-    events_by_c();
+    singles_by_c();
+}
+
+static void best_of_singles(work ours, work by_c, double *best)
+{
+    const work pieces[] = { ours, singles_by_c_early, singles_by_c_flat };
+    singles_by_c = by_c;
+    best_of(9, 3, pieces, best);
+    equal("what the calls one by one came to", &emitted, &emitted_by_c, 8);
 }
 
 static void run_ours(void)
@@ -648,18 +743,9 @@ static void run_by_c(void)
     ref_run(record, table, places, state_by_c, events, EVENTS, output_by_c, EVENTS, answer_by_c);
 }
 
-static void equal(const char *what, const void *a, const void *b, size_t size)
-{
-    if (memcmp(a, b, size)) {
-        printf("DIFFERENT: %s\n", what);
-        exit(1);
-    }
-}
-
 static void measure(const char *name)
 {
     static const work solving[] = { solve_ours, solve_by_c, solve_by_c_remembering };
-    static const work one_by_one[] = { events_ours, events_by_c_early, events_by_c_flat };
     static const work runs[] = { run_ours, run_by_c };
     double s[3], e[3], d[2];
     uint8_t count[8];
@@ -673,9 +759,8 @@ static void measure(const char *name)
     best_of(places > 100000 ? 15 : 200, 3, solving, s);
     equal("table", table, table_by_c, 4 * places);
     equal("rounds", rounds, rounds_by_c, 8);
-    best_of(9, 3, one_by_one, e);
+    best_of_singles(events_ours, events_by_c, e);
     equal("state", state, state_by_c, 8);
-    equal("what the events put out", &emitted, &emitted_by_c, 8);
     best_of(30, 2, runs, d);
     equal("state", state, state_by_c, 8);
     equal("answer", answer, answer_by_c, 16);
@@ -761,19 +846,25 @@ static void paired_client_events(void)
     }
 }
 
+/* Solves the sheet, and makes fresh clients. */
+static void fresh_clients(void)
+{
+    uint8_t number[8];
+    ref_buffers_count(record, number);
+    places = 2 * jaxhophasi_number_at(number);
+    jaxhophasi_solve(record, table, places, number);
+    for (unsigned i = 0; i < JAXHOPHASI_MAX_CLIENTS; i++)
+        jaxhophasi_initial(record, fresh[i]);
+}
+
 /* A day over 1, 10, 100 and 500 clients, and what became of the last one's events. */
 static void measure_clients(const char *name, work make_events)
 {
     static const uint16_t counts[] = { 1, 10, 100, 500 };
     static const work runs[] = { run_for_ours, run_for_by_c };
     double d[2];
-    uint8_t number[8];
     ref_flat_check = 0;
-    ref_buffers_count(record, number);
-    places = 2 * jaxhophasi_number_at(number);
-    jaxhophasi_solve(record, table, places, number);
-    for (unsigned i = 0; i < JAXHOPHASI_MAX_CLIENTS; i++)
-        jaxhophasi_initial(record, fresh[i]);
+    fresh_clients();
     printf("%-12s |", name);
     for (unsigned i = 0; i < sizeof counts / sizeof *counts; i++) {
         clients_now = counts[i];
@@ -794,6 +885,100 @@ static void measure_any_clients(const char *name)
     measure_clients(name, any_client_events);
 }
 
+/* ---- measuring single events for clients, and records of a feed ---- */
+
+typedef uint8_t (*receive_for_call)(
+    const uint8_t *, const uint32_t *, size_t, list_of_clients, size_t, uint32_t, uint32_t, uint8_t *);
+typedef uint8_t (*feed_call)(
+    const uint8_t *, const uint32_t *, size_t, list_of_clients, size_t, const uint8_t *, size_t, uint8_t *, uint8_t *);
+
+/* The events one by one, each for its client. */
+static uint64_t one_after_another_for(receive_for_call receive_for, list_of_clients list, uint8_t *to)
+{
+    uint64_t sum = 0;
+    memcpy(list, fresh, sizeof fresh);
+    for (size_t i = 0; i < SINGLE; i++)
+        sum += came_to(
+            receive_for(record, table, places, list, clients_now, events[i] / 65536, events[i] % 65536, to), to);
+    return sum;
+}
+
+static void events_for_ours(void)
+{
+    emitted = one_after_another_for(jaxhophasi_receive_for, clients, answer);
+}
+
+static void events_for_by_c(void)
+{
+    emitted_by_c = one_after_another_for(ref_receive_for, clients_by_c, answer_by_c);
+}
+
+/* The same events as records of a feed: their bytes, where each begins and the last ends, the
+ * expected serial, and how many records were lost. */
+static uint8_t *feed, expected[JAXHOPHASI_EXPECTED_SIZE], expected_by_c[JAXHOPHASI_EXPECTED_SIZE];
+static size_t *feed_at;
+static uint64_t lost, lost_by_c;
+
+/* One record in eight comes after a loss. */
+static void make_feed(void)
+{
+    size_t used = 0;
+    uint32_t serial = 0;
+    for (size_t i = 0; i < SINGLE; i++) {
+        feed_at[i] = used;
+        used += put_number(feed + used, serial, 0);
+        used += put_number(feed + used, events[i] / 65536, 0);
+        used += put_number(feed + used, events[i] % 65536, 0);
+        serial = (serial + (below(8) ? 1 : 2 + below(100))) % 65536;
+    }
+    feed_at[SINGLE] = used;
+}
+
+static uint64_t record_after_record(feed_call call, list_of_clients list, uint8_t *next, uint8_t *to, uint64_t *loss)
+{
+    uint64_t sum = 0;
+    memcpy(list, fresh, sizeof fresh);
+    memset(next, 0, JAXHOPHASI_EXPECTED_SIZE);
+    *loss = 0;
+    for (size_t i = 0; i < SINGLE; i++) {
+        const uint8_t *bytes = feed + feed_at[i];
+        sum += came_to(call(record, table, places, list, clients_now, bytes, feed_at[i + 1] - feed_at[i], next, to), to);
+        *loss += jaxhophasi_number_at(to + JAXHOPHASI_FED_LOSS);
+    }
+    return sum;
+}
+
+static void feed_ours(void)
+{
+    emitted = record_after_record(jaxhophasi_feed, clients, expected, answer, &lost);
+}
+
+static void feed_by_c(void)
+{
+    emitted_by_c = record_after_record(ref_feed, clients_by_c, expected_by_c, answer_by_c, &lost_by_c);
+}
+
+/* One event for one of 100 clients, and one record of a feed over them. */
+static void measure_singles(const char *name)
+{
+    double e[3], f[3];
+    clients_now = 100;
+    fresh_clients();
+    any_client_events();
+    make_feed();
+    best_of_singles(events_for_ours, events_for_by_c, e);
+    equal("list", clients, clients_by_c, sizeof clients);
+    uint64_t events_came_to = emitted;
+    best_of_singles(feed_ours, feed_by_c, f);
+    equal("list", clients, clients_by_c, sizeof clients);
+    equal("what events and records came to", &emitted, &events_came_to, 8);
+    equal("expected serial", expected, expected_by_c, sizeof expected);
+    equal("loss", &lost, &lost_by_c, 8);
+    printf("%-12s | %5.1f  %4.2f  %4.2f | %5.1f  %4.2f  %4.2f |   %4.2f | %7lu\n", name, e[0] / SINGLE, e[0] / e[1], e[0] / e[2],
+        f[0] / SINGLE, f[0] / f[1], f[0] / f[2], f[0] / e[0], (unsigned long)lost);
+    fflush(stdout);
+}
+
 /* Sheet W of document 01, and the seeds of the random sheets. */
 static const uint8_t w[] = { 4, 4, 2, 0, 0, 0, 1, 1, 1, 1, 0, 0, 1, 0, 3, 0, 1, 0, 2, 1, 2, 3, 3, 1, 3, 3, 3, 3 };
 static const unsigned seeds[] = { 4, 18, 54, 8, 39 };
@@ -811,6 +996,21 @@ static void time_clients(void)
     measure_random(measure_any_clients, 1, 5, seeds, 1);
     measure_random(measure_any_clients, 8, 2, seeds, 2);
     measure_random(measure_any_clients, 8, 6, seeds, 3);
+}
+
+static void time_singles(void)
+{
+    uint8_t place[8];
+    feed = room(SINGLE * FEED_BYTES);
+    feed_at = room(sizeof *feed_at * (SINGLE + 1));
+    puts("\n100 clients  |     one event     | one feed's record | record | records\n"
+         "             |    ns    /C  /C-v |    ns    /C  /C-v | /event |    lost");
+    seed = 1;
+    jaxhophasi_read(w, sizeof w, record, place);
+    measure_singles("W");
+    measure_random(measure_singles, 0, 6, seeds, 1);
+    measure_random(measure_singles, 8, 2, seeds, 2);
+    measure_random(measure_singles, 8, 6, seeds, 2);
 }
 
 static int time_all(void)
@@ -836,6 +1036,7 @@ static int time_all(void)
         measure_random(measure_any, 8, b, seeds, 3);
     measure_random(measure_any, 8, 6, seeds, 5);
     time_clients();
+    time_singles();
     return 0;
 }
 

@@ -1,5 +1,5 @@
-/* The rules of document 01, and of document 02's lists of growers, in plain C, to compare with and
- * to measure against. */
+/* The rules of document 01, and of document 02's lists of growers and of its feed, in plain C, to
+ * compare with and to measure against. */
 #include <string.h>
 
 #include "reference.h"
@@ -7,7 +7,7 @@
 int ref_flat_check = 0;
 int ref_remember = 0;
 
-enum { STATES = 32, SYMBOLS = 16, CAPACITY = 6, CONTROLLABLE = 8, CLIENTS = 500 };
+enum { STATES = 32, SYMBOLS = 16, CAPACITY = 6, CONTROLLABLE = 8, CLIENTS = 500, SERIALS = 65536 };
 
 /* A record that row 11 lets pass (a sheet), and what follows from it. */
 struct automaton {
@@ -492,20 +492,28 @@ static uint8_t event_row_for(const struct automaton *s, uint8_t (*configurations
     return configuration_of(s, configurations[client], c) ? event_row(s, c, event) : 13;
 }
 
+/* An event for a client, over an answer of zeros: rows 19, 13, 14, 15, or 0. */
+static uint8_t step_for(const struct automaton *s, const uint32_t *table, uint8_t (*configurations)[8], size_t clients,
+    uint32_t client, uint32_t event, uint8_t *answer)
+{
+    struct configuration c;
+    int winning;
+    uint8_t row = event_row_for(s, configurations, clients, client, event, &c);
+    if (row)
+        return row;
+    answer[7] = (uint8_t)step(s, table, &c, (uint8_t)event, answer, &winning);
+    answer[8] = (uint8_t)winning;
+    hand_back(&c, configurations[client]);
+    return 0;
+}
+
 uint8_t ref_receive_for(const uint8_t *automaton, const uint32_t *table, size_t table_length, uint8_t (*configurations)[8],
     size_t configurations_length, uint32_t client, uint32_t event, uint8_t *answer)
 {
     struct automaton s;
-    struct configuration c;
-    int winning;
     memset(answer, 0, 9);
     uint8_t row = opened_for(automaton, table_length, configurations_length, &s);
-    if (row || (row = event_row_for(&s, configurations, configurations_length, client, event, &c)))
-        return row;
-    answer[7] = (uint8_t)step(&s, table, &c, (uint8_t)event, answer, &winning);
-    answer[8] = (uint8_t)winning;
-    hand_back(&c, configurations[client]);
-    return 0;
+    return row ? row : step_for(&s, table, configurations, configurations_length, client, event, answer);
 }
 
 /* How many events all clients hold; a carried state that row 13 refuses holds none. */
@@ -544,6 +552,54 @@ uint8_t ref_run_for(const uint8_t *automaton, const uint32_t *table, size_t tabl
     }
     put_ran(answer, used, refused);
     return 0;
+}
+
+/* Serial, client and kind of a feed's record: rows 1 and 2 left to right, 10, or 0; `at` is where
+ * the fault is. */
+static uint8_t record_of(const uint8_t *bytes, size_t length, uint32_t numbers[3], size_t *at)
+{
+    *at = 0;
+    for (unsigned i = 0; i < 3; i++) {
+        uint8_t row = number(bytes, length, at, &numbers[i]);
+        if (row)
+            return row;
+    }
+    return *at < length ? 10 : 0;
+}
+
+/* Rows 21 and 22 of a serial, or 0 with how many records were lost before it. */
+static uint8_t serial_row(const uint8_t *expected, uint32_t serial, uint32_t *lost)
+{
+    if (serial >= SERIALS)
+        return 21;
+    *lost = expected[0] ? (serial + SERIALS - (expected[1] + 256u * expected[2])) % SERIALS : 0;
+    return *lost >= SERIALS / 2 ? 22 : 0;
+}
+
+uint8_t ref_feed(const uint8_t *automaton, const uint32_t *table, size_t table_length, uint8_t (*configurations)[8],
+    size_t configurations_length, const uint8_t *bytes, size_t bytes_length, uint8_t *expected, uint8_t *answer)
+{
+    struct automaton s;
+    uint32_t numbers[3], lost = 0;
+    size_t at;
+    memset(answer, 0, 25);
+    uint8_t row = opened_for(automaton, table_length, configurations_length, &s);
+    if (row)
+        return row;
+    row = record_of(bytes, bytes_length, numbers, &at);
+    if (row) {
+        put(answer + 17, at);
+        return row;
+    }
+    row = serial_row(expected, numbers[0], &lost);
+    if (row)
+        return row;
+    put(answer + 9, lost);
+    uint32_t next = (numbers[0] + 1) % SERIALS;
+    expected[0] = 1;
+    expected[1] = (uint8_t)next;
+    expected[2] = (uint8_t)(next >> 8);
+    return step_for(&s, table, configurations, configurations_length, numbers[1], numbers[2], answer);
 }
 
 static int can_rest(const struct automaton *s, const uint8_t *held, unsigned count, unsigned rounds, unsigned q);

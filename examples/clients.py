@@ -6,7 +6,7 @@ LIBRARY is the shared object made from the archive, SHEET a file with a sheet's 
 many growers there are, DAY a text with an event on each line: grower and kind. White space or
 commas part the two numbers, each 0 to 65535; comments go from # to the line's end.
 
-Offsets and sizes are those of include/jaxhophasi.h; day.py has what both examples share, and
+Offsets and sizes are those of include/jaxhophasi.h; day.py has what all examples share, and
 explains the status.
 """
 import re
@@ -15,8 +15,6 @@ import sys
 sys.dont_write_bytecode = True  # nothing is left beside the examples
 from day import CONFIGURATION_SIZE, RAN_SIZE, RECEIVED_SIZE
 from day import lent, library_at, number_at, number_of, numbers, printed, read, read_file, received, solve, stop, symbols
-
-MOST = 65535
 
 
 class Growers:
@@ -39,61 +37,81 @@ class Growers:
         return self.list[CONFIGURATION_SIZE * grower:CONFIGURATION_SIZE * (grower + 1)]
 
     def shared(self):
-        """What both calls begin with."""
+        """What all calls over growers begin with."""
         return self.automaton, self.table, self.places, self.list, self.count
 
-    def print_events(self, events):
-        """One event after the other: the grower, then as the day program prints it."""
-        answer = lent(RECEIVED_SIZE)
-        for grower, kind in events:
-            row = self.library.jaxhophasi_receive_for(*self.shared(), grower, kind, answer)
-            print("grower {}: in {}".format(grower, kind), received(row, answer, self.configuration(grower)))
+    def event(self, row, grower, kind, answer):
+        """What came of a grower's event: the grower, then as the day program prints it."""
+        return "grower {}: in {} {}".format(grower, kind, received(row, answer, self.configuration(grower)))
 
-    def print_day(self, events):
-        """The whole day: all that is put out, how many events were refused, and where each grower
-        is."""
-        # fresh growers hold nothing: a byte for each event is enough
-        answer, out = lent(RAN_SIZE), lent(len(events) + 1)
-        day = numbers([grower * 65536 + kind for grower, kind in events])
-        row = self.library.jaxhophasi_run_for(*self.shared(), day, len(events), out, len(events), answer)
-        if row:
-            print("day refused", row)
-            return
-        print("day out", symbols(out[:number_at(answer)]), "refused", number_at(answer, 8))
+    def print_all(self):
+        """Where each grower stands."""
         for grower in range(self.count):
             print("grower {}: state {} held {}".format(grower, *self.configuration(grower)[:2]))
 
 
-def read_day(path):
-    """The events of a day's text: grower and kind of each."""
-    events = []
+def print_events(growers, events):
+    """One event after the other."""
+    answer = lent(RECEIVED_SIZE)
+    for grower, kind in events:
+        row = growers.library.jaxhophasi_receive_for(*growers.shared(), grower, kind, answer)
+        print(growers.event(row, grower, kind, answer))
+
+
+def print_day(growers, events):
+    """The whole day: all that is put out, how many events were refused, and where each grower
+    is."""
+    # fresh growers hold nothing: a byte for each event is enough
+    answer, out = lent(RAN_SIZE), lent(len(events) + 1)
+    day = numbers([grower * 65536 + kind for grower, kind in events])
+    row = growers.library.jaxhophasi_run_for(*growers.shared(), day, len(events), out, len(events), answer)
+    if row:
+        print("day refused", row)
+        return
+    print("day out", symbols(out[:number_at(answer)]), "refused", number_at(answer, 8))
+    growers.print_all()
+
+
+def print_both(growers, events):
+    print_events(growers, events)
+    growers.begin()
+    print_day(growers, events)
+
+
+def read_lines(path, names, counts, greatest):
+    """The numbers of each line of a text that has any; names says what they are, counts how many
+    there may be."""
+    lines = []
     for number, line in enumerate(read_file(path).split(b"\n"), 1):
         words = re.findall(rb"[^ \t\r,]+", line.partition(b"#")[0])
-        event = [int(word[-5:]) for word in words if re.fullmatch(rb"0*[0-9]{1,5}", word)]
-        if len(words) not in (0, 2) or len(event) != len(words) or any(value > MOST for value in event):
-            stop(2, path, "line {}: no grower and kind (each 0 to {})".format(number, MOST))
-        events += [event] if event else []
-    return events
+        values = [int(word[-7:]) for word in words if re.fullmatch(rb"0*[0-9]{1,7}", word)]
+        if len(words) not in (0, *counts) or len(values) != len(words) or any(value > greatest for value in values):
+            stop(2, path, "line {}: no {} (each 0 to {})".format(number, names, greatest))
+        lines += [values] if values else []
+    return lines
 
 
-def run_sheet(library, path, count, events):
-    """Reads the sheet and runs the events, or prints the sheet's refusal; the status."""
+def run_sheet(library, path, count, lines, print_lines):
+    """Reads the sheet and runs the lines, or prints the sheet's refusal; the status."""
     automaton = read(library, path)
     if automaton is None:
         return 1
-    growers = Growers(library, automaton, count)
-    growers.print_events(events)
-    growers.begin()
-    growers.print_day(events)
+    print_lines(Growers(library, automaton, count), lines)
     return 0
 
 
-def main(words):
+def over_growers(words, usage, text, print_lines):
+    """The whole of an example over growers: its words are LIBRARY, SHEET, COUNT and the path of a
+    text; what read_lines is told of the text, and what prints the lines, are given. The status."""
     if len(words) != 5:
-        stop(2, "usage", "clients.py LIBRARY SHEET COUNT DAY")
-    count = number_of(words[3], MOST, "no number of growers (0 to 65535)")
-    events = read_day(words[4])
-    return printed(run_sheet, library_at(words[1]), words[2], count, events)
+        stop(2, "usage", usage)
+    count = number_of(words[3], 65535, "no number of growers (0 to 65535)")
+    lines = read_lines(words[4], *text)
+    return printed(run_sheet, library_at(words[1]), words[2], count, lines, print_lines)
+
+
+def main(words):
+    return over_growers(words, "clients.py LIBRARY SHEET COUNT DAY", ("grower and kind", [2], 65535), print_both)
 
 
 if __name__ == "__main__":

@@ -15,6 +15,7 @@ import signal
 import sys
 
 AUTOMATON_SIZE, CONFIGURATION_SIZE, NUMBER_SIZE, STATUS_SIZE, RECEIVED_SIZE, RAN_SIZE, VERDICT_SIZE = 564, 8, 8, 1, 9, 16, 2
+EXPECTED_SIZE, FED_SIZE = 3, 25
 BYTES_READ = 3 * 564 + 1  # one byte more than a sheet can have
 
 
@@ -33,6 +34,11 @@ def numbers(values):
 def lent(size):
     """Bytes to lend."""
     return (ctypes.c_uint8 * size)()
+
+
+def filled(values):
+    """Bytes to lend, with these contents; one place more, so that they are nowhere empty."""
+    return (ctypes.c_uint8 * (len(values) + 1))(*values)
 
 
 def number_at(answer, offset=0):
@@ -58,6 +64,7 @@ def library_at(path):
         "judge": [byte, byte, byte],
         "receive_for": [byte, word, size, byte, size, ctypes.c_uint32, ctypes.c_uint32, byte],
         "run_for": [byte, word, size, byte, size, word, size, byte, size, byte],
+        "feed": [byte, word, size, byte, size, byte, size, byte, byte],
     }.items():
         function = getattr(library, "jaxhophasi_" + name, None) or stop(2, path, "no function jaxhophasi_" + name)
         function.argtypes, function.restype = types, ctypes.c_uint8
@@ -93,7 +100,7 @@ def read(library, path):
     handed back."""
     data = read_file(path, BYTES_READ)
     automaton, place = lent(AUTOMATON_SIZE), lent(NUMBER_SIZE)
-    row = library.jaxhophasi_read((ctypes.c_uint8 * (len(data) + 1))(*data), len(data), automaton, place)
+    row = library.jaxhophasi_read(filled(data), len(data), automaton, place)
     if row == 0:
         return automaton
     print("refused", row, "at", number_at(place))

@@ -4,9 +4,11 @@
  * Link target/staticlib/libjaxhophasi.a, which `rt staticlib jaxhophasi` writes (Linux on x86-64).
  *
  * Every function returns the number of refusal, 0 where nothing is refused. In a refused call's
- * answer every count, length and yes-or-no is 0; the lent carried state or list of them, table and
- * output keep their contents (the same bytes may be stored again). A refused read leaves an
- * all-zero record and the place of the fault.
+ * answer every count, length and yes-or-no is 0; the lent carried state or list of them, expected
+ * serial, table and output keep their contents (the same bytes may be stored again). A refused
+ * read leaves an all-zero record and the place of the fault. One exception: where 19, 13, 14 or 15
+ * refuses the event of a feed's record, that record was let in, so the answer has its loss and the
+ * lent expected serial moves on.
  *
  * What is lent: a fixed array is a plain pointer to as many bytes as its constant says; a list is
  * a pointer and then the number of its elements. A list may be of any length and all of it may
@@ -31,8 +33,8 @@ extern "C" {
  * or may see another answer, the second where calls are added, the third at every other change.
  * The three are also one number, 10000 for 1.0.0 and 10203 for 1.2.3. */
 #define JAXHOPHASI_VERSION_MAJOR 1
-#define JAXHOPHASI_VERSION_MINOR 1
-#define JAXHOPHASI_VERSION_PATCH 1
+#define JAXHOPHASI_VERSION_MINOR 2
+#define JAXHOPHASI_VERSION_PATCH 0
 #define JAXHOPHASI_VERSION \
     (JAXHOPHASI_VERSION_MAJOR * 10000 + JAXHOPHASI_VERSION_MINOR * 100 + JAXHOPHASI_VERSION_PATCH)
 
@@ -70,6 +72,25 @@ extern "C" {
  * client. */
 #define JAXHOPHASI_CLIENT_EVENT(client, kind) ((uint32_t)(client) * 65536 + (uint32_t)(kind))
 
+/* The expected serial of a feed, lent to jaxhophasi_feed and written by it: three zeros before the
+ * first record, then kept as each call leaves it. Each feed has its own.
+ *
+ * The records of a feed are numbered, and after 65,535 comes 0. How far the serial of a record is
+ * forward of the expected one, round that ring, tells how many records were lost before it, 0 to
+ * 32,767; from 32,768 on the record is late or a repeat, and 22 refuses it. As serials come round
+ * again, they cannot tell all:
+ * - A loss of 1 to 32,767 records is reported right. A longer one looks late, or shorter by whole
+ *   turns of 65,536: after a loss of 32,768 the next record looks late (and so do those behind it,
+ *   until the expected serial comes round), after one of 65,537 a loss of 1 is reported, and one
+ *   of 65,536 is not seen.
+ * - A record late by 1 to 32,768 is refused. One that is later can look new: late by 32,769 it is
+ *   let in with a loss of 32,767, late by 65,536 it looks in turn.
+ * - The first record is let in whatever its serial is; what was lost before it nobody can tell. */
+#define JAXHOPHASI_EXPECTED_SIZE 3
+#define JAXHOPHASI_EXPECTED_KNOWN 0  /* 0: none is expected, whatever the other two bytes are; any
+                                      * other number: one is (1 where the call wrote it) */
+#define JAXHOPHASI_EXPECTED_SERIAL 1 /* 2: the serial, low byte first */
+
 /* A number in an answer: eight bytes, low byte first. */
 #define JAXHOPHASI_NUMBER_SIZE 8
 
@@ -96,6 +117,12 @@ static inline uint64_t jaxhophasi_number_at(const uint8_t *bytes)
 #define JAXHOPHASI_RAN_LENGTH 0  /* bytes of output written */
 #define JAXHOPHASI_RAN_REFUSED 8 /* events refused by 14 or 15, over a list also by 19 or 13 */
 
+/* What jaxhophasi_feed answers: nine bytes as jaxhophasi_receive_for, by the offsets of those, and
+ * then two numbers. */
+#define JAXHOPHASI_FED_SIZE 25
+#define JAXHOPHASI_FED_LOSS 9   /* how many records were lost before this one */
+#define JAXHOPHASI_FED_PLACE 17 /* where in the bytes the fault of row 1, 2 or 10 is; 0 else */
+
 /* What jaxhophasi_judge answers: 1 yes, 0 no. */
 #define JAXHOPHASI_VERDICT_SIZE 2
 #define JAXHOPHASI_VERDICT_MAY_REST 0 /* may rest where it is */
@@ -115,12 +142,15 @@ static inline uint64_t jaxhophasi_number_at(const uint8_t *bytes)
 #define JAXHOPHASI_SHEET_MOST JAXHOPHASI_MAX_SHEET
 
 /* Numbers of refusal. A read goes left to right, every other call checks its own in this order,
- * but that receive_for and run_for check 20 and 19 after 12; the first that holds is given. (18 is
- * the programs' own.) */
+ * but that receive_for and run_for check 20 and 19 after 12, and feed 11, 12, 20, then its record
+ * (1 and 2 left to right, 10, 21, 22), then the event (19, 13, 14, 15); the first that holds is
+ * given. (18 is the programs' own.) */
 enum {
     JAXHOPHASI_FINE = 0,
-    JAXHOPHASI_ENDS_EARLY = 1,         /* read: the bytes end before the sheet does */
-    JAXHOPHASI_LONG_NUMBER = 2,        /* read: the third byte of a number has its top bit set */
+    JAXHOPHASI_ENDS_EARLY = 1,         /* read, feed: the bytes end before the sheet or the feed's
+                                        * record does */
+    JAXHOPHASI_LONG_NUMBER = 2,        /* read, feed: the third byte of a number has its top bit
+                                        * set */
     JAXHOPHASI_BAD_STATES = 3,         /* read: n not 1 to 32 */
     JAXHOPHASI_BAD_SYMBOLS = 4,        /* read: m not 1 to 16 */
     JAXHOPHASI_BAD_CAPACITY = 5,       /* read: B not 1 to 6 */
@@ -128,28 +158,32 @@ enum {
     JAXHOPHASI_BAD_FLAG = 7,           /* read: a class or flag above 1 */
     JAXHOPHASI_MANY_CONTROLLABLE = 8,  /* read: a ninth controllable kind */
     JAXHOPHASI_BAD_NEXT = 9,           /* read: next state not below n */
-    JAXHOPHASI_BYTES_LEFT = 10,        /* read: bytes after the sheet */
-    JAXHOPHASI_BAD_AUTOMATON = 11,     /* a record that breaks 3 to 9, or a nonzero unused place */
-    JAXHOPHASI_SHORT_TABLE = 12,       /* solve, winning, receive, run, receive_for, run_for: table
-                                        * shorter than 2 T */
-    JAXHOPHASI_BAD_CONFIGURATION = 13, /* winning, receive, run, judge, receive_for (that client's
-                                        * alone; run_for passes over the event and counts it):
-                                        * state not below n, over B held, a held event that is no
-                                        * controllable kind, or a nonzero unused place */
-    JAXHOPHASI_BAD_EVENT = 14,         /* receive, receive_for: event not below m (a day passes
-                                        * over it and counts it) */
-    JAXHOPHASI_BUFFER_FULL = 15,       /* receive, receive_for: controllable event, hold full (a
-                                        * day passes over it and counts it) */
+    JAXHOPHASI_BYTES_LEFT = 10,        /* read, feed: bytes after the sheet or the feed's record */
+    JAXHOPHASI_BAD_AUTOMATON = 11,     /* a sheet's record that breaks 3 to 9, or a nonzero unused
+                                        * place */
+    JAXHOPHASI_SHORT_TABLE = 12,       /* solve, winning, receive, run, receive_for, run_for, feed:
+                                        * table shorter than 2 T */
+    JAXHOPHASI_BAD_CONFIGURATION = 13, /* winning, receive, run, judge, receive_for and feed (that
+                                        * client's alone; run_for passes over the event and counts
+                                        * it): state not below n, over B held, a held event that is
+                                        * no controllable kind, or a nonzero unused place */
+    JAXHOPHASI_BAD_EVENT = 14,         /* receive, receive_for, feed: event not below m (a day
+                                        * passes over it and counts it) */
+    JAXHOPHASI_BUFFER_FULL = 15,       /* receive, receive_for, feed: controllable event, hold full
+                                        * (a day passes over it and counts it) */
     JAXHOPHASI_SHORT_OUTPUT = 16,      /* write: buffer too short; run: output shorter than events
                                         * plus held; run_for: shorter than all the day's events
                                         * plus what all clients hold, a carried state that 13
                                         * refuses counting as holding nothing (events plus 6 for
                                         * each client always suffice) */
     JAXHOPHASI_TOO_LARGE = 17,         /* judge: over 4 states, 2 uncontrollable kinds or 3 held */
-    JAXHOPHASI_NO_CLIENT = 19,         /* receive_for: client not below the list's length (run_for
-                                        * passes over the event and counts it) */
-    JAXHOPHASI_BAD_COUNT = 20          /* receive_for, run_for: a list of no client or of over
-                                        * 500 */
+    JAXHOPHASI_NO_CLIENT = 19,         /* receive_for, feed: client not below the list's length
+                                        * (run_for passes over the event and counts it) */
+    JAXHOPHASI_BAD_COUNT = 20,         /* receive_for, run_for, feed: a list of no client or of
+                                        * over 500 */
+    JAXHOPHASI_BAD_SERIAL = 21,        /* feed: serial above 65,535 */
+    JAXHOPHASI_LATE_SERIAL = 22        /* feed: late or a repeat: a serial 32,768 or more forward
+                                        * of the expected one */
 };
 
 /* Reads and checks a sheet. Rows 1 to 10, left to right; place is where the faulty number begins,
@@ -201,6 +235,18 @@ uint8_t jaxhophasi_receive_for(const uint8_t automaton[JAXHOPHASI_AUTOMATON_SIZE
 uint8_t jaxhophasi_run_for(const uint8_t automaton[JAXHOPHASI_AUTOMATON_SIZE], const uint32_t *table, size_t table_length,
     uint8_t configurations[][JAXHOPHASI_CONFIGURATION_SIZE], size_t configurations_length, const uint32_t *events,
     size_t events_length, uint8_t *out, size_t out_length, uint8_t answer[JAXHOPHASI_RAN_SIZE]);
+
+/* One record of a feed over the list: serial, client and kind, each in one to three groups of
+ * seven bits as a sheet's numbers, and nothing behind them. If the expected serial lets it in, it
+ * is an event for its client, as by jaxhophasi_receive_for; expected becomes the serial after its
+ * own, and the answer has how many records were lost before it (0 where none was expected). Rows
+ * 11, 12, 20; of the record 1 and 2, left to right, at the place where the number begins, 10 at
+ * the first byte left, 21, 22; of the event 19, then 13 of that client's carried state alone, 14,
+ * 15. Where one of the last four refuses the event, loss and expected are as if it had been
+ * accepted; where any other row refuses, the loss is 0 and expected stays, byte for byte. */
+uint8_t jaxhophasi_feed(const uint8_t automaton[JAXHOPHASI_AUTOMATON_SIZE], const uint32_t *table, size_t table_length,
+    uint8_t configurations[][JAXHOPHASI_CONFIGURATION_SIZE], size_t configurations_length, const uint8_t *bytes,
+    size_t bytes_length, uint8_t expected[JAXHOPHASI_EXPECTED_SIZE], uint8_t answer[JAXHOPHASI_FED_SIZE]);
 
 /* The second judge: may the gate rest where it is, can it come to rest? By the rules' words,
  * without a table; for small sheets. Rows 11, 13, 17. */

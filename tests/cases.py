@@ -32,6 +32,10 @@ spaces and commas part them.
                             a day over the list into ROOM bytes that were 9:
                             = refusal, length, refused, those bytes up to the last that is not 9;
                             then each client whose carried state changed, with its eight bytes
+    feed PLACES EXPECTED BYTES
+                            a record of a feed over the list, EXPECTED three bytes:
+                            = refusal, place, loss, those three bytes, then as event_for from the
+                            count put out on
     judge                   = refusal, may rest here, can come to rest
     agree NUMBERS           every sheet that begins with these numbers, every carried state over
                             it: = sheets, carried states, in how many of them the judge says what
@@ -43,17 +47,11 @@ import re
 import sys
 
 sys.path.insert(0, str(pathlib.Path(__file__).resolve().parent.parent / "examples"))
-from day import AUTOMATON_SIZE, CONFIGURATION_SIZE, NUMBER_SIZE, RAN_SIZE, RECEIVED_SIZE, STATUS_SIZE, VERDICT_SIZE
-from day import lent, library_at, number_at, numbers
+from day import AUTOMATON_SIZE, CONFIGURATION_SIZE, EXPECTED_SIZE, FED_SIZE, NUMBER_SIZE, RAN_SIZE, RECEIVED_SIZE, STATUS_SIZE
+from day import VERDICT_SIZE
+from day import filled, lent, library_at, number_at, numbers
 
 TABLE_PLACES = 64
-
-
-def filled(values):
-    """Bytes to lend, with these contents; one place more, so that they are nowhere empty."""
-    out = lent(len(values) + 1)
-    out[:len(values)] = values
-    return out
 
 
 def answer(size):
@@ -155,6 +153,12 @@ class Cases:
         row, changed = self.over_list(lambda clients, count: self.library.jaxhophasi_run_for(
             self.automaton, self.table_words, places, clients, count, numbers(events), len(events), out, room, ran))
         return [row, number_at(ran), number_at(ran, 8)] + until_nines(out[:room]) + changed
+
+    def feed(self, places, *data):
+        fed, expected, record = answer(FED_SIZE), filled(data[:EXPECTED_SIZE]), data[EXPECTED_SIZE:]
+        row, changed = self.over_list(lambda clients, count: self.library.jaxhophasi_feed(
+            self.automaton, self.table_words, places, clients, count, filled(record), len(record), expected, fed))
+        return [row, number_at(fed, 17), number_at(fed, 9)] + expected[:EXPECTED_SIZE] + [fed[7], fed[8]] + fed[:7] + changed
 
     def judge(self):
         verdict = answer(VERDICT_SIZE)

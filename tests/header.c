@@ -316,6 +316,69 @@ static void check_ran_for(void)
     same("the next day, one held", day_for(2, day, 0, 1), 0);
 }
 
+/* ---- a feed over the list, on W ---- */
+
+static uint8_t expected[ROOM];
+
+static void set_expected(uint8_t known, uint8_t low, uint8_t high)
+{
+    expected[JAXHOPHASI_EXPECTED_KNOWN] = known;
+    expected[JAXHOPHASI_EXPECTED_SERIAL] = low;
+    expected[JAXHOPHASI_EXPECTED_SERIAL + 1] = high;
+}
+
+static void same_expected(const char *what, uint8_t known, uint8_t low, uint8_t high)
+{
+    same(what, expected[JAXHOPHASI_EXPECTED_KNOWN], known);
+    same(what, expected[JAXHOPHASI_EXPECTED_SERIAL], low);
+    same(what, expected[JAXHOPHASI_EXPECTED_SERIAL + 1], high);
+}
+
+static uint8_t feed(size_t count, const uint8_t *bytes, size_t length)
+{
+    return jaxhophasi_feed(automaton, table, 14, clients, count, bytes, length, expected, answer);
+}
+
+#define FEED(count, ...) feed(count, (const uint8_t[]){ __VA_ARGS__ }, sizeof(const uint8_t[]){ __VA_ARGS__ })
+
+/* Where 0x5555 is expected, and where 0xaaaa is, 0xb000 lets both go on to 0xb001. */
+static void check_fed_sizes(void)
+{
+    static const uint8_t cut[] = { 5 }, ahead[] = { 128, 224, 2, 0, 0 };
+    fresh_clients();
+    same("FED_SIZE", JAXHOPHASI_FED_SIZE, WRITTEN(jaxhophasi_feed(automaton, table, 14, clients, 3, cut, 1, expected, lent)));
+    same("EXPECTED_SIZE", JAXHOPHASI_EXPECTED_SIZE,
+        WRITTEN(jaxhophasi_feed(automaton, table, 14, clients, 3, ahead, 5, lent, answer)));
+}
+
+/* Client 1 of three: Page with serial 3, the first; Receipt with 4, in turn; Sign with 305, after
+ * a loss of 300. */
+static void check_fed(void)
+{
+    static const uint8_t emitted[] = { 0, 2, 3, 0, 0, 0, 0 };
+    fresh_clients();
+    set_expected(0, 9, 9);
+    same("the first record", FEED(3, 3, 1, 2), 0);
+    same_expected("after the first record", 1, 4, 0);
+    same("the second record", FEED(3, 4, 1, 3), 0);
+    same("no loss", jaxhophasi_number_at(answer + JAXHOPHASI_FED_LOSS), 0);
+    same("a record after a loss", FEED(3, 177, 2, 1, 0), 0);
+    same("the loss", jaxhophasi_number_at(answer + JAXHOPHASI_FED_LOSS), 300);
+    same("no place", jaxhophasi_number_at(answer + JAXHOPHASI_FED_PLACE), 0);
+    same_expected("after the loss", 1, 50, 1);
+    same_bytes("what the record puts out", answer + JAXHOPHASI_RECEIVED_EMITTED, emitted, 7);
+    same("how many the record puts out", answer[JAXHOPHASI_RECEIVED_COUNT], 3);
+    same("guarded after the record", answer[JAXHOPHASI_RECEIVED_WINNING], 1);
+    same("state of client 1 after the record", clients[1][JAXHOPHASI_CONFIGURATION_STATE], 1);
+    same("a record cut short", FEED(3, 179, 2, 1), 1);
+    same("its loss", jaxhophasi_number_at(answer + JAXHOPHASI_FED_LOSS), 0);
+    same("its place", jaxhophasi_number_at(answer + JAXHOPHASI_FED_PLACE), 3);
+    same_expected("after a record cut short", 1, 50, 1);
+    same("a record with a kind that W does not have", FEED(3, 179, 2, 1, 4), 14);
+    same("its loss", jaxhophasi_number_at(answer + JAXHOPHASI_FED_LOSS), 1);
+    same_expected("after a record with a kind that W does not have", 1, 52, 1);
+}
+
 /* ---- numbers of refusal ---- */
 
 /* The documents' number, the header's name for it, and a call that gives it. */
@@ -371,6 +434,27 @@ static void check_rows_of_calls(void)
     row(20, JAXHOPHASI_BAD_COUNT, day_for(0, queries, 2, 2));
 }
 
+static void check_rows_of_feeds(void)
+{
+    fresh_clients();
+    set_expected(1, 5, 0);
+    row(20, JAXHOPHASI_BAD_COUNT, FEED(0, 5, 0, 0));
+    row(1, JAXHOPHASI_ENDS_EARLY, FEED(3, 5, 0));
+    row(2, JAXHOPHASI_LONG_NUMBER, FEED(3, 133, 128, 128, 0, 0));
+    row(10, JAXHOPHASI_BYTES_LEFT, FEED(3, 5, 0, 0, 0));
+    row(21, JAXHOPHASI_BAD_SERIAL, FEED(3, 128, 128, 4, 0, 0));
+    row(22, JAXHOPHASI_LATE_SERIAL, FEED(3, 4, 0, 0));
+    row(0, JAXHOPHASI_FINE, FEED(3, 5, 0, 2));
+    row(19, JAXHOPHASI_NO_CLIENT, FEED(3, 6, 3, 0));
+    row(14, JAXHOPHASI_BAD_EVENT, FEED(3, 7, 0, 4));
+    row(0, JAXHOPHASI_FINE, FEED(3, 8, 0, 2));
+    row(15, JAXHOPHASI_BUFFER_FULL, FEED(3, 9, 0, 2));
+    clients[0][JAXHOPHASI_CONFIGURATION_STATE] = 4;
+    row(13, JAXHOPHASI_BAD_CONFIGURATION, FEED(3, 10, 0, 0));
+    automaton[0] = 40;
+    row(11, JAXHOPHASI_BAD_AUTOMATON, FEED(3, 11, 0, 0));
+}
+
 int main(void)
 {
     table = malloc(sizeof *table * 600000);
@@ -389,8 +473,11 @@ int main(void)
     check_client_events();
     check_received_for();
     check_ran_for();
+    check_fed_sizes();
+    check_fed();
     check_rows_of_reading();
     check_rows_of_calls();
+    check_rows_of_feeds();
     free(table);
     return different;
 }
