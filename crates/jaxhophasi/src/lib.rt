@@ -223,8 +223,8 @@ pub extern "C" fn jaxhophasi_run_for(
     lay_ran_for(ran, answer)
 }
 
-// One record of a feed, by its bytes, for a client of a list, as an event of that client. The bytes
-// of the expected serial become those of the next one; kept, they stay as they are.
+// One record of a feed, by its bytes, as an event of its client in the list. The bytes of the
+// expected serial become those of the next one; kept, they stay as they are.
 #[no_mangle]
 pub extern "C" fn jaxhophasi_feed(
     automaton: &[u8; AUTOMATON_SIZE],

@@ -116,8 +116,8 @@ module _ {M : Type 1} (𝓤 : URA M) (H : Heap 𝓤) (A : Atoms 𝓤) (at-mem : 
   abbrev Let : Contract 𝓤
   Let = tripleOf 𝓤 H A li.signature (li.spec 𝓤 H A at-mem run)
 
--- The letters: A automaton, T table, R list, B bytes, X expected serial; v is a machine value, `ref`
--- what a reference stands for, `Own` what a parameter owns.
+-- The letters: A automaton, T table, R list, B bytes, X expected serial; v is a machine value,
+-- `ref` what a reference stands for, `Own` what a parameter owns.
 module _ {M : Type 1} (𝓤 : URA M) (H : Heap 𝓤) (A : Atoms 𝓤) (W : Given 𝓤 H A) (at-mem : Memory → SProp 𝓤) (run : Routine → Fun 𝓤)
     (κt κr κb : Lft) (qt qr qb : Share) (a : Automaton) (refT : RefT (List ℕ)) (b o : ℕ) (γ : GName) (ys : List Configuration) (refB : RefT (List ℕ)) (x : Expected)
     (ga : Is Au.the-row a (LL.val Au.the-type Au′.the-laws a ∷ [])) (gx : Is Ex.the-row x (EL.val Ex.the-type Ex′.the-laws x ∷ []))

@@ -117,7 +117,8 @@ module _ {M : Type 1} (𝓤 : URA M) (H : Heap 𝓤) (A : Atoms 𝓤) (at-mem : 
   abbrev Lay : Contract 𝓤
   Lay = tripleOf 𝓤 H A la.signature (la.spec 𝓤 H A at-mem run)
 
--- The letters: B automaton's bytes, T table, R list, S record's bytes, E expected serial's, A answer's.
+-- The letters: B automaton's bytes, T table, R list, S record's bytes, E expected serial's, A
+-- answer's.
 module _ {M : Type 1} (𝓤 : URA M) (H : Heap 𝓤) (A : Atoms 𝓤) (W : Given 𝓤 H A) (at-mem : Memory → SProp 𝓤) (run : Routine → Fun 𝓤)
     (κb κt κr κs κe κa : Lft) (qb qt qr qs qe qa : Share) (refB refT : RefT (List ℕ)) (refR : RefT (List Configuration)) (refS refE refA : RefT (List ℕ)) where
   abbrev bs : List ℕ
