@@ -25,8 +25,8 @@ use Rattle.clients_answers.specs.Claims.{outcomeOf}
 use Rattle.feed_record.specs.declared.Expected.{Expected}
 use Rattle.feed_record.specs.Claims.{InTime}
 use Rattle.feed_answers.specs.Feed.{entryRefusal, fedFor}
-use Rattle.enforcement_clients.specs.ClientCalls.{ClientCall, receiveFor, runFor, feedFor, lentBy, reply, leaves, replies, leavesAll}
-use Rattle.enforcement_clients.specs.ClientCalls.{ownAll, seenAll, momentsOf}
+use Rattle.enforcement_clients.specs.ClientCalls.{ClientCall, receiveFor, runFor, feedFor, lentBy}
+use Rattle.enforcement_clients.specs.ClientCalls.{reply, leaves, replies, leavesAll, ownAll, seenAll, momentsOf}
 use Rattle.enforcement_clients.specs.Functions.{Functions, unfed, fedIn, expectedIn, expectedAll, fedAll}
 use Rattle.enforcement_clients.specs.Functions.{eventsTo, refusalsOf, configurationsAt}
 
@@ -100,9 +100,9 @@ pub record OutcomesAnswered (a : Automaton) (t : List ℕ) (cs : List Configurat
 abbrev pub OutcomesAsAnswered : Type 0
 OutcomesAsAnswered = (a : Automaton) (t : List ℕ) (cs : List Configuration) (g : ℕ) → OutcomesAnswered a t cs g
 
--- Two lists of calls, events, days and records mixed, over one automaton and table (of any contents), that
--- bring a client with the same configuration the same events: each of them brings the same row and
--- emits the same, and the last configuration is the same.
+-- Two lists of calls, events, days and records mixed, over one automaton and table (of any
+-- contents), that bring a client with the same configuration the same events: each of them brings
+-- the same row and emits the same, and the last configuration is the same.
 abbrev pub CallsNoninterference : Type 0
 CallsNoninterference =
     (a : Automaton) (t : List ℕ) (cs ds : List Configuration) (xs ys : List ClientCall) (g h : ℕ)
