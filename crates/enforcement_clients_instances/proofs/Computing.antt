@@ -24,7 +24,7 @@ use Rattle.clients_answers.specs.Claims.{sumBelow, answers, clientsAfter, allEm
 use Rattle.enforcement_clients.specs.ClientCalls.{lentBy, eventsBy, refusalIn, reply, leaves, replies, leavesAll, wholeRefusal, reaches}
 use Rattle.enforcement_clients.specs.ClientCalls.{ownBy, ownAll, seenBy, seenAll, meetings, momentsFrom, momentsOf}
 use Rattle.enforcement_clients.specs.Functions.{fedOwn, badCount, noRoom, refusalOf, fedIn, putOut, absentees, refusedDay, eventRefusalOf}
-use Rattle.enforcement_clients.specs.Functions.{expectedIn, lentOf, expected, fed, expectedAll, fedAll, eventsIn, eventsTo, configurationsAt}
+use Rattle.enforcement_clients.specs.Functions.{answerIn, expectedIn, lentOf, expected, fed, expectedAll, fedAll, eventsIn, eventsTo, configurationsAt}
 use Rattle.enforcement_clients.specs.Claims.{outcomesTo}
 
 -- the step of a client, without row 11's check, which is long (it is rewritten by what is known)
@@ -65,5 +65,5 @@ storing = 0
 unfoldable pub feeding : ℕ
 unfolding
     storing lentBy eventsBy refusalIn fedOwn badCount noRoom refusalOf fedIn putOut absentees refusedDay eventRefusalOf
-    expectedIn lentOf expected fed expectedAll fedAll eventsIn eventsTo configurationsAt
+    answerIn expectedIn lentOf expected fed expectedAll fedAll eventsIn eventsTo configurationsAt
 feeding = 0

@@ -1,6 +1,6 @@
 -- The instances of the claims on the interface for C over a list of clients.
 use mathlib.Core.Path.{_≡_, refl, _∙_, ap}
-use mathlib.Core.List.{[], _∷_, map}
+use mathlib.Core.List.{[], _∷_}
 use native.Mathlib.Omega.{arith}
 use Rattle.base.specs.Pad.{pad}
 use Rattle.automaton.specs.declared.Automaton.{Automaton}
@@ -14,13 +14,13 @@ use Rattle.clients_answers.specs.Clients.{receiveForRefusal, receivedFor, recei
 use Rattle.c_layout.specs.Layout.{automatonOf}
 use Rattle.c_layout.proofs.Offsets.{offsets-hold}
 use Rattle.c_layout.proofs.ClientCalls.{clients-left-as-answered}
-use Rattle.enforcement_bytes.specs.ClientByteCalls.{laidFor}
+use Rattle.enforcement_bytes.specs.ClientByteCalls.{callOf, laidFor, laidAll}
 use Rattle.enforcement_bytes.proofs.ClientByteCalls.{clients-by-value, client-bytes-enforced}
 use Rattle.enforcement_clients_instances.proofs.Computing.{listing}
 use Rattle.enforcement_clients_instances.proofs.CallInstances.{replies-here, leaves-here, fields}
 use Rattle.enforcement_clients_instances.specs.ListStatements.{sent, here, answerFor}
-use Rattle.enforcement_clients_instances.specs.CallStatements.{two, callsHere, calls}
-use Rattle.enforcement_clients_instances.specs.LayoutStatements.{ClientLayouts}
+use Rattle.enforcement_clients_instances.specs.CallStatements.{two}
+use Rattle.enforcement_clients_instances.specs.LayoutStatements.{lentHere, lentCalls, ClientLayouts}
 
 -- what the calls by value say of W and the list of two
 module _ (a : Automaton) (own : a ≡ automatonW) where
@@ -61,13 +61,13 @@ module _ (a : Automaton) (own : a ≡ automatonW) where
   short-row = rw own (rw valid-w refl)
 
 pub client-layouts : ClientLayouts
-unfolding pad laidFor
+unfolding pad callOf laidFor laidAll
 client-layouts =
     let a = automatonOf recordW in
     let left = clients-left-as-answered recordW tableW two in
     let r = offsets-hold .received-for (answerFor (2 ∷ 3 ∷ [])) two refl in
     let d = offsets-hold .ran-for (record { refusal = 0; length = 300; refused = 2 }) two [] in
-    let enforced = client-bytes-enforced recordW tableW (rw kept-w valid-w) (rw kept-w solved-w) (anyBytes ∷ anyBytes ∷ []) calls in
+    let enforced = client-bytes-enforced recordW tableW (rw kept-w valid-w) (rw kept-w solved-w) (anyBytes ∷ anyBytes ∷ []) lentCalls in
     record {
       received-size = r .size;
       emitted = r .emitted 1 (omega arith);
@@ -88,10 +88,10 @@ client-layouts =
       run-refused =
           left .run-refused (sent 1 0 ∷ []) (filled 3 9)
           (λ h. omega (arith, left .run-refusal (sent 1 0 ∷ []) (filled 3 9) ∙ short-row a kept-w));
-      by-value = clients-by-value recordW tableW here callsHere .each-reply ∙ rw kept-w (ap (map laidFor) replies-here);
-      by-value-list = clients-by-value recordW tableW here callsHere .list ∙ rw kept-w leaves-here;
+      by-value = clients-by-value recordW tableW here lentHere .each-reply ∙ rw kept-w (ap (laidAll lentHere) replies-here);
+      by-value-list = clients-by-value recordW tableW here lentHere .list ∙ rw kept-w leaves-here;
       initial-list = enforced .0;
-      enforced-replies = enforced .1 .each-reply ∙ rw (enforced .0, kept-w) (ap (map laidFor) (fields .each-reply));
+      enforced-replies = enforced .1 .each-reply ∙ rw (enforced .0, kept-w) (ap (laidAll lentCalls) (fields .each-reply));
       enforced-rows = refl;
       enforced-list = enforced .1 .list ∙ rw (enforced .0, kept-w) (fields .last-clients);
       enforced = enforced .2;

@@ -2,7 +2,7 @@
 -- bytes and the list of two.
 use Prim.Native.Nat.{_+_}
 use mathlib.Core.Path.{_≡_}
-use mathlib.Core.List.{[], _∷_, map}
+use mathlib.Core.List.{List, [], _∷_, map}
 use lib.ListN.{length, replicate}
 use Rattle.configuration.specs.Configuration.{configuration}
 use Rattle.enforcement_instances.specs.Statements.{filled, tableW, at}
@@ -15,13 +15,27 @@ use Rattle.c_layout.specs.Offsets.{receivedSize, receivedEmitted, receivedCount
 use Rattle.c_layout.specs.Offsets.{ranSize, ranLength, ranRefused, numberSize}
 use Rattle.c_layout.specs.Layout.{byteAt, part, numberOf, automatonOf}
 use Rattle.c_layout.specs.Calls.{receivedForLeft, ranForLeft, receiveForLeaves, runForLeaves}
-use Rattle.enforcement_bytes.specs.ClientByteCalls.{BesideList, besideAll, nextForAll, laidFor, initialList}
+use Rattle.enforcement_bytes.specs.ClientByteCalls.{LentCall, lentReceive, lentRun, BesideList, besideAll, nextForAll, laidAll, initialList}
 use Rattle.enforcement_clients_instances.specs.ListStatements.{sent, broken, here, answerFor}
-use Rattle.enforcement_clients_instances.specs.CallStatements.{refused, ran, two, callsHere, calls, callReplies}
+use Rattle.enforcement_clients_instances.specs.CallStatements.{refused, ran, two, calls, callReplies}
 
 -- a day's answer: 300 bytes written, two events refused
 abbrev pub longDay : RanFor
 longDay = record { refusal = 0; length = 300; refused = 2 }
+
+-- the calls here, and those on two clients at their start, as they are made through C
+abbrev pub lentHere : List LentCall
+lentHere =
+    lentReceive 3 0 0 ∷ lentReceive 0 0 1 ∷ lentRun 3 (sent 1 2 ∷ sent 0 3 ∷ sent 2 1 ∷ []) (filled 9 9) ∷ []
+
+abbrev pub lentCalls : List LentCall
+lentCalls =
+    lentReceive 0 1 2 ∷
+    lentReceive 2 1 2 ∷
+    lentRun 2 (sent 1 0 ∷ []) (filled 1 9) ∷
+    lentReceive 1 1 0 ∷
+    lentRun 7 (sent 1 3 ∷ sent 0 0 ∷ sent 1 0 ∷ sent 5 0 ∷ sent 1 7 ∷ sent 1 2 ∷ []) (filled 8 9) ∷
+    lentReceive 2 0 1 ∷ []
 
 pub record ClientLayouts : Type 0 where
   -- an event's answer that emits Page and Receipt and is winning, and a day's
@@ -50,13 +64,14 @@ pub record ClientLayouts : Type 0 where
       × (runForLeaves recordW tableW two (sent 1 0 ∷ []) (filled 3 9) .answer ≡ replicate ranSize 0)
       × (runForLeaves recordW tableW two (sent 1 0 ∷ []) (filled 3 9) .output ≡ filled 3 9)
   -- the calls here: Sign goes out, 20, and a day that writes three bytes and refuses one event
-  pub by-value : besideAll recordW tableW here callsHere
-      ≡ map laidFor (receive (answerFor (0 ∷ [])) ∷ refused 20 ∷ ran 0 3 1 (2 ∷ 3 ∷ 1 ∷ 9 ∷ 9 ∷ 9 ∷ 9 ∷ 9 ∷ 9 ∷ []) ∷ [])
-  pub by-value-list : nextForAll recordW tableW here callsHere ≡ configuration (at 1 []) ∷ broken ∷ configuration (at 0 []) ∷ []
+  pub by-value : besideAll recordW tableW here lentHere
+      ≡ laidAll lentHere (receive (answerFor (0 ∷ [])) ∷ refused 20 ∷ ran 0 3 1 (2 ∷ 3 ∷ 1 ∷ 9 ∷ 9 ∷ 9 ∷ 9 ∷ 9 ∷ 9 ∷ []) ∷ [])
+  pub by-value-list : nextForAll recordW tableW here lentHere ≡ configuration (at 1 []) ∷ broken ∷ configuration (at 0 []) ∷ []
   -- two clients made by the interface, over bytes that held something else
   pub initial-list : initialList recordW (anyBytes ∷ anyBytes ∷ []) ≡ initialClients (automatonOf recordW) 2
-  pub enforced-replies : besideAll recordW tableW (initialList recordW (anyBytes ∷ anyBytes ∷ [])) calls ≡ map laidFor callReplies
-  pub enforced-rows : map (λ (x : BesideList). x .refusal) (map laidFor callReplies) ≡ 20 ∷ 0 ∷ 16 ∷ 19 ∷ 0 ∷ 0 ∷ []
-  pub enforced-list : nextForAll recordW tableW (initialList recordW (anyBytes ∷ anyBytes ∷ [])) calls
+  pub enforced-replies : besideAll recordW tableW (initialList recordW (anyBytes ∷ anyBytes ∷ [])) lentCalls
+      ≡ laidAll lentCalls callReplies
+  pub enforced-rows : map (λ (x : BesideList). x .refusal) (laidAll lentCalls callReplies) ≡ 20 ∷ 0 ∷ 16 ∷ 19 ∷ 0 ∷ 0 ∷ []
+  pub enforced-list : nextForAll recordW tableW (initialList recordW (anyBytes ∷ anyBytes ∷ [])) lentCalls
       ≡ configuration (at 0 []) ∷ configuration (at 1 (2 ∷ [])) ∷ []
   pub enforced : ClientsEnforced (automatonOf recordW) tableW 2 calls
