@@ -26,7 +26,7 @@ use Rattle.feed_record.specs.declared.Admitted.{Admitted as LetIn}
 use Rattle.feed_record.specs.Serials.{following, ahead}
 use Rattle.feed_record.specs.Records.{letIn, admission}
 use Rattle.feed_record.specs.Claims.{InTime}
-use Rattle.feed_record.proofs.Worded.{records-as-worded}
+use Rattle.feed_record.proofs.Worded.{records-as-worded, not-between}
 use Rattle.feed_answers.specs.Feed.{deliveredFed}
 use Rattle.feed_answers.proofs.Worded.{events-in-as-worded}
 use Rattle.enforcement_clients.specs.ClientCalls.{ClientCall, receiveFor, runFor, feedFor, eventsBy, ClientReply, receive, run, feed, refusalIn}
@@ -322,14 +322,6 @@ module _ (a : Automaton) (n : ℕ) (ss : Functions) (k : ℕ) (s : List ℕ) (x 
   unfolding expectedIn refusalOf
   feed-let-in r z = rw (right-good n r, z)
 
-  -- row 20 is none of a record's
-  not-20 : m .refusal ≡ 20 → ⊥
-  not-20 h =
-      either (records-as-worded s x .known) (λ e. omega arith)
-      (λ f. either f (λ e. omega arith)
-      (λ f1. either f1 (λ e. omega arith)
-      (λ f2. either f2 (λ e. omega arith) (λ f3. either f3 (λ e. omega arith) (λ e. omega arith)))))
-
   feed-20 : refusalIn (expectedIn a n ss fed-call) ≡ 20 → WrongCount n
   unfolding refusalIn answerIn
   feed-20 h =
@@ -339,7 +331,7 @@ module _ (a : Automaton) (n : ℕ) (ss : Functions) (k : ℕ) (s : List ℕ) (x 
       let r = count-right n b in
       by (eqb (m .refusal) 0)
       (λ q. given-20 a n ss k (m .client) (m .symbol) (sym (ap refusalIn (feed-let-in r (eqb-true (m .refusal) 0 q))) ∙ h))
-      (λ q. absurd (not-20 (sym (ap refusalIn (feed-refused r (eqb-false (m .refusal) 0 q))) ∙ h))))
+      (λ q. absurd (not-between s x 20 (omega arith) (omega arith) (sym (ap refusalIn (feed-refused r (eqb-false (m .refusal) 0 q))) ∙ h))))
 
   -- what is fed
   wrong-count-fed : (g : ℕ) → WrongCount n → fedIn a n ss fed-call g ≡ ss g

@@ -3,3 +3,4 @@ pub mod ListInstances
 pub mod CallInstances
 pub mod PublishedInstances
 pub mod LayoutInstances
+pub mod RecordInstances

@@ -2,3 +2,4 @@ pub mod ListStatements
 pub mod CallStatements
 pub mod PublishedStatements
 pub mod LayoutStatements
+pub mod RecordStatements

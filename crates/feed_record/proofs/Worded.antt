@@ -197,6 +197,14 @@ records-as-worded s expected =
       refused = refused s expected;
     }
 
+-- no number between 10 and 21 is a record's, so none of its event's
+pub not-between : (s : List ℕ) (expected : Expected) (n : ℕ) → 10 < n → n < 21 → admission s expected .refusal ≡ n → ⊥
+not-between s expected n l h e =
+    either (records-as-worded s expected .known) (λ k. omega arith)
+    (λ f. either f (λ k. omega arith)
+    (λ f1. either f1 (λ k. omega arith)
+    (λ f2. either f2 (λ k. omega arith) (λ f3. either f3 (λ k. omega arith) (λ k. omega arith)))))
+
 -- numbers that are written
 module _ (serial client symbol : ℕ) (rest : List ℕ) (a : serial < 2097152) (b : client < 2097152) (c : symbol < 2097152) where
   abbrev front : List ℕ
