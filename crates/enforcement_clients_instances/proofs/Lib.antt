@@ -4,3 +4,4 @@ pub mod CallInstances
 pub mod PublishedInstances
 pub mod LayoutInstances
 pub mod RecordInstances
+pub mod FeedInstances

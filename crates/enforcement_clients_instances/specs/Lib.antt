@@ -3,3 +3,4 @@ pub mod CallStatements
 pub mod PublishedStatements
 pub mod LayoutStatements
 pub mod RecordStatements
+pub mod FeedStatements
