@@ -37,11 +37,11 @@ use Rattle.enforcement_clients_instances.proofs.Computing.{admitting, l
 use Rattle.enforcement_clients_instances.proofs.ListInstances.{short-13, long-w, broken-fails, held-stands, crowd-length, clear-w}
 use Rattle.enforcement_clients_instances.proofs.CallInstances.{enforced-w, clear-two, none-20, answer-sign, own-here, outcomes-here, leaves-here}
 use Rattle.enforcement_clients_instances.proofs.CallInstances.{both-long, same-bits}
-use Rattle.enforcement_clients_instances.proofs.RecordInstances.{gap-in, record-fields}
+use Rattle.enforcement_clients_instances.proofs.RecordInstances.{turn-in, gap-in, record-fields}
 use Rattle.enforcement_clients_instances.specs.ListStatements.{broken, here, there, beside, brings, answerFor, crowd, pair}
 use Rattle.enforcement_clients_instances.specs.CallStatements.{startW, callsHere, two, signed, otherTable}
-use Rattle.enforcement_clients_instances.specs.RecordStatements.{serialZero, afterGap, repeated, oneMore, tooLarge}
-use Rattle.enforcement_clients_instances.specs.FeedStatements.{fedAs, feedCalls, feedReplies, feedClients, FeedCallFields, inTurn, feedRow}
+use Rattle.enforcement_clients_instances.specs.RecordStatements.{serialZero, afterGap, repeated, oneMore, tooLarge, inTurn}
+use Rattle.enforcement_clients_instances.specs.FeedStatements.{fedAs, feedCalls, feedReplies, feedClients, FeedCallFields, feedRow}
 use Rattle.enforcement_clients_instances.specs.FeedStatements.{FeedRowFields, FeedAnswerFields, FeedIsolating, FeedBringing, feedThere, FeedBeside}
 
 replies-fed : replies automatonW tableW (startW 3) feedCalls ≡ feedReplies
@@ -139,14 +139,9 @@ feed-row-fields =
           either (said (broken ∷ c ∷ []) (inTurn 1 3) (Serial 7) .event .accepted .0 h .3 .1) (λ k. absurd (k refl)) (λ l. l);
     }
 
--- Sign of client 1 and of client 0, as they are read, and let in
-sign-read : RecordIs (inTurn 1 0) 7 1 0
-unfolding encode bytes encoded
-sign-read = records-read-back 7 1 0 [] (omega arith) (omega arith) (omega arith)
-
+-- Sign of client 1 and of client 0, let in
 sign-in : InTime (inTurn 1 0) (Serial 2) 7 1 0
-unfolding admitting
-sign-in = record { is = sign-read; small = omega arith; early = omega arith }
+sign-in = turn-in 1 0 (omega arith) (omega arith)
 
 zero-read : RecordIs serialZero 0 0 0
 unfolding encode bytes encoded

@@ -4,6 +4,7 @@ use mathlib.Core.Path.{_≡_, refl, _∙_}
 use mathlib.Core.Logic.{inl, inr}
 use mathlib.Core.List.{List, [], _∷_, append-nil}
 use native.Mathlib.Omega.{arith}
+use borrow.Author.Tests.{lt-ltb}
 use Rattle.varint.specs.Varint.{groups, read, encode, bytes, encoded}
 use Rattle.feed_record.specs.declared.Expected.{Expected}
 use Rattle.feed_record.specs.declared.Expected.the-variants.{Any, Serial}
@@ -13,7 +14,7 @@ use Rattle.feed_record.specs.Claims.{Ring, RecordRows, NumberFaulty, Whole, Rec
 use Rattle.feed_record.proofs.Ring.{ring-as-worded}
 use Rattle.feed_record.proofs.Worded.{records-as-worded, not-between, records-read-back}
 use Rattle.feed_record.proofs.Telling.{serials-tell, first-let-in}
-use Rattle.enforcement_clients_instances.specs.RecordStatements.{afterGap, repeated, oneMore, tooLarge, Rings, RecordFields}
+use Rattle.enforcement_clients_instances.specs.RecordStatements.{afterGap, repeated, oneMore, tooLarge, inTurn, Rings, RecordFields}
 use Rattle.enforcement_clients_instances.specs.RecordStatements.{signAt, Telling}
 
 -- from 65,533 to 2
@@ -60,6 +61,20 @@ repeat-read = records-read-back 6 2 0 [] (omega arith) (omega arith) (omega arit
 large-read : RecordIs tooLarge 65536 1 3
 unfolding encode bytes encoded
 large-read = records-read-back 65536 1 3 [] (omega arith) (omega arith) (omega arith)
+
+turn-bytes : (g e : ℕ) → g < 128 → e < 128 → encoded (7 ∷ g ∷ e ∷ []) ≡ inTurn g e
+unfolding encode bytes encoded
+turn-bytes g e l k = rw (lt-ltb g 128 l, lt-ltb e 128 k)
+
+turn-read : (g e : ℕ) → g < 128 → e < 128 → RecordIs (inTurn g e) 7 g e
+turn-read g e l k =
+    let is = turn-bytes g e l k in
+    rw (append-nil (encoded (7 ∷ g ∷ e ∷ [])), is) at (records-read-back 7 g e [] (omega arith) (omega arith) (omega arith))
+
+-- let in, with five lost before it
+pub turn-in : (g e : ℕ) → g < 128 → e < 128 → InTime (inTurn g e) (Serial 2) 7 g e
+unfolding ahead distance
+turn-in g e l k = record { is = turn-read g e l k; small = omega arith; early = omega arith }
 
 -- the numbers that cannot be read
 in-serial : NumberFaulty (255 ∷ 255 ∷ []) 1 0

@@ -26,7 +26,7 @@ use Rattle.enforcement_clients.specs.Functions.{unfed, expectedAll, fedAll, eve
 use Rattle.enforcement_clients.specs.Claims.{outcomesTo}
 use Rattle.enforcement_clients_instances.specs.ListStatements.{sent, broken, waiting, here, there, beside, brings, answerFor, crowd, pair}
 use Rattle.enforcement_clients_instances.specs.CallStatements.{ran, startW, two, signed, otherTable}
-use Rattle.enforcement_clients_instances.specs.RecordStatements.{lastSerial, serialZero, afterGap, repeated, oneMore, tooLarge, noClient}
+use Rattle.enforcement_clients_instances.specs.RecordStatements.{lastSerial, serialZero, afterGap, repeated, oneMore, tooLarge, noClient, inTurn}
 
 -- let in: the answer to the event, the serial that is expected next, and the loss
 abbrev pub fedAs : ReceivedFor → ℕ → ℕ → Fed
@@ -85,10 +85,6 @@ pub record FeedCallFields : Type 0 where
   -- over a table with the same bits
   pub replies-other : replies automatonW otherTable (startW 3) feedCalls ≡ feedReplies
   pub clients-other : leavesAll automatonW otherTable (startW 3) feedCalls ≡ feedClients
-
--- the next record, where 7 is expected
-abbrev pub inTurn : ℕ → ℕ → List ℕ
-inTurn g e = 7 ∷ g ∷ e ∷ []
 
 -- the row of a record over W's table
 abbrev pub feedRow : List Configuration → List ℕ → Expected → ℕ

@@ -1,6 +1,6 @@
 pub mod ListStatements
 pub mod CallStatements
-pub mod PublishedStatements
-pub mod LayoutStatements
 pub mod RecordStatements
 pub mod FeedStatements
+pub mod PublishedStatements
+pub mod LayoutStatements

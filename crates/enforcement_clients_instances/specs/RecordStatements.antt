@@ -35,6 +35,10 @@ tooLarge = 128 ∷ 128 ∷ 4 ∷ 1 ∷ 3 ∷ []
 abbrev pub noClient : List ℕ
 noClient = 7 ∷ 5 ∷ 0 ∷ []
 
+-- the event e of client g, both small, with serial 7
+abbrev pub inTurn : ℕ → ℕ → List ℕ
+inTurn g e = 7 ∷ g ∷ e ∷ []
+
 -- from 65,533 it is five to 2
 pub record Rings : Type 0 where
   pub reaches : (65533 + distance 65533 2) % serials ≡ 2
