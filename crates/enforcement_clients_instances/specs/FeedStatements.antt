@@ -24,18 +24,21 @@ use Rattle.enforcement_clients.specs.ClientCalls.{ClientCall, receiveFor, runFo
 use Rattle.enforcement_clients.specs.ClientCalls.{replies, leavesAll, ownAll}
 use Rattle.enforcement_clients.specs.Functions.{unfed, expectedAll, fedAll, eventsTo, configurationsAt}
 use Rattle.enforcement_clients.specs.Claims.{outcomesTo}
-use Rattle.enforcement_clients_instances.specs.ListStatements.{sent, broken, waiting, here, there, beside, brings, answerFor, crowd, pair}
+use Rattle.enforcement_clients_instances.specs.ListStatements.{sent, broken, waiting, here, there, beside}
+use Rattle.enforcement_clients_instances.specs.ListStatements.{brings, answerFor, crowd, pair}
 use Rattle.enforcement_clients_instances.specs.CallStatements.{ran, startW, two, signed, otherTable}
-use Rattle.enforcement_clients_instances.specs.RecordStatements.{lastSerial, serialZero, afterGap, repeated, oneMore, tooLarge, noClient, inTurn}
+use Rattle.enforcement_clients_instances.specs.RecordStatements.{lastSerial, serialZero, afterGap, repeated}
+use Rattle.enforcement_clients_instances.specs.RecordStatements.{oneMore, tooLarge, noClient, inTurn}
 
 -- let in: the answer to the event, the serial that is expected next, and the loss
 abbrev pub fedAs : ReceivedFor → ℕ → ℕ → Fed
 fedAs answer next loss = record { answer = answer; place = 0; expected = Serial next; loss = loss }
 
 -- Of three clients: a Page of client 1; its Sign, with the last serial, where none is expected;
--- Sign of client 0 with the next serial, 0; a kind that there is not, of client 1, five later; a
--- repeat, which has Sign of client 2; a day of Receipt of client 1 and Page of client 2; a byte too
--- many; a serial that there is not; Sign of a client 5; and a record with none lent.
+-- Sign of client 0 with the next serial, 0; of client 1, with five lost before it, a kind that
+-- there is not; a repeat, which has Sign of client 2; a day of Receipt of client 1 and Page of
+-- client 2; a byte too many; a serial that there is not; Sign of a client 5; and a record with
+-- none lent.
 abbrev pub feedCalls : List ClientCall
 feedCalls =
     receiveFor 3 1 2 ∷
@@ -128,7 +131,7 @@ pub record FeedAnswerFields : Type 0 where
       × (fedClients automatonW tableW [] oneMore (Serial 7) ≡ [])
   pub by-record : (fedFor automatonW tableW two oneMore (Serial 7) ≡ refusedFed (Serial 7) 10 3)
       × (fedClients automatonW tableW two oneMore (Serial 7) ≡ two)
-  -- Sign of client 1, five late ..
+  -- Sign of client 1, with five lost before it ..
   pub let-in : (fedFor automatonW tableW two (inTurn 1 0) (Serial 2) ≡ fedAs (answerFor (0 ∷ [])) 8 5)
       × (fedClients automatonW tableW two (inTurn 1 0) (Serial 2) ≡ signed)
   -- .. and a kind that there is not

@@ -22,7 +22,8 @@ use Rattle.enforcement_bytes.specs.ClientByteCalls.{LentCall, lentReceive, lent
 use Rattle.enforcement_bytes.specs.ClientByteCalls.{BesideList, besideAll, nextForAll, laidAll, initialList}
 use Rattle.enforcement_clients_instances.specs.ListStatements.{sent, broken, here, answerFor}
 use Rattle.enforcement_clients_instances.specs.CallStatements.{refused, ran, two, signed, calls, callReplies}
-use Rattle.enforcement_clients_instances.specs.RecordStatements.{lastSerial, serialZero, afterGap, repeated, oneMore, tooLarge, noClient, inTurn}
+use Rattle.enforcement_clients_instances.specs.RecordStatements.{lastSerial, serialZero, afterGap, repeated}
+use Rattle.enforcement_clients_instances.specs.RecordStatements.{oneMore, tooLarge, noClient, inTurn}
 use Rattle.enforcement_clients_instances.specs.FeedStatements.{fedAs, feedCalls, feedReplies, feedClients}
 
 -- a day's answer: 300 bytes written, two events refused
@@ -152,5 +153,6 @@ pub record FeedLayouts : Type 0 where
   pub enforced-rows : map (λ (x : BesideList). x .refusal) (laidAll lentFeedCalls feedReplies)
       ≡ 0 ∷ 0 ∷ 0 ∷ 14 ∷ 22 ∷ 0 ∷ 10 ∷ 21 ∷ 19 ∷ 20 ∷ []
   pub enforced-serials : map (λ (x : BesideList). x .expected) (laidAll lentFeedCalls feedReplies) ≡ serialsLeft
-  pub enforced-list : nextForAll recordW tableW (initialList recordW (anyBytes ∷ anyBytes ∷ anyBytes ∷ [])) lentFeedCalls ≡ feedClients
+  pub enforced-list : nextForAll recordW tableW (initialList recordW (anyBytes ∷ anyBytes ∷ anyBytes ∷ [])) lentFeedCalls
+      ≡ feedClients
   pub enforced : ClientsEnforced (automatonOf recordW) tableW 3 feedCalls

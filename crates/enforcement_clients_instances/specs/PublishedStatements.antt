@@ -96,8 +96,8 @@ pub record FeedFields : Type 0 where
   pub row-20-many : feedRowOf 501 [] Any ≡ 20
   -- and the other way
   pub only-20 : (n : ℕ) (s : List ℕ) (x : Expected) → feedRowOf n s x ≡ 20 → WrongCount n
-  -- not let in, by 20, for a byte too many and as a repeat: the expected serial is kept, and so are
-  -- the functions
+  -- not let in, by 20, for a byte too many and as a repeat: the expected serial is kept, and each
+  -- function
   pub wrong-count : expectedIn automatonW 501 family (feedFor 501 oneMore (Serial 7)) ≡ feed (refusedFed (Serial 7) 20 0)
   pub one-more : expectedIn automatonW 2 family (feedFor 2 oneMore (Serial 7)) ≡ feed (refusedFed (Serial 7) 10 3)
   pub late : expectedIn automatonW 3 family (feedFor 3 repeated (Serial 7)) ≡ feed (refusedFed (Serial 7) 22 0)

@@ -11,9 +11,9 @@ use Rattle.feed_record.specs.Records.{turnedAway, admission}
 use Rattle.feed_record.specs.Claims.{NumberFaulty, Whole, BytesLeft, LargeSerial, LateSerial, Timely}
 use Rattle.feed_record.specs.Claims.{serialAt, TakenAs, TakenAsLate}
 
--- Sign of client 1 with the last serial, and of client 0 with the one after it; of client 1, five
--- later, a kind that there is not; Sign of client 2, a repeat of that serial; Receipt of client 1,
--- with a byte too many; the same with a serial that there is not; Sign of a client 5
+-- Sign of client 1 with the last serial, and of client 0 with the one after it; of client 1, with
+-- serial 6, a kind that there is not; Sign of client 2 with that serial again; Receipt of client 1
+-- with a byte too many, and with a serial that there is not; Sign of a client 5
 abbrev pub lastSerial : List ℕ
 lastSerial = 255 ∷ 255 ∷ 3 ∷ 1 ∷ 0 ∷ []
 
