@@ -25,7 +25,7 @@ use Rattle.feed_record.specs.declared.Expected.the-variants.{Any, Serial}
 use Rattle.feed_record.specs.Records.{admission}
 use Rattle.feed_record.specs.Claims.{RecordIs, InTime}
 use Rattle.feed_record.proofs.Worded.{records-as-worded, records-read-back}
-use Rattle.feed_answers.specs.Feed.{entryRefusal, refusedFed, fedFor, eventIn, fedClients}
+use Rattle.feed_answers.specs.Feed.{entryRefusal, fedFor, eventIn, fedClients}
 use Rattle.feed_answers.specs.Claims.{FeedRows, FeedAnswered}
 use Rattle.feed_answers.proofs.Worded.{feed-rows-as-worded, feed-answered-as-worded, events-in-as-worded}
 use Rattle.feed_answers.proofs.Worded.{feed-noninterference, feed-keeps-others, feed-emitted-padded}
@@ -41,7 +41,7 @@ use Rattle.enforcement_clients_instances.proofs.RecordInstances.{turn-i
 use Rattle.enforcement_clients_instances.specs.ListStatements.{broken, here, there, beside, brings, answerFor, crowd, pair}
 use Rattle.enforcement_clients_instances.specs.CallStatements.{startW, callsHere, two, signed, otherTable}
 use Rattle.enforcement_clients_instances.specs.RecordStatements.{serialZero, afterGap, repeated, oneMore, tooLarge, inTurn}
-use Rattle.enforcement_clients_instances.specs.FeedStatements.{fedAs, feedCalls, feedReplies, feedClients, FeedCallFields, feedRow}
+use Rattle.enforcement_clients_instances.specs.FeedStatements.{fedAs, keptAs, feedCalls, feedReplies, feedClients, FeedCallFields, feedRow}
 use Rattle.enforcement_clients_instances.specs.FeedStatements.{FeedRowFields, FeedAnswerFields, FeedIsolating, FeedBringing, feedThere, FeedBeside}
 
 replies-fed : replies automatonW tableW (startW 3) feedCalls ≡ feedReplies
@@ -195,8 +195,8 @@ feed-answer-fields =
     let refused = answered two afterGap (Serial 1) .refused (λ z. omega (arith, row-gap)) in
     let emitted = feed-emitted-padded automatonW tableW two (inTurn 1 0) (Serial 2) in
     record {
-      by-list = (by-list .0 ∙ ap (λ n. refusedFed (Serial 7) n 0) none-20, by-list .1);
-      by-record = (by-record .0 ∙ (λ j. refusedFed (Serial 7) (at-10 .0 j) (at-10 .1 j)), by-record .1);
+      by-list = (by-list .0 ∙ ap (λ n. keptAs 7 n 0) none-20, by-list .1);
+      by-record = (by-record .0 ∙ (λ j. keptAs 7 (at-10 .0 j) (at-10 .1 j)), by-record .1);
       let-in = (fed-sign, answered two (inTurn 1 0) (Serial 2) .let-in clear-list-two 7 1 0 sign-in .1 ∙ list-sign);
       refused = (refused .0, refused .1 ∙ ap refusedFor row-gap);
       others = answered here serialZero (Serial 0) .others 1 (λ h. omega (arith, client-zero));

@@ -18,7 +18,6 @@ use Rattle.feed_record.specs.declared.Expected.{Expected}
 use Rattle.feed_record.specs.declared.Expected.the-variants.{Any, Serial}
 use Rattle.feed_record.specs.declared.Admitted.{Admitted}
 use Rattle.feed_record.specs.Serials.{distance, following, ahead}
-use Rattle.feed_answers.specs.Feed.{refusedFed}
 use Rattle.enforcement_clients.specs.ClientCalls.{receiveFor, receive, feed}
 use Rattle.enforcement_clients.specs.Functions.{Functions, fedOwn, putOut, refusedDay, expectedIn}
 use Rattle.enforcement_clients.specs.Published.{ClientsAsPublished, EventAsPublished, EventsAsPublished, DayAsPublished, FeedAsPublished}
@@ -27,6 +26,7 @@ use Rattle.enforcement_clients_instances.proofs.Computing.{storing}
 use Rattle.enforcement_clients_instances.proofs.RecordInstances.{turn-in, record-fields}
 use Rattle.enforcement_clients_instances.specs.ListStatements.{sent, answerFor}
 use Rattle.enforcement_clients_instances.specs.RecordStatements.{repeated, oneMore, inTurn}
+use Rattle.enforcement_clients_instances.specs.FeedStatements.{keptAs}
 use Rattle.enforcement_clients_instances.specs.PublishedStatements.{family, EventFields, xs, EventsFields, DayFields, FeedFields}
 
 -- what the claim says of W's functions
@@ -238,10 +238,10 @@ feed-fields =
       wrong-count = record-of 501 oneMore (Serial 7) .wrong-count (inr (omega arith));
       one-more =
           record-of 2 oneMore (Serial 7) .not-let-in (right 2 (omega arith) (omega arith)) (λ z. omega (arith, at-10 .0)) ∙
-          (λ j. feed (refusedFed (Serial 7) (at-10 .0 j) (at-10 .1 j)));
+          (λ j. feed (keptAs 7 (at-10 .0 j) (at-10 .1 j)));
       late =
           record-of 3 repeated (Serial 7) .not-let-in (right 3 (omega arith) (omega arith)) (λ z. omega (arith, record-fields .row-22)) ∙
-          ap (λ (m : Admitted). feed (refusedFed (Serial 7) (m .refusal) (m .place))) at-22;
+          ap (λ (m : Admitted). feed (keptAs 7 (m .refusal) (m .place))) at-22;
       wrong-count-fed = record-of 501 (inTurn 1 2) (Serial 2) .wrong-count-fed 1 (inr (omega arith));
       late-fed = record-of 3 repeated (Serial 7) .not-let-in-fed 2 (λ z. omega (arith, record-fields .row-22));
       fed = record-of 2 (inTurn 1 2) (Serial 2) .let-in-fed 1 7 1 2 page ∙ event-fields .fed;

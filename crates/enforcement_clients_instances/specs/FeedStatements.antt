@@ -3,7 +3,7 @@ use Prim.Native.Nat.{ℕ, _<_, _≤_}
 use mathlib.Core.Path.{_≡_}
 use mathlib.Core.Bool.{true, false}
 use mathlib.Core.List.{List, [], _∷_, map}
-use lib.ListN.{length, getD}
+use lib.ListN.{length, getD, replicate}
 use Rattle.automaton.specs.declared.Automaton.{Automaton}
 use Rattle.automaton.specs.Automaton.{valid}
 use Rattle.solver_sets.specs.Table.{short, table}
@@ -19,7 +19,7 @@ use Rattle.feed_record.specs.declared.Expected.{Expected}
 use Rattle.feed_record.specs.declared.Expected.the-variants.{Any, Serial}
 use Rattle.feed_record.specs.Records.{admission}
 use Rattle.feed_answers.specs.declared.Fed.{Fed}
-use Rattle.feed_answers.specs.Feed.{feedRefusal, refusedFed, fedFor, eventIn, fedClients}
+use Rattle.feed_answers.specs.Feed.{feedRefusal, fedFor, eventIn, fedClients}
 use Rattle.enforcement_clients.specs.ClientCalls.{ClientCall, receiveFor, runFor, feedFor, ClientReply, receive, feed}
 use Rattle.enforcement_clients.specs.ClientCalls.{replies, leavesAll, ownAll}
 use Rattle.enforcement_clients.specs.Functions.{unfed, expectedAll, fedAll, eventsTo, configurationsAt}
@@ -33,6 +33,16 @@ use Rattle.enforcement_clients_instances.specs.RecordStatements.{oneMore
 -- let in: the answer to the event, the serial that is expected next, and the loss
 abbrev pub fedAs : ReceivedFor → ℕ → ℕ → Fed
 fedAs answer next loss = record { answer = answer; place = 0; expected = Serial next; loss = loss }
+
+-- not let in: the row and its place, zeros, and the expected serial as it was given
+abbrev pub keptAs : ℕ → ℕ → ℕ → Fed
+keptAs x row place =
+    record {
+      answer = record { refusal = row; emitted = replicate 7 0; count = 0; winning = false };
+      place = place;
+      expected = Serial x;
+      loss = 0;
+    }
 
 -- Of three clients: a Page of client 1; its Sign, with the last serial, where none is expected;
 -- Sign of client 0 with the next serial, 0; of client 1, with five lost before it, a kind that
@@ -59,12 +69,12 @@ feedReplies =
     feed (fedAs (answerFor (0 ∷ [])) 0 0) ∷
     feed (fedAs (answerFor (0 ∷ [])) 1 0) ∷
     feed (fedAs (refusedFor 14) 7 5) ∷
-    feed (refusedFed (Serial 7) 22 0) ∷
+    feed (keptAs 7 22 0) ∷
     ran 0 2 0 (2 ∷ 3 ∷ 9 ∷ 9 ∷ []) ∷
-    feed (refusedFed (Serial 7) 10 3) ∷
-    feed (refusedFed (Serial 7) 21 0) ∷
+    feed (keptAs 7 10 3) ∷
+    feed (keptAs 7 21 0) ∷
     feed (fedAs (refusedFor 19) 8 0) ∷
-    feed (refusedFed (Serial 8) 20 0) ∷ []
+    feed (keptAs 8 20 0) ∷ []
 
 abbrev pub feedClients : List Configuration
 feedClients = configuration (at 1 []) ∷ configuration (at 1 []) ∷ configuration (at 0 (2 ∷ [])) ∷ []
@@ -127,9 +137,9 @@ pub record FeedRowFields : Type 0 where
 
 -- whole answers, and the list then
 pub record FeedAnswerFields : Type 0 where
-  pub by-list : (fedFor automatonW tableW [] oneMore (Serial 7) ≡ refusedFed (Serial 7) 20 0)
+  pub by-list : (fedFor automatonW tableW [] oneMore (Serial 7) ≡ keptAs 7 20 0)
       × (fedClients automatonW tableW [] oneMore (Serial 7) ≡ [])
-  pub by-record : (fedFor automatonW tableW two oneMore (Serial 7) ≡ refusedFed (Serial 7) 10 3)
+  pub by-record : (fedFor automatonW tableW two oneMore (Serial 7) ≡ keptAs 7 10 3)
       × (fedClients automatonW tableW two oneMore (Serial 7) ≡ two)
   -- Sign of client 1, with five lost before it ..
   pub let-in : (fedFor automatonW tableW two (inTurn 1 0) (Serial 2) ≡ fedAs (answerFor (0 ∷ [])) 8 5)

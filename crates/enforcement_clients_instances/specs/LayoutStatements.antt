@@ -11,7 +11,6 @@ use Rattle.clients_answers.specs.declared.RanFor.{RanFor}
 use Rattle.clients_answers.specs.Clients.{initialClients}
 use Rattle.feed_record.specs.declared.Expected.the-variants.{Any, Serial}
 use Rattle.feed_answers.specs.declared.Fed.{Fed}
-use Rattle.feed_answers.specs.Feed.{refusedFed}
 use Rattle.enforcement_clients.specs.ClientCalls.{receive}
 use Rattle.enforcement_clients.specs.Claims.{ClientsEnforced}
 use Rattle.c_layout.specs.Offsets.{receivedSize, receivedEmitted, receivedCount, receivedWinning}
@@ -24,7 +23,7 @@ use Rattle.enforcement_clients_instances.specs.ListStatements.{sent, bro
 use Rattle.enforcement_clients_instances.specs.CallStatements.{refused, ran, two, signed, calls, callReplies}
 use Rattle.enforcement_clients_instances.specs.RecordStatements.{lastSerial, serialZero, afterGap, repeated}
 use Rattle.enforcement_clients_instances.specs.RecordStatements.{oneMore, tooLarge, noClient, inTurn}
-use Rattle.enforcement_clients_instances.specs.FeedStatements.{fedAs, feedCalls, feedReplies, feedClients}
+use Rattle.enforcement_clients_instances.specs.FeedStatements.{fedAs, keptAs, feedCalls, feedReplies, feedClients}
 
 -- a day's answer: 300 bytes written, two events refused
 abbrev pub longDay : RanFor
@@ -89,7 +88,7 @@ abbrev pub longLoss : Fed
 longLoss = fedAs (answerFor (2 ∷ 3 ∷ [])) 8 300
 
 abbrev pub atFourth : Fed
-atFourth = refusedFed (Serial 7) 10 3
+atFourth = keptAs 7 10 3
 
 -- the calls on three clients with records of the feed, as they are made through C: the first lends
 -- bytes that say that none is expected, whatever stands behind it, and a repeat's say 7 in their

@@ -10,13 +10,12 @@ use Rattle.clients_answers.specs.Clients.{refusedFor}
 use Rattle.clients_answers.specs.Claims.{WrongCount}
 use Rattle.feed_record.specs.declared.Expected.{Expected}
 use Rattle.feed_record.specs.declared.Expected.the-variants.{Any, Serial}
-use Rattle.feed_answers.specs.Feed.{refusedFed}
 use Rattle.enforcement_clients.specs.ClientCalls.{receiveFor, runFor, feedFor, receive, feed, refusalIn}
 use Rattle.enforcement_clients.specs.Functions.{Functions, fedOwn, fedIn, putOut, refusedDay, expectedIn}
 use Rattle.enforcement_clients_instances.specs.ListStatements.{sent, answerFor}
 use Rattle.enforcement_clients_instances.specs.CallStatements.{refused, ran}
 use Rattle.enforcement_clients_instances.specs.RecordStatements.{repeated, oneMore, inTurn}
-use Rattle.enforcement_clients_instances.specs.FeedStatements.{fedAs}
+use Rattle.enforcement_clients_instances.specs.FeedStatements.{fedAs, keptAs}
 
 -- client 0's function holds two Pages; every other put out Sign and holds nothing
 abbrev pub family : Functions
@@ -98,9 +97,9 @@ pub record FeedFields : Type 0 where
   pub only-20 : (n : ℕ) (s : List ℕ) (x : Expected) → feedRowOf n s x ≡ 20 → WrongCount n
   -- not let in, by 20, for a byte too many and as a repeat: the expected serial is kept, and each
   -- function
-  pub wrong-count : expectedIn automatonW 501 family (feedFor 501 oneMore (Serial 7)) ≡ feed (refusedFed (Serial 7) 20 0)
-  pub one-more : expectedIn automatonW 2 family (feedFor 2 oneMore (Serial 7)) ≡ feed (refusedFed (Serial 7) 10 3)
-  pub late : expectedIn automatonW 3 family (feedFor 3 repeated (Serial 7)) ≡ feed (refusedFed (Serial 7) 22 0)
+  pub wrong-count : expectedIn automatonW 501 family (feedFor 501 oneMore (Serial 7)) ≡ feed (keptAs 7 20 0)
+  pub one-more : expectedIn automatonW 2 family (feedFor 2 oneMore (Serial 7)) ≡ feed (keptAs 7 10 3)
+  pub late : expectedIn automatonW 3 family (feedFor 3 repeated (Serial 7)) ≡ feed (keptAs 7 22 0)
   pub wrong-count-fed : fedIn automatonW 501 family (feedFor 501 (inTurn 1 2) (Serial 2)) 1 ≡ storeOf (0 ∷ []) []
   pub late-fed : fedIn automatonW 3 family (feedFor 3 repeated (Serial 7)) 2 ≡ storeOf (0 ∷ []) []
   -- let in, with five lost before it: client 1's Page is held, and client 0's function is what it

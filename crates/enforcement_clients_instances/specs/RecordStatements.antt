@@ -7,7 +7,7 @@ use Rattle.feed_record.specs.declared.Expected.{Expected}
 use Rattle.feed_record.specs.declared.Expected.the-variants.{Any, Serial}
 use Rattle.feed_record.specs.declared.Admitted.{Admitted}
 use Rattle.feed_record.specs.Serials.{serials, distance, following, ahead}
-use Rattle.feed_record.specs.Records.{turnedAway, admission}
+use Rattle.feed_record.specs.Records.{admission}
 use Rattle.feed_record.specs.Claims.{NumberFaulty, Whole, BytesLeft, LargeSerial, LateSerial, Timely}
 use Rattle.feed_record.specs.Claims.{serialAt, TakenAs, TakenAsLate}
 
@@ -73,7 +73,8 @@ pub record RecordFields : Type 0 where
   -- the whole answers
   pub answer : admission afterGap (Serial 1)
       ≡ record { refusal = 0; place = 0; expected = Serial 7; loss = 5; client = 1; symbol = 7 }
-  pub refused : admission repeated (Serial 7) ≡ turnedAway (Serial 7) 22 0
+  pub refused : admission repeated (Serial 7)
+      ≡ record { refusal = 22; place = 0; expected = Serial 7; loss = 0; client = 0; symbol = 0 }
   -- and the other way
   pub only-1 : (s : List ℕ) (x : Expected) → rowOf s x ≡ 1 → NumberFaulty s 1 (placeOf s x)
   pub only-2 : (s : List ℕ) (x : Expected) → rowOf s x ≡ 2 → NumberFaulty s 2 (placeOf s x)
