@@ -1,19 +1,17 @@
 -- Who is let in: rows 11, 12, 20 and the record's own, before those of its event.
 use Prim.Native.Nat.{ℕ}
-use mathlib.Core.Path.{_≡_, refl, sym, _∙_, ap}
+use mathlib.Core.Path.{_≡_, sym, _∙_}
 use mathlib.Core.Bool.{cond}
-use mathlib.Core.List.{List, [], _∷_, _++_}
+use mathlib.Core.List.{List}
 use lib.ListN.{length}
 use lib.Dec.{eqb}
-use borrow.Author.Tests.{eqb-true, eqb-false, ne-eqb, eq-eqb}
-use Rattle.base.specs.Rows.{first}
+use borrow.Author.Tests.{eqb-true, eqb-false, ne-eqb}
 use Rattle.base.proofs.Bools.{by}
 use Rattle.automaton.specs.declared.Automaton.{Automaton}
 use Rattle.configuration.specs.declared.Configuration.{Configuration}
 use Rattle.clients_answers.specs.Listed.{changedBy}
-use Rattle.clients_answers.specs.Clients.{listRows, listRefusal, clientRows, monitored, receivedFor, receivedClients}
-use Rattle.clients_answers.specs.Claims.{ListClear}
-use Rattle.clients_answers.proofs.Refusals.{list-passes, list-clear, list-stands, clear-list}
+use Rattle.clients_answers.specs.Clients.{listRefusal, monitored, receivedFor, receivedClients}
+use Rattle.clients_answers.proofs.Refusals.{list-passes, list-clear, list-stands}
 use Rattle.feed_record.specs.declared.Expected.{Expected}
 use Rattle.feed_record.specs.declared.Admitted.{Admitted}
 use Rattle.feed_record.specs.Records.{recordRows, admission}

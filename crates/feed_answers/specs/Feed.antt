@@ -1,7 +1,7 @@
 -- A call on one record of the feed, over the list of clients (document 02, Card 3): the record's
 -- bytes and the serial that is expected.
 use Prim.Native.Nat.{ℕ}
-use mathlib.Core.Bool.{Bool, cond}
+use mathlib.Core.Bool.{cond}
 use mathlib.Core.List.{List, [], _∷_, _++_}
 use lib.ListN.{length}
 use lib.Dec.{eqb}
@@ -15,8 +15,8 @@ use Rattle.feed_record.specs.declared.Admitted.{Admitted}
 use Rattle.feed_record.specs.Records.{recordRows, admission}
 pub use Rattle.feed_answers.specs.declared.Fed.{Fed}
 
--- The rows before those of its event: 11, 12, 20; then the record's own, 1, 2, 10, 21, 22. A record
--- that none of them refuses is let in.
+-- The rows before those of its event: 11, 12, 20; then the record's own, 1, 2, 10, 21, 22. A
+-- record that none of them refuses is let in.
 unfoldable pub entryRefusal : Automaton → List ℕ → ℕ → List ℕ → Expected → ℕ
 entryRefusal a t count s expected = first (listRows a t count ++ recordRows s expected)
 

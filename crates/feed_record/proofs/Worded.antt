@@ -14,7 +14,7 @@ use Rattle.feed_record.specs.declared.Expected.{Expected}
 use Rattle.feed_record.specs.declared.Admitted.{Admitted}
 use Rattle.feed_record.specs.Serials.{ahead}
 use Rattle.feed_record.specs.Records.{turnedAway, letIn, admission}
-use Rattle.feed_record.specs.Claims.{Whole, NumberFaulty, BytesLeft, RecordIs, LargeSerial, LateSerial, InTime, Timely, RecordsAsWorded, RecordsReadBack}
+use Rattle.feed_record.specs.Claims.{Whole, NumberFaulty, BytesLeft, RecordIs, LargeSerial, LateSerial, Timely, RecordsAsWorded, RecordsReadBack}
 use Rattle.feed_record.proofs.Laws.{record-cases, whole-inside, record-faulty, record-left, record-whole, admit-unread, admit-large, admit-late, admit-in}
 
 module _ (s : List ℕ) (expected : Expected) where

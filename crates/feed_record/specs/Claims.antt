@@ -155,13 +155,13 @@ pub record Told (X S : ℕ) (m : Admitted) : Type 0 where
   -- whole turns: up to 32,767 that many are reported, more look late.
   pub new : (d : ℕ) → X ≤ S → d ≡ (S - X) % serials → d ≤ 32767 → TakenAs S m d
   pub new-looks-late : (d : ℕ) → X ≤ S → d ≡ (S - X) % serials → 32768 ≤ d → TakenAsLate X m
-  -- It is an earlier one, so that it is X - S late, d of them but for whole turns: whole turns look
-  -- in turn, up to 32,768 more are late, and yet more look new.
+  -- It is an earlier one, so that it is X - S late, d of them but for whole turns: whole turns
+  -- look in turn, up to 32,768 more are late, and yet more look new.
   pub late-in-turn : S < X → (X - S) % serials ≡ 0 → TakenAs S m 0
   pub late : (d : ℕ) → S < X → d ≡ (X - S) % serials → 1 ≤ d → d ≤ 32768 → TakenAsLate X m
   pub late-looks-new : (d : ℕ) → S < X → d ≡ (X - S) % serials → 32769 ≤ d → TakenAs S m (serials - d)
-  -- So a loss is told right exactly where it is at most 32,767, and a late record is always refused
-  -- where it is late by no more than 32,768.
+  -- So a loss is told right exactly where it is at most 32,767, and a late record is always
+  -- refused where it is late by no more than 32,768.
   pub right : X ≤ S → TakenAs S m (S - X) ↔ (S - X ≤ 32767)
   pub refused : S < X → X - S ≤ 32768 → TakenAsLate X m
 
