@@ -25,7 +25,10 @@ use Rattle.clients_answers.proofs.Refusals.{list-clear, clear-opened, list-stan
 use Rattle.clients_answers.proofs.Room.{day-clear}
 use Rattle.clients_answers.proofs.Kept.{event-refused}
 use Rattle.clients_answers.proofs.Worded.{client-rows-as-worded}
-use Rattle.enforcement_clients.specs.ClientCalls.{ClientCall, receiveFor, runFor, receive, run, reply, leaves, replies, leavesAll}
+use Rattle.feed_record.specs.declared.Expected.{Expected}
+use Rattle.feed_record.specs.Records.{admission}
+use Rattle.feed_answers.specs.Feed.{entryRefusal, fedFor, fedClients}
+use Rattle.enforcement_clients.specs.ClientCalls.{ClientCall, receiveFor, runFor, feedFor, receive, run, feed, reply, leaves, replies, leavesAll}
 use Rattle.enforcement_clients.specs.Claims.{ClientsOthersIgnored}
 
 module _ (a : Automaton) (t u : List ℕ) (s : short a t ≡ short a u) (b : SameBits a t u) where
@@ -143,16 +146,36 @@ module _ (a : Automaton) (t u : List ℕ) (s : short a t ≡ short a u) (b : Sam
         (λ h. rw (sym (day-same cs vs out), h) (all-same (day-opened h) (named vs) cs))
         (λ h. rw (sym (day-same cs vs out), h))
 
+  -- a record of the feed
+  module _ (cs : List Configuration) (bytes : List ℕ) (x : Expected) where
+    entry-same : entryRefusal a t (length cs) bytes x ≡ entryRefusal a u (length cs) bytes x
+    unfolding entryRefusal listRows tableRows
+    entry-same = rw s
+
+    fed-same : fedFor a t cs bytes x ≡ fedFor a u cs bytes x
+    unfolding fedFor
+    fed-same =
+        let m = admission bytes x in
+        rw (entry-same, list-same (length cs), answer-same cs (m .client) (m .symbol))
+
+    fed-left-same : fedClients a t cs bytes x ≡ fedClients a u cs bytes x
+    unfolding fedClients
+    fed-left-same =
+        let m = admission bytes x in
+        rw (entry-same, left-same cs (m .client) (m .symbol))
+
   -- a call, and all calls
   reply-same : (cs : List Configuration) (x : ClientCall) → reply a t cs x ≡ reply a u cs x
   unfolding reply
   reply-same cs (receiveFor n i e) = ap receive (answer-same (take n cs) i e)
   reply-same cs (runFor n vs out) = ap₂ run (ran-same (take n cs) vs out) (output-same (take n cs) vs out)
+  reply-same cs (feedFor n bytes x) = ap feed (fed-same (take n cs) bytes x)
 
   leaves-same : (cs : List Configuration) (x : ClientCall) → leaves a t cs x ≡ leaves a u cs x
   unfolding leaves
   leaves-same cs (receiveFor n i e) = ap (λ ds. ds ++ drop n cs) (left-same (take n cs) i e)
   leaves-same cs (runFor n vs out) = ap (λ ds. ds ++ drop n cs) (clients-same (take n cs) vs out)
+  leaves-same cs (feedFor n bytes x) = ap (λ ds. ds ++ drop n cs) (fed-left-same (take n cs) bytes x)
 
   calls-same : (xs : List ClientCall) (cs : List Configuration)
       → (replies a t cs xs ≡ replies a u cs xs) × (leavesAll a t cs xs ≡ leavesAll a u cs xs)

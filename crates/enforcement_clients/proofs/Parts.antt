@@ -11,6 +11,7 @@ use Rattle.base.proofs.Bools.{by, and-pair, clash}
 use Rattle.automaton.specs.declared.Automaton.{Automaton}
 use Rattle.configuration.specs.declared.Configuration.{Configuration}
 use Rattle.monitor_answers.specs.Turns.{turnNext}
+use Rattle.clients_answers.specs.declared.ReceivedFor.{ReceivedFor}
 use Rattle.clients_answers.specs.Listed.{Stepping, outcomes, changedBy, eventsOf, partOf, alone, afterAlone}
 use Rattle.clients_answers.specs.Clients.{none, named, listRefusal, Outcome, monitored, receivedFor, receivedClients}
 use Rattle.clients_answers.specs.Clients.{runForRefusal, dayOutcomes, ranClients}
@@ -19,7 +20,13 @@ use Rattle.clients_answers.proofs.Isolation.{isolated, changed-count}
 use Rattle.clients_answers.proofs.Refusals.{list-clear}
 use Rattle.clients_answers.proofs.Parting.{part-none}
 use Rattle.clients_answers.proofs.Single.{events-alone}
-use Rattle.enforcement_clients.specs.ClientCalls.{ClientCall, receiveFor, runFor, lentBy, eventsBy, leaves, leavesAll}
+use Rattle.feed_record.specs.declared.Expected.{Expected}
+use Rattle.feed_record.specs.Claims.{InTime}
+use Rattle.feed_record.proofs.Worded.{records-as-worded}
+use Rattle.feed_answers.specs.Feed.{entryRefusal, fedFor, eventIn}
+use Rattle.feed_answers.proofs.Entering.{entry-record, fed-changed}
+use Rattle.feed_answers.proofs.Worded.{events-in-as-worded, feed-answered-as-worded}
+use Rattle.enforcement_clients.specs.ClientCalls.{ClientCall, receiveFor, runFor, feedFor, lentBy, eventsBy, leaves, leavesAll}
 use Rattle.enforcement_clients.specs.ClientCalls.{wholeRefusal, reaches, ownBy, ownAll, watching, seenBy, seenAll}
 use Rattle.enforcement_clients.specs.Claims.{outcomesTo, EventsBroughtAsWorded, OutcomesAsAnswered, CallsNoninterference}
 use Rattle.enforcement_clients.proofs.Sums.{not-lent, was-lent, lent-at}
@@ -47,6 +54,7 @@ module _ (a : Automaton) (t : List ℕ) where
   unfolding leaves wholeRefusal lentBy eventsBy receivedClients ranClients
   leaves-is cs (receiveFor n i e) = refl
   leaves-is cs (runFor n vs out) = refl
+  leaves-is cs (feedFor n s x) = ap (λ ds. ds ++ drop n cs) (fed-changed a t (take n cs) s x)
 
   pub after-count : (cs : List Configuration) (x : ClientCall) → length (lentAfter cs x) ≡ length (take (lentBy x) cs)
   after-count cs x =
@@ -175,6 +183,20 @@ module _ (a : Automaton) (t : List ℕ) (cs : List Configuration) (g : ℕ) wher
   own-other n i e z =
       own-one (receiveFor n i e) ∙ rw (ne-eqb i g z) (by (reaches a t cs g (receiveFor n i e)) (λ h. rw h) (λ h. rw h))
 
+  -- a record of the feed that is let in
+  module _ (n : ℕ) (s : List ℕ) (x : Expected) (serial i e : ℕ) (m : InTime s x serial i e) where
+    entered : listRefusal a t (length (take n cs)) ≡ 0 → entryRefusal a t (length (take n cs)) s x ≡ 0
+    entered z =
+        entry-record a t (length (take n cs)) s x z ∙ ap (λ r. r .refusal) (records-as-worded s x .answer serial i e m)
+
+    event-is : eventsOf g (eventIn s x) ≡ eventsOf g ((i, e) ∷ [])
+    event-is = ap (eventsOf g) (events-in-as-worded s x .own serial i e m)
+
+    own-other-record : (i ≡ g → ⊥) → ownAll a t cs g (feedFor n s x ∷ []) ≡ []
+    unfolding ownBy eventsBy eventsOf
+    own-other-record z =
+        own-one (feedFor n s x) ∙ rw (event-is, ne-eqb i g z) (by (reaches a t cs g (feedFor n s x)) (λ h. rw h) (λ h. rw h))
+
 pub events-brought-as-worded : EventsBroughtAsWorded
 unfolding ownAll wholeRefusal lentBy eventsBy eventsOf
 events-brought-as-worded a t cs g =
@@ -184,8 +206,14 @@ events-brought-as-worded a t cs g =
       own-event = λ n e z l. own-reached a t cs g (receiveFor n g e) z l ∙ rw (eq-eqb g g refl);
       other-event = own-other a t cs g;
       day = λ n vs out z l. own-reached a t cs g (runFor n vs out) z l;
+      own-record = λ n s x serial e z l m.
+          own-reached a t cs g (feedFor n s x) (entered a t cs g n s x serial g e m z) l ∙
+          event-is a t cs g n s x serial g e m ∙
+          rw (eq-eqb g g refl);
+      other-record = λ n s x serial i e z m. own-other-record a t cs g n s x serial i e m z;
       refused-event = λ n i e z. own-refused a t cs g (receiveFor n i e) z;
       refused-day = λ n vs out z. own-refused a t cs g (runFor n vs out) z;
+      refused-record = λ n s x z. own-refused a t cs g (feedFor n s x) z;
       not-lent = own-not-lent a t cs g;
     }
 
@@ -222,6 +250,26 @@ module _ (a : Automaton) (t : List ℕ) (cs : List Configuration) (g : ℕ) wher
       (λ h. rw h)
       (λ h. rw h (sym (part-none g (named vs)))))
 
+  -- a record that brings an event, as the event
+  outcomes-fed : (n : ℕ) (s : List ℕ) (x : Expected) (serial e : ℕ) → listRefusal a t (length (take n cs)) ≡ 0
+      → g < length (take n cs) → InTime s x serial g e
+      → outcomesTo a t cs g (feedFor n s x ∷ []) ≡ outcomeOf (fedFor a t (take n cs) s x .answer) ∷ []
+  unfolding seenBy wholeRefusal lentBy eventsBy
+  outcomes-fed n s x serial e z l m =
+      let row = entered a t cs g n s x serial g e m z in
+      let answer = feed-answered-as-worded a t (take n cs) s x .let-in (list-clear a t (length (take n cs)) z) serial g e m .0 in
+      let as-event : seen (feedFor n s x) ≡ seen (receiveFor n g e) =
+      rw (
+        reaching a t cs g (feedFor n s x) row l,
+        reaching a t cs g (receiveFor n g e) z l,
+        events-in-as-worded s x .own serial g e m,
+      ) in
+      outcomes-one (feedFor n s x) ∙
+      as-event ∙
+      sym (outcomes-one (receiveFor n g e)) ∙
+      outcomes-event n e z l ∙
+      ap (λ (r : ReceivedFor). outcomeOf r ∷ []) (sym (ap (λ f. f .answer) answer))
+
 pub outcomes-as-answered : OutcomesAsAnswered
 unfolding outcomesTo seenAll
 outcomes-as-answered a t cs g =
@@ -230,4 +278,5 @@ outcomes-as-answered a t cs g =
       first = outcomes-first a t cs g;
       event = outcomes-event a t cs g;
       day = outcomes-day a t cs g;
+      fed = outcomes-fed a t cs g;
     }

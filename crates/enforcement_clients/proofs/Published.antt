@@ -17,11 +17,22 @@ use Rattle.monitor_rule.proofs.Worded.{event-number, event-rows-as-worded}
 use Rattle.enforcement.specs.Store.{stateOf, positionAt, refusalAt, store}
 use Rattle.enforcement.specs.Calls.{since}
 use Rattle.enforcement.proofs.Stores.{since-same, store-refuses}
+use Rattle.clients_answers.specs.declared.ReceivedFor.{ReceivedFor}
 use Rattle.clients_answers.specs.Clients.{named}
 use Rattle.clients_answers.specs.Claims.{WrongCount, RightCount, sumBelow}
-use Rattle.enforcement_clients.specs.ClientCalls.{ClientCall, eventsBy, ClientReply, receiveFor, runFor, receive, run, refusalIn}
-use Rattle.enforcement_clients.specs.Functions.{Functions, fedOwn, badCount, noRoom, refusalOf, fedIn, putOut, refusedDay, eventRefusalOf, expectedIn}
-use Rattle.enforcement_clients.specs.Published.{EventAsPublished, EventsAsPublished, DayAsPublished, ClientsFollowPublished}
+use Rattle.feed_record.specs.declared.Expected.{Expected}
+use Rattle.feed_record.specs.declared.Expected.the-variants.{Serial}
+use Rattle.feed_record.specs.declared.Admitted.{Admitted as LetIn}
+use Rattle.feed_record.specs.Serials.{following, ahead}
+use Rattle.feed_record.specs.Records.{letIn, admission}
+use Rattle.feed_record.specs.Claims.{InTime}
+use Rattle.feed_record.proofs.Worded.{records-as-worded, not-between}
+use Rattle.feed_answers.specs.Feed.{deliveredFed}
+use Rattle.feed_answers.proofs.Worded.{events-in-as-worded}
+use Rattle.enforcement_clients.specs.ClientCalls.{ClientCall, receiveFor, runFor, feedFor, eventsBy, ClientReply, receive, run, feed, refusalIn}
+use Rattle.enforcement_clients.specs.Functions.{Functions, fedOwn, badCount, noRoom, refusalOf, fedIn, putOut, refusedDay}
+use Rattle.enforcement_clients.specs.Functions.{eventRefusalOf, answerIn, expectedIn}
+use Rattle.enforcement_clients.specs.Published.{EventAsPublished, EventsAsPublished, DayAsPublished, FeedAsPublished, ClientsFollowPublished}
 use Rattle.enforcement_clients.proofs.Fed.{count-wrong, count-right, wrong-bad, right-good}
 use Rattle.enforcement_clients.proofs.Fed.{fed-none, fed-itself, fed-other, fed-absent, fed-first}
 use Rattle.enforcement_clients.proofs.Fed.{day-counts, day-absent, day-none, fed-passes, fed-refuses}
@@ -102,20 +113,25 @@ module _ (a : Automaton) (n : ℕ) (ss : Functions) (k i e : ℕ) where
   refused-kept z =
       cases (wrong-count i) (λ (r, l). absent i l) (λ (r, l). fed r l ∙ store-refuses a (ss i) e (λ h. z (there-own (r, l) ∙ h)))
 
+  -- however many it asks for
+  as-lent : fedIn a n ss (receiveFor n i e) i ≡ after i
+  unfolding fedIn refusalOf eventsBy
+  as-lent = refl
+
   answered : RightCount n → i < n → Admitted a (length (ss i .buffer)) e
       → let z = store a (ss i) e in
       answer
       ≡ receive (record { refusal = 0; emitted = pad 7 (since (ss i) z); count = length (since (ss i) z); winning = bySets a (z .buffer) (stateOf a z) })
-  unfolding expectedIn
-  answered r l h = rw (there-own (r, l), rows .accepted .1 h, fed r l)
+  unfolding expectedIn answerIn
+  answered r l h = rw (there-own (r, l), rows .accepted .1 h, as-lent, fed r l)
 
   refused : (m : ℕ) → (m ≡ 0 → ⊥) → eventRefusalOf a n ss i e ≡ m
       → answer ≡ receive (record { refusal = m; emitted = replicate 7 0; count = 0; winning = false })
-  unfolding expectedIn pad
-  refused m z h = rw (refused-kept (λ q. z (sym h ∙ q)), h, since-same (ss i), ne-eqb m 0 z)
+  unfolding expectedIn answerIn pad
+  refused m z h = rw (as-lent, refused-kept (λ q. z (sym h ∙ q)), h, since-same (ss i), ne-eqb m 0 z)
 
   pub event-as-published : EventAsPublished a n ss k i e
-  unfolding refusalIn expectedIn
+  unfolding refusalIn expectedIn answerIn
   event-as-published =
       record {
         row-20 = (given-20, wrong-20);
@@ -274,5 +290,92 @@ module _ (a : Automaton) (n : ℕ) (ss : Functions) (k : ℕ) (vs out : List ℕ
         answer = day-answer;
       }
 
+-- the answer in a reply to an event; in any other, d
+unfoldable pub eventAnswer : ReceivedFor → ClientReply → ReceivedFor
+eventAnswer d (receive r) = r
+eventAnswer d (run r out) = d
+eventAnswer d (feed r) = d
+
+-- one record of the feed
+module _ (a : Automaton) (n : ℕ) (ss : Functions) (k : ℕ) (s : List ℕ) (x : Expected) where
+  abbrev fed-call : ClientCall
+  fed-call = feedFor k s x
+
+  abbrev m : LetIn
+  m = admission s x
+
+  -- not let in, by row 20 or by one of its own
+  abbrev turned : ℕ → ℕ → ClientReply
+  turned row place =
+      feed (record { answer = record { refusal = row; emitted = replicate 7 0; count = 0; winning = false }; place = place; expected = x; loss = 0 })
+
+  feed-wrong : WrongCount n → expectedIn a n ss fed-call ≡ turned 20 0
+  unfolding expectedIn refusalOf
+  feed-wrong w = rw (wrong-bad n w)
+
+  feed-refused : RightCount n → (m .refusal ≡ 0 → ⊥) → expectedIn a n ss fed-call ≡ turned (m .refusal) (m .place)
+  unfolding expectedIn refusalOf
+  feed-refused r z = rw (right-good n r, ne-eqb (m .refusal) 0 z)
+
+  pub feed-let-in : RightCount n → m .refusal ≡ 0
+      → expectedIn a n ss fed-call ≡ feed (deliveredFed m (answerIn a n ss (m .client) (m .symbol)))
+  unfolding expectedIn refusalOf
+  feed-let-in r z = rw (right-good n r, z)
+
+  feed-20 : refusalIn (expectedIn a n ss fed-call) ≡ 20 → WrongCount n
+  unfolding refusalIn answerIn
+  feed-20 h =
+      by (badCount n)
+      (λ b. count-wrong n b)
+      (λ b.
+      let r = count-right n b in
+      by (eqb (m .refusal) 0)
+      (λ q. given-20 a n ss k (m .client) (m .symbol) (sym (ap refusalIn (feed-let-in r (eqb-true (m .refusal) 0 q))) ∙ h))
+      (λ q. absurd (not-between s x 20 (omega arith) (omega arith) (sym (ap refusalIn (feed-refused r (eqb-false (m .refusal) 0 q))) ∙ h))))
+
+  -- what is fed
+  wrong-count-fed : (g : ℕ) → WrongCount n → fedIn a n ss fed-call g ≡ ss g
+  unfolding fedIn refusalOf
+  wrong-count-fed g w = rw (wrong-bad n w)
+
+  not-let-in-fed : (g : ℕ) → (m .refusal ≡ 0 → ⊥) → fedIn a n ss fed-call g ≡ ss g
+  unfolding fedIn refusalOf
+  not-let-in-fed g z = by (badCount n) (λ b. rw b) (λ b. rw (b, ne-eqb (m .refusal) 0 z))
+
+  module _ (serial client symbol : ℕ) (i : InTime s x serial client symbol) where
+    is : m ≡ letIn x serial client symbol
+    is = records-as-worded s x .answer serial client symbol i
+
+    let-in-fed : (g : ℕ) → fedIn a n ss fed-call g ≡ fedIn a n ss (receiveFor k client symbol) g
+    unfolding fedIn refusalOf eventsBy
+    let-in-fed g = rw (is, events-in-as-worded s x .own serial client symbol i)
+
+    let-in : RightCount n → (r : ReceivedFor) → expectedIn a n ss (receiveFor k client symbol) ≡ receive r
+        → expectedIn a n ss fed-call ≡ feed (record { answer = r; place = 0; expected = Serial (following serial); loss = ahead x serial })
+    unfolding expectedIn eventAnswer
+    let-in c r e =
+        feed-let-in c (ap (λ q. q .refusal) is) ∙
+        ap (λ (q : LetIn). feed (deliveredFed q (answerIn a n ss (q .client) (q .symbol)))) is ∙
+        ap (λ (q : ReceivedFor). feed (deliveredFed (letIn x serial client symbol) q)) (ap (eventAnswer r) e)
+
+  pub feed-as-published : FeedAsPublished a n ss k s x
+  unfolding refusalIn
+  feed-as-published =
+      record {
+        row-20 = (feed-20, λ w. ap refusalIn (feed-wrong w));
+        wrong-count = feed-wrong;
+        not-let-in = feed-refused;
+        wrong-count-fed = wrong-count-fed;
+        not-let-in-fed = not-let-in-fed;
+        let-in-fed = λ g serial client symbol i. let-in-fed serial client symbol i g;
+        let-in = λ c serial client symbol i. let-in serial client symbol i c;
+      }
+
 pub clients-follow-published : ClientsFollowPublished
-clients-follow-published a n ss = record { event = event-as-published a n ss; events = events-as-published a n ss; day = day-as-published a n ss }
+clients-follow-published a n ss =
+    record {
+      event = event-as-published a n ss;
+      events = events-as-published a n ss;
+      day = day-as-published a n ss;
+      fed = feed-as-published a n ss;
+    }

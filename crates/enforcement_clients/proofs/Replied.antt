@@ -20,6 +20,7 @@ use Rattle.enforcement.specs.Store.{stateOf, store}
 use Rattle.enforcement.specs.Calls.{configurationAt, since}
 use Rattle.enforcement.proofs.Stores.{initially, initial-sound}
 use Rattle.enforcement.proofs.Replies.{not-short}
+use Rattle.clients_answers.specs.declared.ReceivedFor.{ReceivedFor}
 use Rattle.clients_answers.specs.Listed.{changedBy}
 use Rattle.clients_answers.specs.Clients.{none, initialClients, named, monitored, listRefusal, emittedOf, refusedIn}
 use Rattle.clients_answers.specs.Clients.{receiveForRefusal, refusedFor, receivedFor, runForRefusal, dayOutcomes, ranFor, ranForBuffer}
@@ -27,14 +28,18 @@ use Rattle.clients_answers.specs.Claims.{WrongCount, ListClear, sumBelow}
 use Rattle.clients_answers.proofs.Refusals.{list-wrong, clear-list}
 use Rattle.clients_answers.proofs.Single.{own-row}
 use Rattle.clients_answers.proofs.Worded.{client-rows-as-worded}
-use Rattle.enforcement_clients.specs.ClientCalls.{ClientCall, receiveFor, runFor, lentBy, eventsBy, receive, run, refusalIn}
+use Rattle.feed_record.specs.declared.Expected.{Expected}
+use Rattle.feed_record.specs.Records.{admission}
+use Rattle.feed_answers.specs.Feed.{entryRefusal, refusedFed, deliveredFed, fedFor}
+use Rattle.feed_answers.proofs.Entering.{entry-list, entry-record, fed-list, fed-record, fed-in}
+use Rattle.enforcement_clients.specs.ClientCalls.{ClientCall, receiveFor, runFor, feedFor, lentBy, eventsBy, receive, run, feed, refusalIn}
 use Rattle.enforcement_clients.specs.ClientCalls.{reply, leaves, replies, leavesAll, wholeRefusal, reaches, ownBy, ownAll}
-use Rattle.enforcement_clients.specs.Functions.{Functions, unfed, badCount, noRoom, refusalOf, fedIn, eventRefusalOf, expectedIn}
+use Rattle.enforcement_clients.specs.Functions.{Functions, unfed, badCount, noRoom, refusalOf, fedIn, eventRefusalOf, answerIn, expectedIn}
 use Rattle.enforcement_clients.specs.Functions.{lentOf, expected, fed, expectedAll, fedAll, eventsIn, eventsTo, configurationsAt}
 use Rattle.enforcement_clients.proofs.Sums.{not-lent, was-lent, lent-at}
 use Rattle.enforcement_clients.proofs.Parts.{lentAfter, leaves-is, after-count, leaves-count}
 use Rattle.enforcement_clients.proofs.Fed.{count-wrong, count-right, fed-passes, fed-refuses, fed-beyond}
-use Rattle.enforcement_clients.proofs.Published.{event-as-published}
+use Rattle.enforcement_clients.proofs.Published.{event-as-published, eventAnswer, feed-let-in, feed-as-published}
 use Rattle.enforcement_clients.proofs.Turning.{turn-row, turn-next, turn-put, turn-sound, turn-wins}
 use Rattle.enforcement_clients.proofs.Linked.{Linked, linked-by, held-is, bytes-are, count-is}
 
@@ -48,10 +53,13 @@ module _ (a : Automaton) (t : List ℕ) (v : valid a ≡ true) (sv : Solved a t)
     wrong b = rw (k .count) (count-wrong n b)
 
     -- row 20
+    wrong-20 : badCount n ≡ true → listRefusal a t (length cs) ≡ 20
+    wrong-20 b = list-wrong a t (length cs) (v, not-short a t v sv, wrong b)
+
     event-whole : listRefusal a t (length cs) ≡ cond (badCount n) 20 0
     event-whole =
         by (badCount n)
-        (λ b. rw b (list-wrong a t (length cs) (v, not-short a t v sv, wrong b)))
+        (λ b. rw b (wrong-20 b))
         (λ b. rw b (clear-list a t (length cs) (clear b)))
 
     -- the rows of an event
@@ -93,7 +101,7 @@ module _ (a : Automaton) (t : List ℕ) (v : valid a ≡ true) (sv : Solved a t)
     refused-answer i e h = rw (event-row i e, h)
 
     event-reply : (l i e : ℕ) → receive (receivedFor a t cs i e) ≡ expectedIn a n ss (receiveFor l i e)
-    unfolding refusalIn expectedIn
+    unfolding refusalIn expectedIn answerIn
     event-reply l i e =
         let m = eventRefusalOf a n ss i e in
         let p = event-as-published a n ss l i e in
@@ -103,6 +111,10 @@ module _ (a : Automaton) (t : List ℕ) (v : valid a ≡ true) (sv : Solved a t)
         let (r, b, taken) = p .accepted .0 z in
         ap receive (accepted-answer i e b z) ∙ sym (p .answer r b taken))
         (λ h. ap receive (refused-answer i e h) ∙ sym (p .refused m (eqb-false m 0 h) refl))
+
+    answer-is : (i e : ℕ) → receivedFor a t cs i e ≡ answerIn a n ss i e
+    unfolding expectedIn eventAnswer
+    answer-is i e = ap (eventAnswer (answerIn a n ss i e)) (event-reply n i e)
 
     -- row 16
     day-row : (l : ℕ) (vs out : List ℕ) → runForRefusal a t cs vs out ≡ refusalOf n ss (runFor l vs out)
@@ -123,6 +135,37 @@ module _ (a : Automaton) (t : List ℕ) (v : valid a ≡ true) (sv : Solved a t)
         by (eqb (refusalOf n ss (runFor l vs out)) 0)
         (λ h. rw (row, h, bytes-are a t v sv (named vs) n cs ss k, count-is a t v sv (named vs) n cs ss k))
         (λ h. rw (row, h))
+
+    -- the record's own rows
+    feed-row : (l : ℕ) (s : List ℕ) (x : Expected) → entryRefusal a t (length cs) s x ≡ refusalOf n ss (feedFor l s x)
+    unfolding refusalOf
+    feed-row l s x =
+        by (badCount n)
+        (λ b. let row = wrong-20 b in rw b (entry-list a t (length cs) s x (λ z. omega arith) ∙ row))
+        (λ b. rw b (entry-record a t (length cs) s x (clear-list a t (length cs) (clear b))))
+
+    feed-reply : (l : ℕ) (s : List ℕ) (x : Expected) → feed (fedFor a t cs s x) ≡ expectedIn a n ss (feedFor l s x)
+    feed-reply l s x =
+        let m = admission s x in
+        let p = feed-as-published a n ss l s x in
+        by (badCount n)
+        (λ b.
+        let row = wrong-20 b in
+        sym (ap feed (fed-list a t cs s x (λ z. omega arith) .0)) ∙
+        ap (λ n. feed (refusedFed x n 0)) row ∙
+        sym (p .wrong-count (count-wrong n b)))
+        (λ b.
+        let z = clear-list a t (length cs) (clear b) in
+        let r = count-right n b in
+        by (eqb (m .refusal) 0)
+        (λ h.
+        let y = eqb-true (m .refusal) 0 h in
+        sym (ap feed (fed-in a t cs s x z y .0)) ∙
+        ap (λ (q : ReceivedFor). feed (deliveredFed m q)) (answer-is (m .client) (m .symbol)) ∙
+        sym (feed-let-in a n ss l s x r y))
+        (λ h.
+        let y = eqb-false (m .refusal) 0 h in
+        sym (ap feed (fed-record a t cs s x z y .0)) ∙ sym (p .not-let-in r y)))
 
     -- the functions fed the call
     linked-fed : (x : ClientCall)
@@ -151,11 +194,13 @@ module _ (a : Automaton) (t : List ℕ) (v : valid a ≡ true) (sv : Solved a t)
     unfolding wholeRefusal lentBy refusalOf
     row-of (receiveFor l i e) k = event-whole n (take l cs) ss k
     row-of (runFor l vs out) k = day-row n (take l cs) ss k l vs out
+    row-of (feedFor l s x) k = feed-row n (take l cs) ss k l s x
 
     reply-of : (x : ClientCall) → Linked a t v sv n (take (lentBy x) cs) ss → reply a t cs x ≡ expectedIn a n ss x
     unfolding reply lentBy
     reply-of (receiveFor l i e) k = event-reply n (take l cs) ss k l i e
     reply-of (runFor l vs out) k = day-reply n (take l cs) ss k l vs out
+    reply-of (feedFor l s x) k = feed-reply n (take l cs) ss k l s x
 
   module _ (count : ℕ) (cs : List Configuration) (ss : Functions) (k : Linked a t v sv count cs ss) (x : ClientCall) where
     abbrev n : ℕ

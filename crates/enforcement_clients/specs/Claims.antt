@@ -25,8 +25,8 @@ use Rattle.clients_answers.specs.Claims.{outcomeOf}
 use Rattle.feed_record.specs.declared.Expected.{Expected}
 use Rattle.feed_record.specs.Claims.{InTime}
 use Rattle.feed_answers.specs.Feed.{entryRefusal, fedFor}
-use Rattle.enforcement_clients.specs.ClientCalls.{ClientCall, receiveFor, runFor, feedFor, lentBy, reply, leaves}
-use Rattle.enforcement_clients.specs.ClientCalls.{replies, leavesAll, ownAll, seenAll, momentsOf}
+use Rattle.enforcement_clients.specs.ClientCalls.{ClientCall, receiveFor, runFor, feedFor, lentBy}
+use Rattle.enforcement_clients.specs.ClientCalls.{reply, leaves, replies, leavesAll, ownAll, seenAll, momentsOf}
 use Rattle.enforcement_clients.specs.Functions.{Functions, unfed, fedIn, expectedIn, expectedAll, fedAll}
 use Rattle.enforcement_clients.specs.Functions.{eventsTo, refusalsOf, configurationsAt}
 

@@ -46,7 +46,7 @@ use Rattle.enforcement_clients_instances.specs.CallStatements.{crowdCall
 use Rattle.enforcement_clients_instances.specs.CallStatements.{calls, callReplies, ownEvents, page, receipt, sign, again, startW, Fields, OwnFields, MetFields}
 
 -- demand 3 of W's clients, for any count and calls
-enforced-w : (count : ℕ) (xs : List ClientCall) → ClientsEnforced automatonW tableW count xs
+pub enforced-w : (count : ℕ) (xs : List ClientCall) → ClientsEnforced automatonW tableW count xs
 enforced-w = clients-demand3 automatonW tableW valid-w solved-w
 
 -- the functions' side, computed
@@ -230,11 +230,11 @@ counts =
     }
 
 -- what calls bring, one by one
-clear-two : listRefusal automatonW tableW 2 ≡ 0
+pub clear-two : listRefusal automatonW tableW 2 ≡ 0
 unfolding listing
 clear-two = rw valid-w refl
 
-none-20 : listRefusal automatonW tableW 0 ≡ 20
+pub none-20 : listRefusal automatonW tableW 0 ≡ 20
 unfolding listing
 none-20 = rw valid-w refl
 
@@ -254,7 +254,7 @@ leaves-two : leaves automatonW tableW two (receiveFor 2 1 0) ≡ signed
 unfolding calling
 leaves-two = refl
 
-answer-sign : receivedFor automatonW tableW two 1 0 ≡ answerFor (0 ∷ [])
+pub answer-sign : receivedFor automatonW tableW two 1 0 ≡ answerFor (0 ∷ [])
 unfolding listing
 answer-sign = rw valid-w refl
 
@@ -359,7 +359,7 @@ bringing =
     }
 
 -- noninterference over calls: what the client has here
-own-here : ownAll automatonW tableW here 0 callsHere ≡ 0 ∷ 3 ∷ []
+pub own-here : ownAll automatonW tableW here 0 callsHere ≡ 0 ∷ 3 ∷ []
 unfolding calling
 own-here = refl
 
@@ -367,7 +367,7 @@ own-two : ownAll automatonW tableW two 1 callsTwo ≡ 0 ∷ 3 ∷ []
 unfolding calling
 own-two = refl
 
-outcomes-here : outcomesTo automatonW tableW here 0 callsHere ≡ brings 0 (0 ∷ []) ∷ brings 0 (2 ∷ 3 ∷ []) ∷ []
+pub outcomes-here : outcomesTo automatonW tableW here 0 callsHere ≡ brings 0 (0 ∷ []) ∷ brings 0 (2 ∷ 3 ∷ []) ∷ []
 unfolding calling
 outcomes-here = refl
 
@@ -407,13 +407,13 @@ all-agree : each 7 (λ j. each 4 (λ q. agree (has (getD tableW (2 * j) 0) q) (h
 unfolding each has agree
 all-agree = refl
 
-same-bits : SameBits automatonW tableW otherTable
+pub same-bits : SameBits automatonW tableW otherTable
 unfolding automatonW
 same-bits w b q h =
     let l : index automatonW w < 7 = omega (arith, numbered automatonW valid-w w b, buffers-w) in
     agreed _ _ (each-at 4 _ (each-at 7 _ all-agree (index automatonW w) l) q h)
 
-both-long : short automatonW tableW ≡ short automatonW otherTable
+pub both-long : short automatonW tableW ≡ short automatonW otherTable
 unfolding short
 both-long = rw buffers-w refl
 

@@ -4,6 +4,7 @@ use Rattle.base.specs.Each.{each, count, those, lastOr}
 use Rattle.base.specs.Rows.{first}
 use Rattle.base.specs.Pad.{pad}
 use Rattle.base.specs.Masks.{has, mask}
+use Rattle.varint.specs.Varint.{groups, read}
 use Rattle.automaton.specs.Arrays.{controllableIn}
 use Rattle.automaton.specs.Automaton.{controllable, controllables, accepts, step, reached}
 use Rattle.solver_sets.specs.Table.{index, rank, inBaseK, shorter, buffersCount, short}
@@ -21,10 +22,13 @@ use Rattle.clients_answers.specs.Clients.{initialClients, clientOf, symbolOf, n
 use Rattle.clients_answers.specs.Clients.{emittedOf, refusedIn, receiveForRefusal, receivedFor, receivedClients}
 use Rattle.clients_answers.specs.Clients.{heldIn, heldInAll, runForRefusal, dayOutcomes, ranFor, ranClients, ranForBuffer}
 use Rattle.clients_answers.specs.Claims.{sumBelow, answers, clientsAfter, allEmitted, allRefused}
+use Rattle.feed_record.specs.Serials.{distance, following, ahead}
+use Rattle.feed_record.specs.Records.{numbers, byteRows, recordIn, serialRows, recordRows, admission}
+use Rattle.feed_answers.specs.Feed.{entryRefusal, feedRefusal, fedFor, eventIn, fedClients}
 use Rattle.enforcement_clients.specs.ClientCalls.{lentBy, eventsBy, refusalIn, reply, leaves, replies, leavesAll, wholeRefusal, reaches}
 use Rattle.enforcement_clients.specs.ClientCalls.{ownBy, ownAll, seenBy, seenAll, meetings, momentsFrom, momentsOf}
 use Rattle.enforcement_clients.specs.Functions.{fedOwn, badCount, noRoom, refusalOf, fedIn, putOut, absentees, refusedDay, eventRefusalOf}
-use Rattle.enforcement_clients.specs.Functions.{expectedIn, lentOf, expected, fed, expectedAll, fedAll, eventsIn, eventsTo, configurationsAt}
+use Rattle.enforcement_clients.specs.Functions.{answerIn, expectedIn, lentOf, expected, fed, expectedAll, fedAll, eventsIn, eventsTo, configurationsAt}
 use Rattle.enforcement_clients.specs.Claims.{outcomesTo}
 
 -- the step of a client, without row 11's check, which is long (it is rewritten by what is known)
@@ -39,10 +43,16 @@ unfolding
     initialClients clientOf symbolOf named emittedOf refusedIn heldIn heldInAll sumBelow
 stepping = 0
 
--- one event, and a day
+-- one record of the feed by itself
+unfoldable pub admitting : ℕ
+unfolding
+    first groups read numbers byteRows recordIn serialRows recordRows distance following ahead admission
+admitting = 0
+
+-- one event, a day, and a record of the feed
 unfoldable pub listing : ℕ
 unfolding
-    stepping tableRows room listRows listRefusal clientRows
+    stepping admitting entryRefusal feedRefusal fedFor eventIn fedClients tableRows room listRows listRefusal clientRows
     receiveForRefusal receivedFor receivedClients runForRefusal dayOutcomes ranFor ranClients ranForBuffer
     answers clientsAfter allEmitted allRefused
 listing = 0
@@ -64,6 +74,6 @@ storing = 0
 -- all of them
 unfoldable pub feeding : ℕ
 unfolding
-    storing lentBy eventsBy refusalIn fedOwn badCount noRoom refusalOf fedIn putOut absentees refusedDay eventRefusalOf
-    expectedIn lentOf expected fed expectedAll fedAll eventsIn eventsTo configurationsAt
+    storing admitting eventIn lentBy eventsBy refusalIn fedOwn badCount noRoom refusalOf fedIn putOut absentees refusedDay eventRefusalOf
+    answerIn expectedIn lentOf expected fed expectedAll fedAll eventsIn eventsTo configurationsAt
 feeding = 0

@@ -186,19 +186,19 @@ any-step =
     }
 
 -- the rows: what 11, 12 and 13 refuse
-short-13 : short automatonW (filled 13 9) ≡ true
+pub short-13 : short automatonW (filled 13 9) ≡ true
 unfolding listing
 short-13 = refl
 
-long-w : short automatonW tableW ≡ false
+pub long-w : short automatonW tableW ≡ false
 unfolding listing
 long-w = refl
 
-broken-fails : consistent automatonW broken ≡ false
+pub broken-fails : consistent automatonW broken ≡ false
 unfolding listing
 broken-fails = refl
 
-held-stands : consistent automatonW (configuration (at 1 (2 ∷ 2 ∷ []))) ≡ true
+pub held-stands : consistent automatonW (configuration (at 1 (2 ∷ 2 ∷ []))) ≡ true
 unfolding listing
 held-stands = refl
 
@@ -206,7 +206,7 @@ waiting-stands : consistent automatonW waiting ≡ true
 unfolding listing
 waiting-stands = refl
 
-crowd-length : (n : ℕ) → length (crowd n) ≡ n
+pub crowd-length : (n : ℕ) → length (crowd n) ≡ n
 unfolding initialClients
 crowd-length n = length-replicate n (initialOf automatonW)
 
@@ -222,7 +222,7 @@ one-holds : (n i : ℕ) → i < n → getD (crowd n) i none .held ≡ 0
 unfolding initialOf
 one-holds n i h = ap (λ (c : Configuration). c .held) (one-of n i h)
 
-clear-w : (cs : List Configuration) → RightCount (length cs) → ListClear automatonW tableW (length cs)
+pub clear-w : (cs : List Configuration) → RightCount (length cs) → ListClear automatonW tableW (length cs)
 clear-w cs h = record { record-valid = valid-w; table-long = long-w; count-right = h }
 
 clear-crowd : (n : ℕ) → RightCount n → ListClear automatonW tableW (length (crowd n))

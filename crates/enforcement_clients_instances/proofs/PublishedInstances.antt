@@ -1,5 +1,5 @@
 -- The instances of the claim on the published functions.
-use Prim.Native.Nat.{ℕ, zero, suc, _+_, _<_}
+use Prim.Native.Nat.{ℕ, zero, suc, _<_}
 use mathlib.Core.Path.{_≡_, refl, _∙_, ap}
 use mathlib.Core.Logic.{inl, inr}
 use mathlib.Core.List.{List, [], _∷_, _++_}
@@ -12,15 +12,22 @@ use Rattle.enforcement.specs.Calls.{since}
 use Rattle.enforcement_cases.specs.Cases.{automatonW}
 use Rattle.enforcement_instances.specs.Statements.{filled}
 use Rattle.enforcement_instances.specs.MonitorStatements.{storeOf, twoHeld}
-use Rattle.clients_answers.specs.Clients.{named}
+use Rattle.clients_answers.specs.Clients.{named, refusedFor}
 use Rattle.clients_answers.specs.Claims.{RightCount, sumBelow}
-use Rattle.enforcement_clients.specs.ClientCalls.{receiveFor, receive}
+use Rattle.feed_record.specs.declared.Expected.{Expected}
+use Rattle.feed_record.specs.declared.Expected.the-variants.{Any, Serial}
+use Rattle.feed_record.specs.declared.Admitted.{Admitted}
+use Rattle.feed_record.specs.Serials.{distance, following, ahead}
+use Rattle.enforcement_clients.specs.ClientCalls.{receiveFor, receive, feed}
 use Rattle.enforcement_clients.specs.Functions.{Functions, fedOwn, putOut, refusedDay, expectedIn}
-use Rattle.enforcement_clients.specs.Published.{ClientsAsPublished, EventAsPublished, EventsAsPublished, DayAsPublished}
+use Rattle.enforcement_clients.specs.Published.{ClientsAsPublished, EventAsPublished, EventsAsPublished, DayAsPublished, FeedAsPublished}
 use Rattle.enforcement_clients.proofs.Published.{clients-follow-published}
 use Rattle.enforcement_clients_instances.proofs.Computing.{storing}
+use Rattle.enforcement_clients_instances.proofs.RecordInstances.{turn-in, record-fields}
 use Rattle.enforcement_clients_instances.specs.ListStatements.{sent, answerFor}
-use Rattle.enforcement_clients_instances.specs.PublishedStatements.{family, EventFields, xs, EventsFields, DayFields}
+use Rattle.enforcement_clients_instances.specs.RecordStatements.{repeated, oneMore, inTurn}
+use Rattle.enforcement_clients_instances.specs.FeedStatements.{keptAs}
+use Rattle.enforcement_clients_instances.specs.PublishedStatements.{family, EventFields, xs, EventsFields, DayFields, FeedFields}
 
 -- what the claim says of W's functions
 said : (n : ℕ) (ss : Functions) → ClientsAsPublished automatonW n ss
@@ -211,4 +218,38 @@ day-fields =
       refused = day 2 both (filled 3 9) .refused 16 (λ z. omega arith) short .1;
       fed = day 2 both (filled 4 9) .fed enough 1 ∙ ap (λ ys. fedOwn automatonW 2 family ys 1) named-both ∙ events family .first-fed (1, 2) _ 1 ∙ received-one;
       answer = answered;
+    }
+
+-- a record of the feed
+record-of : (n : ℕ) (s : List ℕ) (x : Expected) → FeedAsPublished automatonW n family n s x
+record-of n s x = said n family .fed n s x
+
+pub feed-fields : FeedFields
+unfolding following ahead distance
+feed-fields =
+    let right : (n : ℕ) → 0 < n → n < 4 → RightCount n = λ n l h. (omega arith, omega arith) in
+    let at-10 = record-fields .row-10 in
+    let at-22 = record-fields .refused in
+    let page = turn-in 1 2 (omega arith) (omega arith) in
+    record {
+      row-20 = record-of 0 [] Any .row-20 .1 (inl refl);
+      row-20-many = record-of 501 [] Any .row-20 .1 (inr (omega arith));
+      only-20 = λ n s x h. record-of n s x .row-20 .0 h;
+      wrong-count = record-of 501 oneMore (Serial 7) .wrong-count (inr (omega arith));
+      one-more =
+          record-of 2 oneMore (Serial 7) .not-let-in (right 2 (omega arith) (omega arith)) (λ z. omega (arith, at-10 .0)) ∙
+          (λ j. feed (keptAs 7 (at-10 .0 j) (at-10 .1 j)));
+      late =
+          record-of 3 repeated (Serial 7) .not-let-in (right 3 (omega arith) (omega arith)) (λ z. omega (arith, record-fields .row-22)) ∙
+          ap (λ (m : Admitted). feed (keptAs 7 (m .refusal) (m .place))) at-22;
+      wrong-count-fed = record-of 501 (inTurn 1 2) (Serial 2) .wrong-count-fed 1 (inr (omega arith));
+      late-fed = record-of 3 repeated (Serial 7) .not-let-in-fed 2 (λ z. omega (arith, record-fields .row-22));
+      fed = record-of 2 (inTurn 1 2) (Serial 2) .let-in-fed 1 7 1 2 page ∙ event-fields .fed;
+      others = record-of 2 (inTurn 1 2) (Serial 2) .let-in-fed 0 7 1 2 page ∙ event-fields .others;
+      let-in =
+          record-of 2 (inTurn 1 3) (Serial 2) .let-in (right 2 (omega arith) (omega arith)) 7 1 3 (turn-in 1 3 (omega arith) (omega arith))
+          (answerFor (3 ∷ [])) (event-fields .answer);
+      let-in-refused =
+          record-of 2 (inTurn 0 3) (Serial 2) .let-in (right 2 (omega arith) (omega arith)) 7 0 3 (turn-in 0 3 (omega arith) (omega arith))
+          (refusedFor 15) (event-fields .answer-refused);
     }

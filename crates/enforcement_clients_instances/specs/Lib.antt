@@ -1,4 +1,6 @@
 pub mod ListStatements
 pub mod CallStatements
+pub mod RecordStatements
+pub mod FeedStatements
 pub mod PublishedStatements
 pub mod LayoutStatements

@@ -6,11 +6,16 @@ use lib.ListN.{length}
 use Rattle.enforcement_cases.specs.Cases.{automatonW}
 use Rattle.enforcement_instances.specs.Statements.{filled}
 use Rattle.enforcement_instances.specs.MonitorStatements.{storeOf, twoHeld}
+use Rattle.clients_answers.specs.Clients.{refusedFor}
 use Rattle.clients_answers.specs.Claims.{WrongCount}
-use Rattle.enforcement_clients.specs.ClientCalls.{receiveFor, runFor, receive, refusalIn}
+use Rattle.feed_record.specs.declared.Expected.{Expected}
+use Rattle.feed_record.specs.declared.Expected.the-variants.{Any, Serial}
+use Rattle.enforcement_clients.specs.ClientCalls.{receiveFor, runFor, feedFor, receive, feed, refusalIn}
 use Rattle.enforcement_clients.specs.Functions.{Functions, fedOwn, fedIn, putOut, refusedDay, expectedIn}
 use Rattle.enforcement_clients_instances.specs.ListStatements.{sent, answerFor}
 use Rattle.enforcement_clients_instances.specs.CallStatements.{refused, ran}
+use Rattle.enforcement_clients_instances.specs.RecordStatements.{repeated, oneMore, inTurn}
+use Rattle.enforcement_clients_instances.specs.FeedStatements.{fedAs, keptAs}
 
 -- client 0's function holds two Pages; every other put out Sign and holds nothing
 abbrev pub family : Functions
@@ -78,3 +83,29 @@ pub record DayFields : Type 0 where
   -- accepted
   pub fed : fedIn automatonW 2 family (runFor 2 (sent 1 2 ∷ sent 1 3 ∷ []) (filled 4 9)) 1 ≡ storeOf (0 ∷ 2 ∷ 3 ∷ []) []
   pub answer : expectedIn automatonW 2 family (runFor 2 (sent 1 2 ∷ sent 1 3 ∷ []) (filled 4 9)) ≡ ran 0 2 0 (2 ∷ 3 ∷ 9 ∷ 9 ∷ [])
+
+-- the row by which they refuse a record of the feed
+abbrev pub feedRowOf : ℕ → List ℕ → Expected → ℕ
+feedRowOf n s x = refusalIn (expectedIn automatonW n family (feedFor n s x))
+
+-- one record of the feed
+pub record FeedFields : Type 0 where
+  -- 20, before the record's own rows
+  pub row-20 : feedRowOf 0 [] Any ≡ 20
+  pub row-20-many : feedRowOf 501 [] Any ≡ 20
+  -- and the other way
+  pub only-20 : (n : ℕ) (s : List ℕ) (x : Expected) → feedRowOf n s x ≡ 20 → WrongCount n
+  -- not let in, by 20, for a byte too many and as a repeat: the expected serial is kept, and each
+  -- function
+  pub wrong-count : expectedIn automatonW 501 family (feedFor 501 oneMore (Serial 7)) ≡ feed (keptAs 7 20 0)
+  pub one-more : expectedIn automatonW 2 family (feedFor 2 oneMore (Serial 7)) ≡ feed (keptAs 7 10 3)
+  pub late : expectedIn automatonW 3 family (feedFor 3 repeated (Serial 7)) ≡ feed (keptAs 7 22 0)
+  pub wrong-count-fed : fedIn automatonW 501 family (feedFor 501 (inTurn 1 2) (Serial 2)) 1 ≡ storeOf (0 ∷ []) []
+  pub late-fed : fedIn automatonW 3 family (feedFor 3 repeated (Serial 7)) 2 ≡ storeOf (0 ∷ []) []
+  -- let in, with five lost before it: client 1's Page is held, and client 0's function is what it
+  -- was
+  pub fed : fedIn automatonW 2 family (feedFor 2 (inTurn 1 2) (Serial 2)) 1 ≡ storeOf (0 ∷ []) (2 ∷ [])
+  pub others : fedIn automatonW 2 family (feedFor 2 (inTurn 1 2) (Serial 2)) 0 ≡ twoHeld
+  -- client 1's Receipt goes at once; client 0's finds the buffer full
+  pub let-in : expectedIn automatonW 2 family (feedFor 2 (inTurn 1 3) (Serial 2)) ≡ feed (fedAs (answerFor (3 ∷ [])) 8 5)
+  pub let-in-refused : expectedIn automatonW 2 family (feedFor 2 (inTurn 0 3) (Serial 2)) ≡ feed (fedAs (refusedFor 15) 8 5)

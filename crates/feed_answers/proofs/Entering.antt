@@ -1,23 +1,23 @@
 -- Who is let in: rows 11, 12, 20 and the record's own, before those of its event.
 use Prim.Native.Nat.{ℕ}
-use mathlib.Core.Path.{_≡_, refl, sym, _∙_, ap}
-use mathlib.Core.List.{List, [], _∷_, _++_}
+use mathlib.Core.Path.{_≡_, sym, _∙_}
+use mathlib.Core.Bool.{cond}
+use mathlib.Core.List.{List}
 use lib.ListN.{length}
 use lib.Dec.{eqb}
-use borrow.Author.Tests.{eqb-true, eqb-false, ne-eqb, eq-eqb}
-use Rattle.base.specs.Rows.{first}
+use borrow.Author.Tests.{eqb-true, eqb-false, ne-eqb}
 use Rattle.base.proofs.Bools.{by}
 use Rattle.automaton.specs.declared.Automaton.{Automaton}
 use Rattle.configuration.specs.declared.Configuration.{Configuration}
-use Rattle.clients_answers.specs.Clients.{listRows, listRefusal, clientRows, receivedFor, receivedClients}
-use Rattle.clients_answers.specs.Claims.{ListClear}
-use Rattle.clients_answers.proofs.Refusals.{list-passes, list-clear, list-stands, clear-list}
+use Rattle.clients_answers.specs.Listed.{changedBy}
+use Rattle.clients_answers.specs.Clients.{listRefusal, monitored, receivedFor, receivedClients}
+use Rattle.clients_answers.proofs.Refusals.{list-passes, list-clear, list-stands}
 use Rattle.feed_record.specs.declared.Expected.{Expected}
 use Rattle.feed_record.specs.declared.Admitted.{Admitted}
 use Rattle.feed_record.specs.Records.{recordRows, admission}
 use Rattle.feed_record.proofs.Laws.{admission-row}
 use Rattle.feed_answers.specs.declared.Fed.{Fed}
-use Rattle.feed_answers.specs.Feed.{entryRefusal, refusedFed, deliveredFed, fedFor, fedClients}
+use Rattle.feed_answers.specs.Feed.{entryRefusal, refusedFed, deliveredFed, fedFor, eventIn, fedClients}
 
 module _ (a : Automaton) (t : List ℕ) (count : ℕ) (s : List ℕ) (expected : Expected) where
   abbrev m : Admitted
@@ -65,3 +65,11 @@ module _ (a : Automaton) (t : List ℕ) (cs : List Configuration) (s : List ℕ)
       Answers (deliveredFed m (receivedFor a t cs (m .client) (m .symbol))) (receivedClients a t cs (m .client) (m .symbol))
   unfolding fedFor fedClients
   fed-in z k = let e = entry-record a t (length cs) s expected z in (rw (e, k), rw (e, k))
+
+  -- the list in both cases, by the event that it brings
+  pub fed-changed : fedClients a t cs s expected
+      ≡ cond (eqb (entryRefusal a t (length cs) s expected) 0) (changedBy (monitored a t) cs (eventIn s expected)) cs
+  unfolding fedClients receivedClients eventIn
+  fed-changed =
+      let row = entryRefusal a t (length cs) s expected in
+      by (eqb row 0) (λ h. let (l, k) = entry-clear a t (length cs) s expected (eqb-true row 0 h) in rw (h, l, k)) (λ h. rw h)

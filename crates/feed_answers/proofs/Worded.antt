@@ -1,13 +1,13 @@
 -- The call in document 02's words.
-use Prim.Native.Nat.{ℕ, _<_, _≤_}
-use mathlib.Core.Path.{_≡_, refl, sym, _∙_, ap, subst}
-use mathlib.Core.Logic.{_⊎_, inl, inr, _↔_, Iff·trans}
+use Prim.Native.Nat.{ℕ}
+use mathlib.Core.Path.{_≡_, sym, _∙_, ap, subst}
+use mathlib.Core.Logic.{_⊎_, inl, _↔_, Iff·trans}
 use mathlib.Core.Bool.{Bool}
 use mathlib.Core.List.{List, [], _∷_, _++_}
 use native.Mathlib.Omega.{arith}
 use lib.ListN.{length, getD}
 use lib.Dec.{eqb}
-use borrow.Author.Tests.{eqb-true, eqb-false, ne-eqb, eq-eqb}
+use borrow.Author.Tests.{eqb-true, eqb-false, ne-eqb}
 use Rattle.base.specs.Rows.{first}
 use Rattle.base.proofs.Bools.{by, either}
 use Rattle.base.proofs.Padding.{zeros-used}
@@ -22,14 +22,13 @@ use Rattle.clients_answers.proofs.Parting.{event-noninterference}
 use Rattle.clients_answers.proofs.Single.{clients-emitted-padded}
 use Rattle.feed_record.specs.declared.Expected.{Expected}
 use Rattle.feed_record.specs.declared.Admitted.{Admitted}
-use Rattle.feed_record.specs.Records.{recordRows, letIn, admission}
-use Rattle.feed_record.specs.Claims.{InTime}
-use Rattle.feed_record.proofs.Laws.{admission-row, rows-stand, rows-pass}
+use Rattle.feed_record.specs.Records.{recordRows, admission}
+use Rattle.feed_record.proofs.Laws.{rows-stand, rows-pass}
 use Rattle.feed_record.proofs.Worded.{records-as-worded}
-use Rattle.feed_answers.specs.Feed.{entryRefusal, feedRefusal, fedFor, eventIn, fedClients}
+use Rattle.feed_answers.specs.Feed.{feedRefusal, fedFor, eventIn, fedClients}
 use Rattle.feed_answers.specs.Claims.{RecordRow, FeedRowsAsWorded, FeedAnsweredAsWorded, EventsInAsWorded}
 use Rattle.feed_answers.specs.Claims.{FeedNoninterference, FeedKeepsOthers, FeedEmittedPadded}
-use Rattle.feed_answers.proofs.Entering.{entry-clear, fed-list, fed-record, fed-in}
+use Rattle.feed_answers.proofs.Entering.{fed-list, fed-record, fed-in}
 
 module _ (a : Automaton) (t : List ℕ) (cs : List Configuration) (s : List ℕ) (expected : Expected) where
   abbrev m : Admitted

@@ -1,7 +1,7 @@
 -- A call on one record of the feed, over the list of clients (document 02, Card 3): the record's
 -- bytes and the serial that is expected.
 use Prim.Native.Nat.{ℕ}
-use mathlib.Core.Bool.{Bool, cond}
+use mathlib.Core.Bool.{cond}
 use mathlib.Core.List.{List, [], _∷_, _++_}
 use lib.ListN.{length}
 use lib.Dec.{eqb}

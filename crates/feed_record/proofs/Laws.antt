@@ -2,12 +2,12 @@
 use Prim.Native.Nat.{ℕ, suc, _<_, _≤_}
 use mathlib.Core.Path.{_≡_, refl, sym, _∙_, ap}
 use mathlib.Core.Logic.{_⊎_, inl, inr}
-use mathlib.Core.Bool.{Bool, true, false, not}
+use mathlib.Core.Bool.{Bool}
 use mathlib.Core.List.{List, [], _∷_, _++_, append-assoc}
 use native.Mathlib.Omega.{arith}
 use lib.ListN.{length}
 use lib.Dec.{eqb, leb, ltb}
-use borrow.Author.Tests.{eqb-true, eqb-false, eq-eqb, ne-eqb, lt-ltb, le-ltb, ltb-true, ltb-false, le-leb, lt-leb}
+use borrow.Author.Tests.{eqb-true, eq-eqb, ne-eqb, lt-ltb, le-ltb, ltb-true, ltb-false, le-leb, lt-leb}
 use Rattle.base.specs.Rows.{first}
 use Rattle.base.proofs.Bools.{by, either}
 use Rattle.base.proofs.Refusals.{first-before, first-clear}
@@ -20,7 +20,7 @@ use Rattle.feed_record.specs.declared.Record.{Record}
 use Rattle.feed_record.specs.Serials.{ahead}
 use Rattle.feed_record.specs.Records.{Numbers, numbers, inRecord, serialIn, clientIn, symbolIn, byteRows, unread, recordIn, serialRows, recordRows}
 use Rattle.feed_record.specs.Records.{turnedAway, letIn, admission}
-use Rattle.feed_record.specs.Claims.{Reads, Faulty, Whole, ClientFaulty, SymbolFaulty, NumberFaulty}
+use Rattle.feed_record.specs.Claims.{Reads, Faulty, Whole, NumberFaulty}
 
 -- a number that is refused is refused where it begins
 pub fault-is : (s : List ℕ) (at row : ℕ) → Faulty s at row → read s at ≡ fault row at

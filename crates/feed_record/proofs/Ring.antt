@@ -1,6 +1,6 @@
 -- The ring of serials.
-use Prim.Native.Nat.{ℕ, _+_, _-_, _%_, _<_, _≤_}
-use mathlib.Core.Path.{_≡_, refl, sym, _∙_}
+use Prim.Native.Nat.{ℕ, _+_, _%_, _<_}
+use mathlib.Core.Path.{_≡_, refl}
 use native.Mathlib.Omega.{arith}
 use Rattle.feed_record.specs.Serials.{serials, distance, following, ahead}
 use Rattle.feed_record.specs.Claims.{RingAsWorded}

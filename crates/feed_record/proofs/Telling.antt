@@ -1,12 +1,11 @@
 -- What a serial tells of true places in an endless feed.
 use Prim.Native.Nat.{ℕ, _+_, _-_, _%_, _<_, _≤_}
-use mathlib.Core.Path.{_≡_, refl, sym, _∙_, ap}
+use mathlib.Core.Path.{_≡_, sym, _∙_, ap}
 use mathlib.Core.List.{List}
 use native.Mathlib.Omega.{arith}
 use lib.Dec.{leb}
 use borrow.Author.Tests.{leb-true, leb-false}
 use Rattle.base.proofs.Bools.{by}
-use Rattle.feed_record.specs.declared.Expected.{Expected}
 use Rattle.feed_record.specs.declared.Expected.the-variants.{Any, Serial}
 use Rattle.feed_record.specs.declared.Admitted.{Admitted}
 use Rattle.feed_record.specs.Serials.{serials, distance, following, ahead}

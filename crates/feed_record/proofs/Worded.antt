@@ -14,7 +14,7 @@ use Rattle.feed_record.specs.declared.Expected.{Expected}
 use Rattle.feed_record.specs.declared.Admitted.{Admitted}
 use Rattle.feed_record.specs.Serials.{ahead}
 use Rattle.feed_record.specs.Records.{turnedAway, letIn, admission}
-use Rattle.feed_record.specs.Claims.{Whole, NumberFaulty, BytesLeft, RecordIs, LargeSerial, LateSerial, InTime, Timely, RecordsAsWorded, RecordsReadBack}
+use Rattle.feed_record.specs.Claims.{Whole, NumberFaulty, BytesLeft, RecordIs, LargeSerial, LateSerial, Timely, RecordsAsWorded, RecordsReadBack}
 use Rattle.feed_record.proofs.Laws.{record-cases, whole-inside, record-faulty, record-left, record-whole, admit-unread, admit-large, admit-late, admit-in}
 
 module _ (s : List ℕ) (expected : Expected) where
@@ -196,6 +196,14 @@ records-as-worded s expected =
       answer = λ serial client symbol t. is-in s expected serial client symbol (t .is) (t .small) (t .early);
       refused = refused s expected;
     }
+
+-- no number between 10 and 21 is a record's, so none of its event's
+pub not-between : (s : List ℕ) (expected : Expected) (n : ℕ) → 10 < n → n < 21 → admission s expected .refusal ≡ n → ⊥
+not-between s expected n l h e =
+    either (records-as-worded s expected .known) (λ k. omega arith)
+    (λ f. either f (λ k. omega arith)
+    (λ f1. either f1 (λ k. omega arith)
+    (λ f2. either f2 (λ k. omega arith) (λ f3. either f3 (λ k. omega arith) (λ k. omega arith)))))
 
 -- numbers that are written
 module _ (serial client symbol : ℕ) (rest : List ℕ) (a : serial < 2097152) (b : client < 2097152) (c : symbol < 2097152) where
