@@ -2,9 +2,9 @@
 use Prim.Native.Nat.{ℕ, _+_, _*_, _/_, _%_, _<_, _≤_}
 use mathlib.Core.Path.{_≡_, refl, sym, _∙_, ap}
 use mathlib.Core.Bool.{true, false}
-use mathlib.Core.List.{List, [], _∷_, _++_}
+use mathlib.Core.List.{List, [], _∷_}
 use native.Mathlib.Omega.{arith}
-use lib.ListN.{length, take, drop, replicate}
+use lib.ListN.{length, take, replicate}
 use lib.Seq.{take-at, drop-at}
 use lib.Dec.{eqb}
 use borrow.Author.Tests.{eqb-true, eqb-false, eq-eqb, ne-eqb}
@@ -14,11 +14,10 @@ use Rattle.clients_answers.specs.Clients.{listRefusal, refusedFor}
 use Rattle.feed_record.specs.declared.Expected.{Expected}
 use Rattle.feed_record.specs.declared.Expected.the-variants.{Any, Serial}
 use Rattle.feed_record.specs.Serials.{distance, following, ahead}
-use Rattle.feed_record.specs.Records.{admission}
 use Rattle.feed_record.specs.Claims.{InTime}
 use Rattle.feed_answers.specs.declared.Fed.{Fed}
 use Rattle.feed_answers.specs.Feed.{entryRefusal, fedFor, fedClients}
-use Rattle.feed_answers.proofs.Entering.{entry-list, entry-record, entry-clear, fed-list, fed-record}
+use Rattle.feed_answers.proofs.Entering.{entry-record, entry-clear, fed-list, fed-record}
 use Rattle.feed_answers.proofs.Worded.{feed-rows-as-worded, feed-answered-as-worded, feed-emitted-padded}
 use Rattle.clients_answers.proofs.Refusals.{list-clear}
 use Rattle.c_layout.specs.Offsets.{numberSize, receivedSize, expectedSize, expectedKnown, expectedSerial, fedLoss}

@@ -18,10 +18,8 @@ use Rattle.clients_answers.specs.declared.ReceivedFor.{ReceivedFor}
 use Rattle.clients_answers.specs.declared.RanFor.{RanFor}
 use Rattle.clients_answers.specs.Clients.{receiveForRefusal, receivedFor, receivedClients}
 use Rattle.clients_answers.specs.Clients.{runForRefusal, ranFor, ranClients, ranForBuffer}
-use Rattle.feed_record.specs.declared.Expected.{Expected}
 use Rattle.feed_record.specs.declared.Expected.the-variants.{Any, Serial}
-use Rattle.feed_record.specs.Serials.{following, ahead}
-use Rattle.feed_record.specs.Records.{admission}
+use Rattle.feed_record.specs.Serials.{following}
 use Rattle.feed_record.specs.Claims.{InTime}
 use Rattle.feed_answers.specs.declared.Fed.{Fed}
 use Rattle.feed_answers.specs.Feed.{entryRefusal, feedRefusal, fedFor, fedClients}
@@ -33,7 +31,7 @@ use Rattle.c_layout.specs.Offsets.{numberSize, statusSize, receivedSize,
 use Rattle.c_layout.specs.Offsets.{ranSize, ranLength, ranRefused, verdictSize, verdictMayRest, verdictCanRest}
 use Rattle.c_layout.specs.Offsets.{expectedSize, expectedKnown, expectedSerial, fedSize, fedLoss, fedPlace}
 use Rattle.c_layout.specs.Layout.{byteAt, part, automatonOf, automatonBytes, configurationOf, configurationBytes}
-use Rattle.c_layout.specs.Layout.{numberOf, numberBytes, expectedOf, expectedBytes, expectedLaid}
+use Rattle.c_layout.specs.Layout.{numberOf, numberBytes, expectedOf, expectedLaid}
 use Rattle.c_layout.specs.Answers.{statusBytes, verdictBytes}
 use Rattle.c_layout.specs.Calls.{initialBytes, receivedLeft, ranLeft, receiveLeaves, runLeaves}
 use Rattle.c_layout.specs.Calls.{receivedForLeft, ranForLeft, fedLeft, receiveForLeaves, runForLeaves, feedLeaves}

@@ -1,10 +1,10 @@
 -- The cases of the answers.
 use Prim.Native.Nat.{ℕ}
-use mathlib.Core.Path.{_≡_, refl, sym, _∙_, ap}
+use mathlib.Core.Path.{_≡_, sym, _∙_, ap}
 use mathlib.Core.Bool.{true, false}
 use mathlib.Core.List.{List}
 use lib.Dec.{eqb}
-use borrow.Author.Tests.{eq-eqb, ne-eqb}
+use borrow.Author.Tests.{ne-eqb}
 use Rattle.automaton.specs.declared.Automaton.{Automaton}
 use Rattle.clients_answers.specs.declared.ReceivedFor.{ReceivedFor}
 use Rattle.clients_answers.specs.Clients.{listRefusal}
