@@ -1,7 +1,7 @@
 -- The call in document 02's words.
-use Prim.Native.Nat.{ℕ}
+use Prim.Native.Nat.{ℕ, _<_}
 use mathlib.Core.Path.{_≡_, sym, _∙_, ap, subst}
-use mathlib.Core.Logic.{_⊎_, inl, _↔_, Iff·trans}
+use mathlib.Core.Logic.{_⊎_, inl, inr, _↔_, Iff·trans}
 use mathlib.Core.Bool.{Bool}
 use mathlib.Core.List.{List, [], _∷_, _++_}
 use native.Mathlib.Omega.{arith}
@@ -30,6 +30,29 @@ use Rattle.feed_answers.specs.Claims.{RecordRow, FeedRowsAsWorded, FeedA
 use Rattle.feed_answers.specs.Claims.{FeedNoninterference, FeedKeepsOthers, FeedEmittedPadded}
 use Rattle.feed_answers.proofs.Entering.{fed-list, fed-record, fed-in}
 
+-- a record's rows lie below those of the list and the event, or above them
+abbrev Apart : ℕ → Type 0
+Apart n = ((0 < n) × (n < 11)) ⊎ (20 < n)
+
+apart : (n : ℕ) → RecordRow n → Apart n
+apart n r =
+    either r (λ e. inl (omega arith, omega arith))
+    (λ r2. either r2 (λ e. inl (omega arith, omega arith))
+    (λ r3. either r3 (λ e. inl (omega arith, omega arith))
+    (λ r4. either r4 (λ e. inr (omega arith)) (λ e. inr (omega arith)))))
+
+record-later : (n : ℕ) → RecordRow n → Later n
+record-later n r =
+    either (apart n r)
+    (λ (some, low). (λ h. omega arith, λ h. omega arith, λ h. omega arith))
+    (λ high. (λ h. omega arith, λ h. omega arith, λ h. omega arith))
+
+record-not-inner : (n : ℕ) → RecordRow n → Inner n → ⊥
+record-not-inner n r i =
+    either (apart n r)
+    (λ (some, low). either i (λ z. omega arith) (λ (l, h). omega arith))
+    (λ high. either i (λ z. omega arith) (λ (l, h). omega arith))
+
 module _ (a : Automaton) (t : List ℕ) (cs : List Configuration) (s : List ℕ) (expected : Expected) where
   abbrev m : Admitted
   m = admission s expected
@@ -53,22 +76,6 @@ module _ (a : Automaton) (t : List ℕ) (cs : List Configuration) (s : List ℕ)
 
   own-number : Own
   own-number = records-as-worded s expected .known
-
-  record-later : (n : ℕ) → RecordRow n → Later n
-  record-later n r =
-      let no : (k : ℕ) → (n ≡ k) → Later k → Later n = λ k e l. subst Later (sym e) l in
-      let fine : (k : ℕ) → (k ≡ 11 → ⊥) → (k ≡ 12 → ⊥) → (k ≡ 20 → ⊥) → Later k = λ k p q u. (p, q, u) in
-      either r (λ e. no 1 e (fine 1 (λ h. omega arith) (λ h. omega arith) (λ h. omega arith)))
-      (λ r2. either r2 (λ e. no 2 e (fine 2 (λ h. omega arith) (λ h. omega arith) (λ h. omega arith)))
-      (λ r3. either r3 (λ e. no 10 e (fine 10 (λ h. omega arith) (λ h. omega arith) (λ h. omega arith)))
-      (λ r4. either r4 (λ e. no 21 e (fine 21 (λ h. omega arith) (λ h. omega arith) (λ h. omega arith)))
-      (λ e. no 22 e (fine 22 (λ h. omega arith) (λ h. omega arith) (λ h. omega arith))))))
-
-  record-not-inner : (n : ℕ) → RecordRow n → Inner n → ⊥
-  record-not-inner n r i =
-      either i
-      (λ z. either r (λ e. omega arith) (λ r2. either r2 (λ e. omega arith) (λ r3. either r3 (λ e. omega arith) (λ r4. either r4 (λ e. omega arith) (λ e. omega arith)))))
-      (λ (l, h). either r (λ e. omega arith) (λ r2. either r2 (λ e. omega arith) (λ r3. either r3 (λ e. omega arith) (λ r4. either r4 (λ e. omega arith) (λ e. omega arith)))))
 
   rows-later : Later (first rows)
   rows-later =
@@ -173,7 +180,7 @@ unfolding feedRefusal
 feed-rows-as-worded a t cs s expected =
     record {
       list = list-rows a t (length cs) (rows a t cs s expected) (rows-later a t cs s expected);
-      own = λ n r. list-later a t (length cs) (rows a t cs s expected) n (record-later a t cs s expected n r) (λ _. own-row a t cs s expected n r);
+      own = λ n r. list-later a t (length cs) (rows a t cs s expected) n (record-later n r) (λ _. own-row a t cs s expected n r);
       event = event-rows a t cs s expected;
       answered = answered a t cs s expected;
     }
