@@ -15,6 +15,7 @@ use Rattle.feed_record.specs.declared.Expected.{Expected}
 use Rattle.feed_record.specs.declared.Expected.the-variants.{Any, Serial}
 use Rattle.feed_record.specs.Serials.{distance, following, ahead}
 use Rattle.feed_record.specs.Claims.{InTime}
+use Rattle.feed_record.proofs.Worded.{records-as-worded}
 use Rattle.feed_answers.specs.declared.Fed.{Fed}
 use Rattle.feed_answers.specs.Feed.{entryRefusal, fedFor, fedClients}
 use Rattle.feed_answers.proofs.Entering.{entry-record, entry-clear, fed-list, fed-record}
@@ -75,9 +76,19 @@ kept-laid x lent e =
     (λ h. let z = same-is (expectedOf lent) x h in ap (λ y. expectedOf (expectedLaid y lent)) (sym z) ∙ ap expectedOf (laid-same lent) ∙ z)
     (λ h. ap expectedOf (laid-other x lent h) ∙ e)
 
+none-anew : (lent : List ℕ) → (byteAt lent expectedKnown ≡ 0 → ⊥) → sameExpected (expectedOf lent) Any ≡ false
+unfolding expectedOf sameExpected
+none-anew lent z = rw (ne-eqb (byteAt lent expectedKnown) 0 z)
+
 pub expected-kept : ExpectedKept
 unfolding expectedOf expectedBytes part numberBytes numberOf
-expected-kept lent = (kept-laid Any lent refl, λ s l. kept-laid (Serial s) lent (ap Serial (omega arith)))
+expected-kept lent =
+    record {
+      none = kept-laid Any lent refl;
+      serial = λ s l. kept-laid (Serial s) lent (ap Serial (omega arith));
+      already = laid-same lent;
+      zeros = λ z. laid-other Any lent (none-anew lent z);
+    }
 
 -- a record that is let in expects another serial than was expected
 moves : (x : Expected) (serial : ℕ) → serial ≤ 65535 → ahead x serial < 32768 → sameExpected x (Serial (following serial)) ≡ false
@@ -152,6 +163,21 @@ module _ (record-bytes t : List ℕ) (cs : List Configuration) (s lent : List �
       laid-other (Serial (following serial)) lent (moves x serial (i .small) (i .early)) ∙
       ap (λ h. 1 ∷ following serial % 256 ∷ h ∷ []) high
 
+  handed-on : expectedOf (feedLeaves record-bytes t cs s lent .expected) ≡ r .expected
+  unfolding feedLeaves fedLeft following
+  handed-on =
+      let a = automatonOf record-bytes in
+      by (eqb row 0)
+      (λ h.
+      let z = eqb-true row 0 h in
+      let (l, k) = entry-clear a t (length cs) s x z in
+      let i = records-as-worded s x .admitted .0 k in
+      let e = ap (λ f. f .expected) (feed-answered-as-worded a t cs s x .let-in (list-clear a t (length cs) l) (i .serial) (i .client) (i .symbol) (i .in-time) .0) in
+      ap (λ y. expectedOf (expectedLaid y lent)) e ∙ expected-kept lent .serial (following (i .serial)) (omega arith) ∙ sym e)
+      (λ h.
+      let same = unmoved (eqb-false row 0 h) .0 in
+      ap (λ y. expectedOf (expectedLaid y lent)) same ∙ ap expectedOf (laid-same lent) ∙ sym same)
+
   refused : (feedLeaves record-bytes t cs s lent .refusal ≡ 0 → ⊥)
       → (feedLeaves record-bytes t cs s lent .configurations ≡ cs)
       × (take receivedSize (feedLeaves record-bytes t cs s lent .answer) ≡ replicate receivedSize 0)
@@ -172,5 +198,6 @@ feed-left-as-answered record-bytes t cs s lent long =
       answer = offsets-hold .fed (fedFor a t cs s x) (fedClients a t cs s x) lent (feed-emitted-padded a t cs s x .1 .0);
       kept = kept record-bytes t cs s lent;
       next = next record-bytes t cs s lent;
+      handed-on = handed-on record-bytes t cs s lent;
       refused = refused record-bytes t cs s lent;
     }

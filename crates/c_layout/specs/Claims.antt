@@ -133,11 +133,16 @@ ConfigurationKept = (c : Configuration) → length (c .buffer) ≡ maxCapacity �
 abbrev pub ConfigurationBytesKept : Type 0
 ConfigurationBytesKept = (bytes : List ℕ) → length bytes ≡ configurationSize → configurationBytes (configurationOf bytes) ≡ bytes
 
--- so does an expected serial, whatever the bytes were that it is laid into
+-- so does an expected serial, whatever the bytes were that it is laid into; bytes that say it
+-- already stay, and else none is three zeros
+pub record ExpectedLies (lent : List ℕ) : Type 0 where
+  pub none : expectedOf (expectedLaid Any lent) ≡ Any
+  pub serial : (s : ℕ) → s < 65536 → expectedOf (expectedLaid (Serial s) lent) ≡ Serial s
+  pub already : expectedLaid (expectedOf lent) lent ≡ lent
+  pub zeros : (byteAt lent expectedKnown ≡ 0 → ⊥) → expectedLaid Any lent ≡ 0 ∷ 0 ∷ 0 ∷ []
+
 abbrev pub ExpectedKept : Type 0
-ExpectedKept =
-    (lent : List ℕ) → (expectedOf (expectedLaid Any lent) ≡ Any)
-    × ((s : ℕ) → s < 65536 → expectedOf (expectedLaid (Serial s) lent) ≡ Serial s)
+ExpectedKept = (lent : List ℕ) → ExpectedLies lent
 
 -- a number comes back where the bytes are enough for it
 abbrev pub NumberKept : Type 0
@@ -191,6 +196,9 @@ pub record FedAsAnswered (record-bytes t : List ℕ) (cs : List Configuration) (
   pub next : entryRefusal (automatonOf record-bytes) t (length cs) s (expectedOf lent) ≡ 0
       → (serial client symbol : ℕ) → InTime s (expectedOf lent) serial client symbol
       → feedLeaves record-bytes t cs s lent .expected ≡ 1 ∷ following serial % 256 ∷ following serial / 256 ∷ []
+  -- so the next call takes out of them what this one answered
+  pub handed-on : expectedOf (feedLeaves record-bytes t cs s lent .expected)
+      ≡ fedFor (automatonOf record-bytes) t cs s (expectedOf lent) .expected
   -- refused, the list stays, and of the event's answer every byte is 0
   pub refused : (feedLeaves record-bytes t cs s lent .refusal ≡ 0 → ⊥)
       → (feedLeaves record-bytes t cs s lent .configurations ≡ cs)

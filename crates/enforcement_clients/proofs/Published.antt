@@ -377,5 +377,5 @@ clients-follow-published a n ss =
       event = event-as-published a n ss;
       events = events-as-published a n ss;
       day = day-as-published a n ss;
-      fed = feed-as-published a n ss;
+      record-fed = feed-as-published a n ss;
     }

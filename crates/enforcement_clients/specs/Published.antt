@@ -138,7 +138,7 @@ pub record ClientsAsPublished (a : Automaton) (n : ℕ) (ss : Functions) : Type 
   pub event : (k i e : ℕ) → EventAsPublished a n ss k i e
   pub events : EventsAsPublished a n ss
   pub day : (k : ℕ) (vs out : List ℕ) → DayAsPublished a n ss k vs out
-  pub fed : (k : ℕ) (s : List ℕ) (x : Expected) → FeedAsPublished a n ss k s x
+  pub record-fed : (k : ℕ) (s : List ℕ) (x : Expected) → FeedAsPublished a n ss k s x
 
 -- so it is of every automaton, however many are lent and whatever the functions hold
 abbrev pub ClientsFollowPublished : Type 0

@@ -42,7 +42,7 @@ use Rattle.enforcement_clients_instances.specs.ListStatements.{broken, h
 use Rattle.enforcement_clients_instances.specs.CallStatements.{startW, callsHere, two, signed, otherTable}
 use Rattle.enforcement_clients_instances.specs.RecordStatements.{serialZero, afterGap, repeated, oneMore, tooLarge, inTurn}
 use Rattle.enforcement_clients_instances.specs.FeedStatements.{fedAs, keptAs, feedCalls, feedReplies, feedClients, FeedCallFields, feedRow}
-use Rattle.enforcement_clients_instances.specs.FeedStatements.{FeedRowFields, FeedAnswerFields, FeedIsolating, FeedBringing, feedThere, FeedBeside}
+use Rattle.enforcement_clients_instances.specs.FeedStatements.{unthreaded, unthreadedReplies, UnthreadedFields, FeedRowFields, FeedAnswerFields, FeedIsolating, FeedBringing, feedThere, FeedBeside}
 
 replies-fed : replies automatonW tableW (startW 3) feedCalls ≡ feedReplies
 unfolding calling
@@ -95,6 +95,24 @@ feed-call-fields =
       clients-other = sym (other .1) ∙ leaves-fed;
     }
 
+-- each given what it is given
+replies-unthreaded : replies automatonW tableW (startW 3) unthreaded ≡ unthreadedReplies
+unfolding calling
+replies-unthreaded = refl
+
+events-unthreaded : eventsTo automatonW 3 unfed 1 unthreaded ≡ 0 ∷ 0 ∷ []
+unfolding feeding
+events-unthreaded = refl
+
+pub unthreaded-fields : UnthreadedFields
+unthreaded-fields =
+    let s = enforced-w 3 unthreaded in
+    record {
+      each-reply = replies-unthreaded;
+      expected = sym (s .each-reply) ∙ replies-unthreaded;
+      brought = s .own 1 (omega arith) .brought ∙ events-unthreaded;
+    }
+
 -- the rows
 said : (cs : List Configuration) (s : List ℕ) (x : Expected) → FeedRows automatonW tableW cs s x
 said = feed-rows-as-worded automatonW tableW
@@ -110,11 +128,11 @@ feed-row-fields =
       row-12 = feed-rows-as-worded automatonW (filled 13 9) [] [] Any .list .row-12 .1 (valid-w, short-13);
       none-lent = λ s x. said [] s x .list .row-20 .1 (valid-w, long-w, inl refl);
       too-many = λ s x. said (crowd 501) s x .list .row-20 .1 (valid-w, long-w, inr (omega (arith, crowd-length 501)));
-      row-1 = said pair [] (Serial 7) .own 1 (inl refl) .1 (clear-pair, refl);
-      row-2 = said pair (128 ∷ 128 ∷ 128 ∷ 0 ∷ []) (Serial 7) .own 2 (inr (inl refl)) .1 (clear-pair, refl);
-      row-10 = said pair oneMore (Serial 7) .own 10 (inr (inr (inl refl))) .1 (clear-pair, refl);
-      row-21 = said pair tooLarge (Serial 7) .own 21 (inr (inr (inr (inl refl)))) .1 (clear-pair, refl);
-      row-22 = said pair repeated (Serial 7) .own 22 (inr (inr (inr (inr refl)))) .1 (clear-pair, refl);
+      row-1 = said pair [] (Serial 7) .own 1 (inl (inl refl)) .1 (clear-pair, refl);
+      row-2 = said pair (128 ∷ 128 ∷ 128 ∷ 0 ∷ []) (Serial 7) .own 2 (inl (inr refl)) .1 (clear-pair, refl);
+      row-10 = said pair oneMore (Serial 7) .own 10 (inr (inl refl)) .1 (clear-pair, refl);
+      row-21 = said pair tooLarge (Serial 7) .own 21 (inr (inr (inl refl))) .1 (clear-pair, refl);
+      row-22 = said pair repeated (Serial 7) .own 22 (inr (inr (inr refl))) .1 (clear-pair, refl);
       row-19 = said pair (inTurn 2 9) (Serial 7) .event .row-19 .1 ((clear-pair, refl), omega arith);
       row-13 = said pair (inTurn 0 9) (Serial 7) .event .row-13 .1 ((clear-pair, refl), omega arith, broken-fails);
       row-14 = said pair (inTurn 1 4) (Serial 7) .event .row-14 .1 ((clear-pair, refl), omega arith, held-stands, omega arith);
@@ -126,11 +144,11 @@ feed-row-fields =
           ((clear-pair, refl), omega arith, held-stands, (omega arith, inl λ c. omega arith));
       answered =
           said pair repeated (Serial 7) .answered ∙
-          said pair repeated (Serial 7) .own 22 (inr (inr (inr (inr refl)))) .1 (clear-pair, refl);
+          said pair repeated (Serial 7) .own 22 (inr (inr (inr refl))) .1 (clear-pair, refl);
       only-11 = λ a s x h. feed-rows-as-worded a tableW here s x .list .row-11 .0 h;
       only-12 = λ t s x h. feed-rows-as-worded automatonW t here s x .list .row-12 .0 h .1;
       only-20 = λ cs s x h. said cs s x .list .row-20 .0 h .2;
-      only-22 = λ cs s x h. said cs s x .own 22 (inr (inr (inr (inr refl)))) .0 h .1;
+      only-22 = λ cs s x h. said cs s x .own 22 (inr (inr (inr refl))) .0 h .1;
       only-19 = λ cs s x h. said cs s x .event .row-19 .0 h .1;
       only-13 = λ c h. said (broken ∷ c ∷ []) (inTurn 1 0) (Serial 7) .event .row-13 .0 h .2;
       only-14 = λ cs s x h. said cs s x .event .row-14 .0 h .3;

@@ -176,8 +176,13 @@ feed-layouts =
       place = offsets-hold .fed atFourth two lent refl .place .value (omega arith);
       unknown = offsets-hold .expected (0 ∷ 9 ∷ 9 ∷ []) refl .unknown refl;
       known = offsets-hold .expected (9 ∷ 1 ∷ 2 ∷ []) refl .known (λ z. omega arith);
-      any-kept = expected-kept (9 ∷ 1 ∷ 2 ∷ []) .0;
-      serial-kept = expected-kept (0 ∷ 9 ∷ 9 ∷ []) .1 65535 (omega arith);
+      any-kept = expected-kept (9 ∷ 1 ∷ 2 ∷ []) .none;
+      serial-kept = expected-kept (0 ∷ 9 ∷ 9 ∷ []) .serial 65535 (omega arith);
+      said-already = expected-kept (0 ∷ 9 ∷ 9 ∷ []) .already;
+      none-anew = expected-kept (9 ∷ 1 ∷ 2 ∷ []) .zeros (λ z. omega arith);
+      handed-on =
+          gap .handed-on ∙
+          ap (λ y. fedFor a tableW two afterGap y .expected) (offsets-hold .expected (1 ∷ 1 ∷ 0 ∷ []) refl .known (λ z. omega arith));
       refusal = sign .refusal ∙ fed-row a kept-w;
       list = sign .list ∙ fed-list a kept-w;
       answer = sign .answer .count ∙ ap (λ f. f .answer .count) (fed-is a kept-w);

@@ -222,7 +222,7 @@ day-fields =
 
 -- a record of the feed
 record-of : (n : ℕ) (s : List ℕ) (x : Expected) → FeedAsPublished automatonW n family n s x
-record-of n s x = said n family .fed n s x
+record-of n s x = said n family .record-fed n s x
 
 pub feed-fields : FeedFields
 unfolding following ahead distance

@@ -6,15 +6,16 @@ use mathlib.Core.List.{List, [], _∷_, append-nil}
 use native.Mathlib.Omega.{arith}
 use borrow.Author.Tests.{lt-ltb}
 use Rattle.varint.specs.Varint.{groups, read, encode, bytes, encoded}
+use Rattle.base.proofs.Bools.{either}
 use Rattle.feed_record.specs.declared.Expected.{Expected}
 use Rattle.feed_record.specs.declared.Expected.the-variants.{Any, Serial}
 use Rattle.feed_record.specs.Serials.{distance, following, ahead}
 use Rattle.feed_record.specs.Records.{turnedAway, admission}
 use Rattle.feed_record.specs.Claims.{Ring, RecordRows, NumberFaulty, Whole, RecordIs, LateSerial, InTime, serialAt, Told}
 use Rattle.feed_record.proofs.Ring.{ring-as-worded}
-use Rattle.feed_record.proofs.Worded.{records-as-worded, not-between, records-read-back}
+use Rattle.feed_record.proofs.Worded.{records-as-worded, reading-as-worded, not-between, records-read-back}
 use Rattle.feed_record.proofs.Telling.{serials-tell, first-let-in}
-use Rattle.enforcement_clients_instances.specs.RecordStatements.{afterGap, repeated, oneMore, tooLarge, inTurn, Rings, RecordFields}
+use Rattle.enforcement_clients_instances.specs.RecordStatements.{afterGap, repeated, oneMore, tooLarge, inTurn, Rings, RecordFields, ReadingFields}
 use Rattle.enforcement_clients_instances.specs.RecordStatements.{signAt, Telling}
 
 -- from 65,533 to 2
@@ -141,6 +142,17 @@ record-fields =
       never-19 = λ s x. not-between s x 19 (omega arith) (omega arith);
       never-20 = λ s x. not-between s x 20 (omega arith) (omega arith);
       read-back = last-read;
+    }
+
+pub reading-fields : ReadingFields
+reading-fields =
+    record {
+      faulty = reading-as-worded (7 ∷ 1 ∷ 128 ∷ 128 ∷ 128 ∷ 0 ∷ []) .faulty 2 2 (inr refl) in-symbol;
+      left = reading-as-worded oneMore .left 3 (record { serial = 7; client = 1; symbol = 3; whole = one-more-read; more = omega arith });
+      whole = reading-as-worded afterGap .whole 6 1 7 gap-read;
+      never-21 = λ s h.
+          either (reading-as-worded s .known) (λ k. omega arith)
+          (λ f. either f (λ g. either g (λ k. omega arith) (λ k. omega arith)) (λ k. omega arith));
     }
 
 -- Sign of client 1 at a place of an endless feed

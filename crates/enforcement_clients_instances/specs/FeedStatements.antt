@@ -99,6 +99,25 @@ pub record FeedCallFields : Type 0 where
   pub replies-other : replies automatonW otherTable (startW 3) feedCalls ≡ feedReplies
   pub clients-other : leavesAll automatonW otherTable (startW 3) feedCalls ≡ feedClients
 
+-- Whatever each record is given: none though the one before it answered 0; 65,000 though that
+-- answered 1, so that 535 are told as lost; and 7.
+abbrev pub unthreaded : List ClientCall
+unthreaded =
+    feedFor 3 lastSerial Any ∷ feedFor 3 serialZero Any ∷ feedFor 3 lastSerial (Serial 65000) ∷ feedFor 3 (inTurn 0 2) (Serial 7) ∷ []
+
+abbrev pub unthreadedReplies : List ClientReply
+unthreadedReplies =
+    feed (fedAs (answerFor (0 ∷ [])) 0 0) ∷
+    feed (fedAs (answerFor (0 ∷ [])) 1 0) ∷
+    feed (fedAs (answerFor (0 ∷ [])) 0 535) ∷
+    feed (fedAs (answerFor []) 8 0) ∷ []
+
+pub record UnthreadedFields : Type 0 where
+  pub each-reply : replies automatonW tableW (startW 3) unthreaded ≡ unthreadedReplies
+  -- so the functions reply
+  pub expected : expectedAll automatonW 3 unfed unthreaded ≡ unthreadedReplies
+  pub brought : ownAll automatonW tableW (startW 3) 1 unthreaded ≡ 0 ∷ 0 ∷ []
+
 -- the row of a record over W's table
 abbrev pub feedRow : List Configuration → List ℕ → Expected → ℕ
 feedRow = feedRefusal automatonW tableW

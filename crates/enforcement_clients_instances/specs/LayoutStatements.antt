@@ -11,6 +11,7 @@ use Rattle.clients_answers.specs.declared.RanFor.{RanFor}
 use Rattle.clients_answers.specs.Clients.{initialClients}
 use Rattle.feed_record.specs.declared.Expected.the-variants.{Any, Serial}
 use Rattle.feed_answers.specs.declared.Fed.{Fed}
+use Rattle.feed_answers.specs.Feed.{fedFor}
 use Rattle.enforcement_clients.specs.ClientCalls.{receive}
 use Rattle.enforcement_clients.specs.Claims.{ClientsEnforced}
 use Rattle.c_layout.specs.Offsets.{receivedSize, receivedEmitted, receivedCount, receivedWinning}
@@ -133,6 +134,8 @@ pub record FeedLayouts : Type 0 where
   pub known : expectedOf (9 ∷ 1 ∷ 2 ∷ []) ≡ Serial 513
   pub any-kept : expectedOf (expectedLaid Any (9 ∷ 1 ∷ 2 ∷ [])) ≡ Any
   pub serial-kept : expectedOf (expectedLaid (Serial 65535) (0 ∷ 9 ∷ 9 ∷ [])) ≡ Serial 65535
+  pub said-already : expectedLaid (expectedOf (0 ∷ 9 ∷ 9 ∷ [])) (0 ∷ 9 ∷ 9 ∷ []) ≡ 0 ∷ 9 ∷ 9 ∷ []
+  pub none-anew : expectedLaid Any (9 ∷ 1 ∷ 2 ∷ []) ≡ 0 ∷ 0 ∷ 0 ∷ []
   -- Sign of client 1, five records lost before it
   pub refusal : feedLeaves recordW tableW two (inTurn 1 0) (1 ∷ 2 ∷ 0 ∷ []) .refusal ≡ 0
   pub list : feedLeaves recordW tableW two (inTurn 1 0) (1 ∷ 2 ∷ 0 ∷ []) .configurations ≡ signed
@@ -143,6 +146,8 @@ pub record FeedLayouts : Type 0 where
   pub refused : (feedLeaves recordW tableW two afterGap (1 ∷ 1 ∷ 0 ∷ []) .configurations ≡ two)
       × (take receivedSize (feedLeaves recordW tableW two afterGap (1 ∷ 1 ∷ 0 ∷ []) .answer) ≡ replicate receivedSize 0)
   pub refused-next : feedLeaves recordW tableW two afterGap (1 ∷ 1 ∷ 0 ∷ []) .expected ≡ 1 ∷ 7 ∷ 0 ∷ []
+  pub handed-on : expectedOf (feedLeaves recordW tableW two afterGap (1 ∷ 1 ∷ 0 ∷ []) .expected)
+      ≡ fedFor (automatonOf recordW) tableW two afterGap (Serial 1) .expected
   -- a repeat: the bytes of the expected serial stay as they were lent
   pub kept : (feedLeaves recordW tableW two repeated (9 ∷ 7 ∷ 0 ∷ []) .expected ≡ 9 ∷ 7 ∷ 0 ∷ [])
       × (part fedLoss numberSize (feedLeaves recordW tableW two repeated (9 ∷ 7 ∷ 0 ∷ []) .answer) ≡ replicate numberSize 0)

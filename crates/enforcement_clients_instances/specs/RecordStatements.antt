@@ -7,7 +7,7 @@ use Rattle.feed_record.specs.declared.Expected.{Expected}
 use Rattle.feed_record.specs.declared.Expected.the-variants.{Any, Serial}
 use Rattle.feed_record.specs.declared.Admitted.{Admitted}
 use Rattle.feed_record.specs.Serials.{serials, distance, following, ahead}
-use Rattle.feed_record.specs.Records.{admission}
+use Rattle.feed_record.specs.Records.{recordIn, admission}
 use Rattle.feed_record.specs.Claims.{NumberFaulty, Whole, BytesLeft, LargeSerial, LateSerial, Timely}
 use Rattle.feed_record.specs.Claims.{serialAt, TakenAs, TakenAsLate}
 
@@ -87,6 +87,14 @@ pub record RecordFields : Type 0 where
   pub never-20 : (s : List ℕ) (x : Expected) → rowOf s x ≡ 20 → ⊥
   -- the last serial, client 1 and Sign, with a byte behind them
   pub read-back : Whole (255 ∷ 255 ∷ 3 ∷ 1 ∷ 0 ∷ 9 ∷ []) 65535 1 0 5
+
+-- what is read: a symbol of four bytes, a byte too many, three numbers
+pub record ReadingFields : Type 0 where
+  pub faulty : recordIn (7 ∷ 1 ∷ 128 ∷ 128 ∷ 128 ∷ 0 ∷ []) ≡ record { refusal = 2; place = 2; serial = 0; client = 0; symbol = 0 }
+  pub left : recordIn oneMore ≡ record { refusal = 10; place = 3; serial = 0; client = 0; symbol = 0 }
+  pub whole : recordIn afterGap ≡ record { refusal = 0; place = 0; serial = 6; client = 1; symbol = 7 }
+  -- a serial's rows are none of reading's
+  pub never-21 : (s : List ℕ) → recordIn s .refusal ≡ 21 → ⊥
 
 -- Sign of client 1 at a place of an endless feed
 abbrev pub signAt : ℕ → List ℕ

@@ -36,10 +36,8 @@ Apart n = ((0 < n) × (n < 11)) ⊎ (20 < n)
 
 apart : (n : ℕ) → RecordRow n → Apart n
 apart n r =
-    either r (λ e. inl (omega arith, omega arith))
-    (λ r2. either r2 (λ e. inl (omega arith, omega arith))
-    (λ r3. either r3 (λ e. inl (omega arith, omega arith))
-    (λ r4. either r4 (λ e. inr (omega arith)) (λ e. inr (omega arith)))))
+    either r (λ l. either l (λ e. inl (omega arith, omega arith)) (λ e. inl (omega arith, omega arith)))
+    (λ r2. either r2 (λ e. inl (omega arith, omega arith)) (λ r3. either r3 (λ e. inr (omega arith)) (λ e. inr (omega arith))))
 
 record-later : (n : ℕ) → RecordRow n → Later n
 record-later n r =

@@ -15,12 +15,12 @@ use Rattle.feed_record.specs.declared.Expected.{Expected}
 use Rattle.feed_record.specs.declared.Expected.the-variants.{Serial}
 use Rattle.feed_record.specs.Serials.{following, ahead}
 use Rattle.feed_record.specs.Records.{admission}
-use Rattle.feed_record.specs.Claims.{InTime}
+use Rattle.feed_record.specs.Claims.{NumberRow, InTime}
 use Rattle.feed_answers.specs.Feed.{feedRefusal, fedFor, eventIn, fedClients}
 
 -- a row of the record itself (in words: `RecordsAsWorded` of crate `feed_record`)
 abbrev pub RecordRow : ℕ → Type 0
-RecordRow n = (n ≡ 1) ⊎ (n ≡ 2) ⊎ (n ≡ 10) ⊎ (n ≡ 21) ⊎ (n ≡ 22)
+RecordRow n = NumberRow n ⊎ (n ≡ 10) ⊎ (n ≡ 21) ⊎ (n ≡ 22)
 
 -- The rows in their order: 11, 12, 20; then the record's; then, of a record that is let in, its
 -- event's.
@@ -74,7 +74,7 @@ pub record FeedAnswered (a : Automaton) (t : List ℕ) (cs : List Configuration)
       → (fedClients a t cs s expected ≡ cs)
       × (fedFor a t cs s expected .answer
       ≡ record { refusal = feedRefusal a t cs s expected; emitted = replicate 7 0; count = 0; winning = false })
-  -- nor does any call of another client
+  -- no call changes another client than its record's
   pub others : (g : ℕ) → (g ≡ admission s expected .client → ⊥) → getD (fedClients a t cs s expected) g none ≡ getD cs g none
   pub count : length (fedClients a t cs s expected) ≡ length cs
 

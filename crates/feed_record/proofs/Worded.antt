@@ -13,8 +13,9 @@ use Rattle.varint.proofs.Trips.{reads-back}
 use Rattle.feed_record.specs.declared.Expected.{Expected}
 use Rattle.feed_record.specs.declared.Admitted.{Admitted}
 use Rattle.feed_record.specs.Serials.{ahead}
-use Rattle.feed_record.specs.Records.{turnedAway, letIn, admission}
-use Rattle.feed_record.specs.Claims.{Whole, NumberFaulty, BytesLeft, RecordIs, LargeSerial, LateSerial, Timely, RecordsAsWorded, RecordsReadBack}
+use Rattle.feed_record.specs.Records.{recordIn, turnedAway, letIn, admission}
+use Rattle.feed_record.specs.Claims.{NumberRow, Whole, NumberFaulty, BytesLeft, RecordIs, LargeSerial, LateSerial, InTime, Timely}
+use Rattle.feed_record.specs.Claims.{RecordsAsWorded, ReadingAsWorded, RecordsReadBack}
 use Rattle.feed_record.proofs.Laws.{record-cases, whole-inside, record-faulty, record-left, record-whole, admit-unread, admit-large, admit-late, admit-in}
 
 module _ (s : List ℕ) (expected : Expected) where
@@ -40,7 +41,7 @@ module _ (s : List ℕ) (expected : Expected) where
 
   -- there is no other
   record Cases (R : Type 0) : Type 0 where
-    faulty : (row place : ℕ) → (row ≡ 1) ⊎ (row ≡ 2) → NumberFaulty s row place → m ≡ turnedAway expected row place → R
+    faulty : (row place : ℕ) → NumberRow row → NumberFaulty s row place → m ≡ turnedAway expected row place → R
     left : (place : ℕ) → BytesLeft s place → m ≡ turnedAway expected 10 place → R
     large : LargeSerial s → m ≡ turnedAway expected 21 0 → R
     late : LateSerial s expected → m ≡ turnedAway expected 22 0 → R
@@ -79,10 +80,10 @@ module _ (s : List ℕ) (expected : Expected) where
   other : {R : Type 0} (row place : ℕ) (n : ℕ) → m ≡ turnedAway expected row place → m .refusal ≡ n → (row ≡ n → ⊥) → R
   other row place n e h z = absurd (z (sym (ap (λ a. a .refusal) e) ∙ h))
 
-  low-not : (row n : ℕ) → (row ≡ 1) ⊎ (row ≡ 2) → 3 ≤ n → row ≡ n → ⊥
+  low-not : (row n : ℕ) → NumberRow row → 3 ≤ n → row ≡ n → ⊥
   low-not row n l g h = either l (λ k. omega arith) (λ k. omega arith)
 
-  of-number : (row place : ℕ) → (row ≡ 1) ⊎ (row ≡ 2) → (m .refusal ≡ row) × (m .place ≡ place) → NumberFaulty s row place
+  of-number : (row place : ℕ) → NumberRow row → (m .refusal ≡ row) × (m .place ≡ place) → NumberFaulty s row place
   of-number row place l (h, p) =
       let not-high : (n : ℕ) → 3 ≤ n → n ≡ row → ⊥ = λ n g k. low-not row n l g (sym k) in
       cases (record {
@@ -149,17 +150,15 @@ module _ (s : List ℕ) (expected : Expected) where
       })
 
   abbrev Known : Type 0
-  Known = (m .refusal ≡ 0) ⊎ (m .refusal ≡ 1) ⊎ (m .refusal ≡ 2) ⊎ (m .refusal ≡ 10) ⊎ (m .refusal ≡ 21) ⊎ (m .refusal ≡ 22)
+  Known = (m .refusal ≡ 0) ⊎ NumberRow (m .refusal) ⊎ (m .refusal ≡ 10) ⊎ (m .refusal ≡ 21) ⊎ (m .refusal ≡ 22)
 
   known : Known
   known =
       cases (record {
-        faulty = λ k q l f e.
-            let h = ap (λ a. a .refusal) e in
-            either l (λ y. inr (inl (h ∙ y))) (λ y. inr (inr (inl (h ∙ y))));
-        left = λ q b e. inr (inr (inr (inl (ap (λ a. a .refusal) e))));
-        large = λ g e. inr (inr (inr (inr (inl (ap (λ a. a .refusal) e)))));
-        late = λ g e. inr (inr (inr (inr (inr (ap (λ a. a .refusal) e)))));
+        faulty = λ k q l f e. inr (inl (subst NumberRow (sym (ap (λ a. a .refusal) e)) l));
+        left = λ q b e. inr (inr (inl (ap (λ a. a .refusal) e)));
+        large = λ g e. inr (inr (inr (inl (ap (λ a. a .refusal) e))));
+        late = λ g e. inr (inr (inr (inr (ap (λ a. a .refusal) e))));
         timely = λ g e. inl e;
       })
 
@@ -201,9 +200,30 @@ records-as-worded s expected =
 pub not-between : (s : List ℕ) (expected : Expected) (n : ℕ) → 10 < n → n < 21 → admission s expected .refusal ≡ n → ⊥
 not-between s expected n l h e =
     either (records-as-worded s expected .known) (λ k. omega arith)
-    (λ f. either f (λ k. omega arith)
-    (λ f1. either f1 (λ k. omega arith)
-    (λ f2. either f2 (λ k. omega arith) (λ f3. either f3 (λ k. omega arith) (λ k. omega arith)))))
+    (λ f. either f (λ f1. either f1 (λ k. omega arith) (λ k. omega arith))
+    (λ f2. either f2 (λ k. omega arith) (λ f3. either f3 (λ k. omega arith) (λ k. omega arith))))
+
+-- what reading answers
+module _ (s : List ℕ) where
+  some-row : (row : ℕ) → NumberRow row → row ≡ 0 → ⊥
+  some-row row l z = either l (λ h. omega arith) (λ h. omega arith)
+
+  read-known : (recordIn s .refusal ≡ 0) ⊎ NumberRow (recordIn s .refusal) ⊎ (recordIn s .refusal ≡ 10)
+  read-known =
+      record-cases s
+      (λ row place l f. inr (inl (subst NumberRow (ap (λ r. r .refusal) (record-faulty s row place (some-row row l) f)) l)))
+      (λ serial client symbol end w. by (ltb end (length s))
+      (λ h. inr (inr (sym (ap (λ r. r .refusal) (record-left s serial client symbol end w (ltb-true end (length s) h))))))
+      (λ h. inl (sym (ap (λ r. r .refusal) (record-whole s serial client symbol end w (ltb-false end (length s) h))))))
+
+pub reading-as-worded : ReadingAsWorded
+reading-as-worded s =
+    record {
+      faulty = λ row place l f. sym (record-faulty s row place (some-row s row l) f);
+      left = λ place b. sym (record-left s (b .serial) (b .client) (b .symbol) place (b .whole) (b .more));
+      whole = λ serial client symbol r. sym (record-whole s serial client symbol (length s) r (omega arith));
+      known = read-known s;
+    }
 
 -- numbers that are written
 module _ (serial client symbol : ℕ) (rest : List ℕ) (a : serial < 2097152) (b : client < 2097152) (c : symbol < 2097152) where

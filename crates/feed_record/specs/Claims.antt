@@ -10,7 +10,7 @@ use Rattle.feed_record.specs.declared.Expected.{Expected}
 use Rattle.feed_record.specs.declared.Expected.the-variants.{Any, Serial}
 use Rattle.feed_record.specs.declared.Admitted.{Admitted}
 use Rattle.feed_record.specs.Serials.{serials, distance, following, ahead}
-use Rattle.feed_record.specs.Records.{admission}
+use Rattle.feed_record.specs.Records.{recordIn, admission}
 
 -- The ring of serials in words: the distance forward from x is the one number of steps, fewer than
 -- all, that leads from x to s, and after 65,535 comes 0.
@@ -32,6 +32,10 @@ Reads s at v next = read s at ≡ value v next
 
 abbrev pub Faulty : List ℕ → ℕ → ℕ → Type 0
 Faulty s at row = (read s at .refusal ≡ row) × (row ≡ 0 → ⊥)
+
+-- the rows of the number reader
+abbrev pub NumberRow : ℕ → Type 0
+NumberRow row = (row ≡ 1) ⊎ (row ≡ 2)
 
 -- the three numbers of a record, left to right, the last of which ends at `end`
 pub record Whole (s : List ℕ) (serial client symbol end : ℕ) : Type 0 where
@@ -102,13 +106,13 @@ pub record Timely (s : List ℕ) (expected : Expected) : Type 0 where
 -- A record's answer, each row exactly when document 02 says so; its place; and the whole answer.
 pub record RecordRows (s : List ℕ) (expected : Expected) (m : Admitted) : Type 0 where
   -- 1 and 2, of the first number that is refused
-  pub numbers : (row place : ℕ) → (row ≡ 1) ⊎ (row ≡ 2) → ((m .refusal ≡ row) × (m .place ≡ place)) ↔ NumberFaulty s row place
+  pub numbers : (row place : ℕ) → NumberRow row → ((m .refusal ≡ row) × (m .place ≡ place)) ↔ NumberFaulty s row place
   pub row-10 : (place : ℕ) → ((m .refusal ≡ 10) × (m .place ≡ place)) ↔ BytesLeft s place
   pub row-21 : (m .refusal ≡ 21) ↔ LargeSerial s
   pub row-22 : (m .refusal ≡ 22) ↔ LateSerial s expected
   pub serial-place : (m .refusal ≡ 21) ⊎ (m .refusal ≡ 22) → m .place ≡ 0
   -- no other row
-  pub known : (m .refusal ≡ 0) ⊎ (m .refusal ≡ 1) ⊎ (m .refusal ≡ 2) ⊎ (m .refusal ≡ 10) ⊎ (m .refusal ≡ 21) ⊎ (m .refusal ≡ 22)
+  pub known : (m .refusal ≡ 0) ⊎ NumberRow (m .refusal) ⊎ (m .refusal ≡ 10) ⊎ (m .refusal ≡ 21) ⊎ (m .refusal ≡ 22)
   -- let in: the event, the loss and the next expected serial
   pub admitted : (m .refusal ≡ 0) ↔ Timely s expected
   pub answer : (serial client symbol : ℕ) → InTime s expected serial client symbol
@@ -127,6 +131,20 @@ pub record RecordRows (s : List ℕ) (expected : Expected) (m : Admitted) : Type
 
 abbrev pub RecordsAsWorded : Type 0
 RecordsAsWorded = (s : List ℕ) (expected : Expected) → RecordRows s expected (admission s expected)
+
+-- What reading a record answers, in every case: the first number that is refused, bytes left, or
+-- the three numbers.
+pub record RecordRead (s : List ℕ) : Type 0 where
+  pub faulty : (row place : ℕ) → NumberRow row → NumberFaulty s row place
+      → recordIn s ≡ record { refusal = row; place = place; serial = 0; client = 0; symbol = 0 }
+  pub left : (place : ℕ) → BytesLeft s place
+      → recordIn s ≡ record { refusal = 10; place = place; serial = 0; client = 0; symbol = 0 }
+  pub whole : (serial client symbol : ℕ) → RecordIs s serial client symbol
+      → recordIn s ≡ record { refusal = 0; place = 0; serial = serial; client = client; symbol = symbol }
+  pub known : (recordIn s .refusal ≡ 0) ⊎ NumberRow (recordIn s .refusal) ⊎ (recordIn s .refusal ≡ 10)
+
+abbrev pub ReadingAsWorded : Type 0
+ReadingAsWorded = (s : List ℕ) → RecordRead s
 
 -- three numbers that are written read as they are, whatever stands behind them
 abbrev pub RecordsReadBack : Type 0
