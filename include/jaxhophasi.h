@@ -84,7 +84,8 @@ extern "C" {
  *   until the expected serial comes round), after one of 65,537 a loss of 1 is reported, and one
  *   of 65,536 is not seen.
  * - A record late by 1 to 32,768 is refused. One that is later can look new: late by 32,769 it is
- *   let in with a loss of 32,767, late by 65,536 it looks in turn.
+ *   let in with a loss of 32,767, late by 65,536 it looks in turn; and then the records in turn
+ *   look late, until the expected serial comes round.
  * - The first record is let in whatever its serial is; what was lost before it nobody can tell. */
 #define JAXHOPHASI_EXPECTED_SIZE 3
 #define JAXHOPHASI_EXPECTED_KNOWN 0  /* 0: none is expected, whatever the other two bytes are; any

@@ -81,7 +81,7 @@ WrongCount count = (count ≡ 0) ⊎ (500 < count)
 abbrev pub RightCount : ℕ → Type 0
 RightCount count = (0 < count) × (count ≤ 500)
 
--- rows 11, 12 and 20, the same for both calls; n is the number that it gives
+-- rows 11, 12 and 20, the same for every call over a list; n is the number that it gives
 pub record ListRows (a : Automaton) (t : List ℕ) (count n : ℕ) : Type 0 where
   pub row-11 : (n ≡ 11) ↔ (valid a ≡ false)
   pub row-12 : (n ≡ 12) ↔ ((valid a ≡ true) × (short a t ≡ true))

@@ -103,7 +103,10 @@ pub record FeedCallFields : Type 0 where
 -- answered 1, so that 535 are told as lost; and 7.
 abbrev pub unthreaded : List ClientCall
 unthreaded =
-    feedFor 3 lastSerial Any ∷ feedFor 3 serialZero Any ∷ feedFor 3 lastSerial (Serial 65000) ∷ feedFor 3 (inTurn 0 2) (Serial 7) ∷ []
+    feedFor 3 lastSerial Any ∷
+    feedFor 3 serialZero Any ∷
+    feedFor 3 lastSerial (Serial 65000) ∷
+    feedFor 3 (inTurn 0 2) (Serial 7) ∷ []
 
 abbrev pub unthreadedReplies : List ClientReply
 unthreadedReplies =
