@@ -271,52 +271,89 @@ module _ {M : Type 1} (𝓤 : URA M) (H : Heap 𝓤) (A : Atoms 𝓤) (W : Given
       qed W ((‵ (flft κt qt) ⊛ (‵ (flft κr qr) ⊛ (‵ (flft κb qb) ⊛ ‵ ftrue))) ∷
       ‵ (owns (Au.the-row ∷ ShrSlice (named 0) κt u32 ∷ MutSlice (named 1) κr T.the-row ∷ ShrSlice (named 2) κb u8 ∷ Ex.the-row ∷ []) given at) ∷ []) ∵
       enter ! (𝓣 .C) (𝓣 .Λ) code.function (vA ∷ vT ∷ vR ∷ vB ∷ vX ∷ []) _ $
-      alloc1 ! (λ l0. alloc1 ! (λ l1. alloc1 ! (λ l2. alloc1 ! (λ l3. alloc1 ! (λ l4. alloc1 ! (λ l5. alloc1 ! (λ l6. alloc1 ! (λ l7. alloc1 ! (λ l8. alloc1 ! (λ l9. alloc1 ! (λ l10. alloc1 ! (λ l11. alloc0 ! $ params1 ! $
+      alloc1 ! (λ l0. alloc1 ! (λ l1. alloc1 ! (λ l2. alloc1 ! (λ l3. alloc1 ! (λ l4. alloc1 ! (λ l5. alloc1 ! (λ l6. alloc1 ! (λ l7. alloc1 ! (λ l8. alloc1 ! (λ l9. alloc1 !
+      (λ l10. alloc1 ! (λ l11. alloc0 ! $ params1 ! $
       pass1 ! (init ! 20 refl (LL.lawful Au.the-type Au′.the-laws 𝓤 H A W .typed a (vA ∷ []) ga .0)) $ pass1 ! (init ! 18 refl (tt, (tt, (record { fits = fT }, tt)))) $
       pass1 ! (init ! 16 refl (tt, (tt, (record { fits = gR .0 }, tt)))) $ pass1 ! (init ! 14 refl (tt, (tt, (record { fits = fB }, tt)))) $
-      pass1 ! (init ! 12 refl (EL.lawful Ex.the-type Ex′.the-laws 𝓤 H A W tt .typed x (vX ∷ []) gx .0)) $ pass0 ! $ move ! (24 ∷ []) $ split ! $ move ! (1 ∷ []) $ split ! $ move ! (1 ∷ []) $ split ! $ move ! (1 ∷ []) $ let-go ! $
-      move ! (27 ∷ []) $ fsplit ! $ move ! (1 ∷ []) $ fsplit ! $ move ! (1 ∷ []) $ fsplit ! $ move ! (1 ∷ []) $ fsplit ! $ move ! (1 ∷ []) $ fsplit ! $ move ! (1 ∷ []) $ let-go ! $ move ! (4 ∷ []) $ let-go ! $ let-go ! $
+      pass1 ! (init ! 12 refl (EL.lawful Ex.the-type Ex′.the-laws 𝓤 H A W tt .typed x (vX ∷ []) gx .0)) $ pass0 ! $ move ! (24 ∷ []) $ split ! $ move ! (1 ∷ []) $ split ! $
+      move ! (1 ∷ []) $ split ! $ move ! (1 ∷ []) $ let-go ! $
+      move ! (27 ∷ []) $ fsplit ! $ move ! (1 ∷ []) $ fsplit ! $ move ! (1 ∷ []) $ fsplit ! $ move ! (1 ∷ []) $ fsplit ! $ move ! (1 ∷ []) $ fsplit ! $ move ! (1 ∷ []) $ let-go ! $
+      move ! (4 ∷ []) $ let-go ! $ let-go ! $
       -- the record is admitted
       move ! (3 ∷ 0 ∷ []) $ use2 W (raw (Admit 𝓤 H A at-mem run .pre toM)) goesM $
-      calls-at ! (fmOf 𝓤 H (W .laws) 𝓣) (Admit 𝓤 H A at-mem run) known-m toM (and-then ! (load ! (from ! (stop !)) (look ! 19 refl)) (and-then ! (load ! (from ! (stop !)) (look ! 17 refl)) (no-more !))) (λ mv.
-      use1 W (later (some (λ (m : Admitted). ((‵ (flft κb qb) ⊛ ‵ ftrue) ⊛ ‵ (Ad.the-row .own m (mv ∷ []))) ⊛ raw (ensured 𝓤 H A ad.ended (ad.clauses 𝓤 H A at-mem run) (κb, tt) argsM tt m)))) (id⊢ 𝓤 _) $ await ! tt $ pick ! (λ m.
-      split ! $ move ! (1 ∷ []) $ use1 W (raw (fact 𝓤 (m ≡ admission s x))) (saidM m) $ heard ! (m ≡ admission s x) (λ em. split ! $ move ! (1 ∷ []) $ peeks ! Ad.the-row (Is Ad.the-row) (shows 𝓤 H A Ad.the-row) m (mv ∷ []) (λ ism.
+      calls-at ! (fmOf 𝓤 H (W .laws) 𝓣) (Admit 𝓤 H A at-mem run) known-m toM (and-then ! (load ! (from ! (stop !)) (look ! 19 refl))
+      (and-then ! (load ! (from ! (stop !)) (look ! 17 refl)) (no-more !))) (λ mv.
+      use1 W (later (some (λ (m : Admitted). ((‵ (flft κb qb) ⊛ ‵ ftrue) ⊛ ‵ (Ad.the-row .own m (mv ∷ []))) ⊛ raw
+      (ensured 𝓤 H A ad.ended (ad.clauses 𝓤 H A at-mem run) (κb, tt) argsM tt m)))) (id⊢ 𝓤 _) $ await ! tt $ pick ! (λ m.
+      split ! $ move ! (1 ∷ []) $ use1 W (raw (fact 𝓤 (m ≡ admission s x))) (saidM m) $ heard ! (m ≡ admission s x) (λ em. split ! $ move ! (1 ∷ []) $
+      peeks ! Ad.the-row (Is Ad.the-row) (shows 𝓤 H A Ad.the-row) m (mv ∷ []) (λ ism.
       let-go ! $ split ! $ move ! (1 ∷ []) $ let-go ! $ land ! (from ! (stop !)) (init ! 15 refl (LL.lawful Ad.the-type Ad′.the-laws 𝓤 H A W .typed m (mv ∷ []) ism .0)) $
       rewrite ! 15 (λ (u : Val). ‵ (fat fullShare Ad′.mir l6 0 u)) (ap only (LL.tells Ad.the-type Ad′.the-laws m (mv ∷ []) ism)) refl $
-      assigns ! (bin ! (load ! (from ! (fld ! refl (stop !))) (look-in ! 15 (sub ! 0 refl (whole !)))) (lit ! tt) tt) (from ! (stop !)) (init ! 11 refl (tt, tt)) $ early ! (load ! (from ! (stop !)) (look ! 11 refl))
-      (λ bad. assigns ! (of-opd ! (load ! (from ! (fld ! refl (stop !))) (look-in ! 21 (sub ! 1 refl (whole !))))) (from ! (stop !)) (init ! 9 refl (tt, record { fits = gR .0 })) $ move ! (4 ∷ 2 ∷ []) $
+      assigns ! (bin ! (load ! (from ! (fld ! refl (stop !))) (look-in ! 15 (sub ! 0 refl (whole !)))) (lit ! tt) tt) (from ! (stop !)) (init ! 11 refl (tt, tt)) $
+      early ! (load ! (from ! (stop !)) (look ! 11 refl))
+      (λ bad. assigns ! (of-opd ! (load ! (from ! (fld ! refl (stop !))) (look-in ! 21 (sub ! 1 refl (whole !))))) (from ! (stop !)) (init ! 9 refl (tt, record { fits = gR .0 })) $
+      move ! (4 ∷ 2 ∷ []) $
       use2 W (raw (Away 𝓤 H A at-mem run .pre (toN m))) (goesN m (made m mv ism)) $
-      calls-at ! (fmOf 𝓤 H (W .laws) 𝓣) (Away 𝓤 H A at-mem run) known-n (toN m) (and-then ! (load ! (from ! (stop !)) (look ! 24 refl)) (and-then ! (load ! (from ! (stop !)) (look ! 22 refl)) (and-then ! (load ! (from ! (stop !)) (look ! 8 refl)) (and-then ! (load ! (from ! (stop !)) (look ! 14 refl)) (no-more !))))) (λ rv.
-      use1 W (later (some (λ (r : Fed). ((‵ (flft κt qt) ⊛ ‵ ftrue) ⊛ ‵ (Fd.the-row .own r (rv ∷ []))) ⊛ raw (ensured 𝓤 H A aw.ended (aw.clauses 𝓤 H A at-mem run) (κt, tt) (argsN m) tt r)))) (id⊢ 𝓤 _) $ await ! tt $ pick ! (λ r.
+      calls-at ! (fmOf 𝓤 H (W .laws) 𝓣) (Away 𝓤 H A at-mem run) known-n (toN m) (and-then ! (load ! (from ! (stop !)) (look ! 24 refl))
+      (and-then ! (load ! (from ! (stop !)) (look ! 22 refl)) (and-then ! (load ! (from ! (stop !)) (look ! 8 refl))
+      (and-then ! (load ! (from ! (stop !)) (look ! 14 refl)) (no-more !))))) (λ rv.
+      use1 W (later (some (λ (r : Fed). ((‵ (flft κt qt) ⊛ ‵ ftrue) ⊛ ‵ (Fd.the-row .own r (rv ∷ []))) ⊛ raw
+      (ensured 𝓤 H A aw.ended (aw.clauses 𝓤 H A at-mem run) (κt, tt) (argsN m) tt r)))) (id⊢ 𝓤 _) $ await ! tt $ pick ! (λ r.
       split ! $ move ! (1 ∷ []) $ use1 W (raw (fact 𝓤 (r ≡ notLetIn a t n m))) (saidN m r) $ heard ! (r ≡ notLetIn a t n m) (λ er. split ! $ move ! (1 ∷ []) $
       peeks ! Fd.the-row (Is Fd.the-row) (shows 𝓤 H A Fd.the-row) r (rv ∷ []) (λ isr. move ! (1 ∷ []) $ split ! $ move ! (1 ∷ []) $ let-go ! $
-      land ! (from ! (stop !)) (init ! 27 refl (LL.lawful Fd.the-type Fd′.the-laws 𝓤 H A W .typed r (rv ∷ []) isr .0)) $ move ! (3 ∷ []) $ use1 W (‵ (finally T.the-row γ ys)) (gives-up T.the-row κr qr γ b o 𝓤 H A W (named 1) ys gR) $
-      returns-within ! Post refl (look ! 27 refl) $ forget ! 27 refl $ forget ! 25 refl $ forget ! 23 refl $ forget ! 21 refl $ forget ! 19 refl $ forget ! 17 refl $ forget ! 15 refl $ forget ! 11 refl $ forget ! 9 refl $
-      move ! (27 ∷ 28 ∷ []) $ free1 ! $ move ! (25 ∷ 26 ∷ []) $ free1 ! $ move ! (23 ∷ 24 ∷ []) $ free1 ! $ move ! (21 ∷ 22 ∷ []) $ free1 ! $ move ! (19 ∷ 20 ∷ []) $ free1 ! $ move ! (17 ∷ 18 ∷ []) $ free1 ! $ move ! (15 ∷ 16 ∷ []) $
-      free1 ! $ move ! (13 ∷ 14 ∷ []) $ free1 ! $ move ! (11 ∷ 12 ∷ []) $ free1 ! $ move ! (9 ∷ 10 ∷ []) $ free1 ! $ move ! (7 ∷ 8 ∷ []) $ free1 ! $ move ! (5 ∷ 6 ∷ []) $ free1 ! $ free0 ! $ keep ! (1 ∷ 4 ∷ 3 ∷ 0 ∷ 2 ∷ []) $
+      land ! (from ! (stop !)) (init ! 27 refl (LL.lawful Fd.the-type Fd′.the-laws 𝓤 H A W .typed r (rv ∷ []) isr .0)) $ move ! (3 ∷ []) $
+      use1 W (‵ (finally T.the-row γ ys)) (gives-up T.the-row κr qr γ b o 𝓤 H A W (named 1) ys gR) $
+      returns-within ! Post refl (look ! 27 refl) $ forget ! 27 refl $ forget ! 25 refl $ forget ! 23 refl $ forget ! 21 refl $ forget ! 19 refl $ forget ! 17 refl $ forget ! 15 refl $
+      forget ! 11 refl $ forget ! 9 refl $
+      move ! (27 ∷ 28 ∷ []) $ free1 ! $ move ! (25 ∷ 26 ∷ []) $ free1 ! $ move ! (23 ∷ 24 ∷ []) $ free1 ! $ move ! (21 ∷ 22 ∷ []) $ free1 ! $ move ! (19 ∷ 20 ∷ []) $ free1 ! $
+      move ! (17 ∷ 18 ∷ []) $ free1 ! $ move ! (15 ∷ 16 ∷ []) $
+      free1 ! $ move ! (13 ∷ 14 ∷ []) $ free1 ! $ move ! (11 ∷ 12 ∷ []) $ free1 ! $ move ! (9 ∷ 10 ∷ []) $ free1 ! $ move ! (7 ∷ 8 ∷ []) $ free1 ! $ move ! (5 ∷ 6 ∷ []) $ free1 ! $
+      free0 ! $ keep ! (1 ∷ 4 ∷ 3 ∷ 0 ∷ 2 ∷ []) $
       by ! (leaves r rv ys refl (receive-away a t ys s x m em (nonzero (m .refusal) bad) r er)))))))
       (λ good.
       -- the list goes to the call for one event
       assigns ! (addr ! (from ! (fld ! refl (hop ! (look-in ! 21 (sub ! 0 refl (whole !))) (stop !))))) (from ! (stop !)) (init ! 7 refl (tt, tt)) $
-      assigns ! (agg ! (and-then ! (load ! (from ! (stop !)) (look ! 7 refl)) (and-then ! (load ! (from ! (fld ! refl (stop !))) (look-in ! 21 (sub ! 1 refl (whole !)))) (no-more !)))) (from ! (stop !)) (init ! 5 refl (tt, (tt, (record { fits = gR .0 }, tt)))) $
+      assigns ! (agg ! (and-then ! (load ! (from ! (stop !)) (look ! 7 refl))
+      (and-then ! (load ! (from ! (fld ! refl (stop !))) (look-in ! 21 (sub ! 1 refl (whole !)))) (no-more !)))) (from ! (stop !)) (init ! 5 refl (
+        tt,
+        (
+          tt,
+          (record { fits = gR .0 }, tt),
+        ),
+      )) $
       nothing ! $ owned ! u32 (Is u32) (uint-makes 𝓤 H A W w32) (m .symbol) (vint w32 (m .symbol) ∷ []) (symbol-is m mv ism) $ fjoin ! $
-      owned ! u32 (Is u32) (uint-makes 𝓤 H A W w32) (m .client) (vint w32 (m .client) ∷ []) (client-is m mv ism) $ fjoin ! $ move ! (2 ∷ 0 ∷ []) $ fjoin ! $ move ! (2 ∷ 0 ∷ []) $ fjoin ! $
+      owned ! u32 (Is u32) (uint-makes 𝓤 H A W w32) (m .client) (vint w32 (m .client) ∷ []) (client-is m mv ism) $ fjoin ! $ move ! (2 ∷ 0 ∷ []) $ fjoin ! $ move ! (2 ∷ 0 ∷ []) $
+      fjoin ! $
       owned ! Au.the-row (Is Au.the-row) (LL.makes Au.the-type Au′.the-plain 𝓤 H A) a (vA ∷ []) ga $ fjoin ! $ nothing ! $ move ! (3 ∷ 0 ∷ []) $ join ! $ move ! (3 ∷ 0 ∷ []) $ join ! $
       use2 W (raw (Call 𝓤 H A at-mem run .pre (toC m))) (goesC m) $
-      calls-at ! (fmOf 𝓤 H (W .laws) 𝓣) (Call 𝓤 H A at-mem run) known-c (toC m) (and-then ! (load ! (from ! (stop !)) (look ! 22 refl)) (and-then ! (load ! (from ! (stop !)) (look ! 20 refl)) (and-then ! (load ! (from ! (stop !)) (look ! 2 refl)) (and-then ! (load ! (from ! (fld ! refl (stop !))) (look-in ! 12 (sub ! 4 refl (whole !)))) (and-then ! (load ! (from ! (fld ! refl (stop !))) (look-in ! 12 (sub ! 5 refl (whole !)))) (no-more !)))))) (λ av.
-      use1 W (later (some (λ (answer : ReceivedFor). ((‵ (flft κt qt) ⊛ (‵ (flft κr qr) ⊛ ‵ ftrue)) ⊛ ‵ (Rf.the-row .own answer (av ∷ []))) ⊛ raw (ensured 𝓤 H A cl.ended (cl.clauses 𝓤 H A at-mem run) (κt, (κr, tt)) (argsC m) tt answer)))) (id⊢ 𝓤 _) $ await ! tt $ pick ! (λ answer.
-      split ! $ move ! (1 ∷ []) $ use1 W (some (λ (zs : Lasts). ‵ (lasts cl.ended (κt, (κr, tt)) (argsC m) zs) ⊛ raw (fact 𝓤 (Says m answer (lastR zs))))) (id⊢ 𝓤 _) $ pick ! (λ zs. split ! $ move ! (1 ∷ []) $
-      heard ! (Says m answer (lastR zs)) (λ says-a. fsplit ! $ let-go ! $ fsplit ! $ let-go ! $ fsplit ! $ fsplit ! $ move ! (1 ∷ []) $ feqL ! (λ long. move ! (1 ∷ []) $ let-go ! $ move ! (1 ∷ []) $ split ! $ move ! (1 ∷ []) $
-      peeks ! Rf.the-row (Is Rf.the-row) (shows 𝓤 H A Rf.the-row) answer (av ∷ []) (λ isa. let-go ! $ land ! (from ! (stop !)) (init ! 11 refl (LL.lawful Rf.the-type Rf′.the-laws 𝓤 H A W .typed answer (av ∷ []) isa .0)) $
-      rewrite ! 11 (λ (u : Val). ‵ (fat fullShare Rf′.mir l7 0 u)) (ap only (LL.tells Rf.the-type Rf′.the-laws answer (av ∷ []) isa)) refl $ split ! $ move ! (1 ∷ []) $ split ! $ move ! (1 ∷ []) $ let-go ! $
+      calls-at ! (fmOf 𝓤 H (W .laws) 𝓣) (Call 𝓤 H A at-mem run) known-c (toC m) (and-then ! (load ! (from ! (stop !)) (look ! 22 refl))
+      (and-then ! (load ! (from ! (stop !)) (look ! 20 refl)) (and-then ! (load ! (from ! (stop !)) (look ! 2 refl))
+      (and-then ! (load ! (from ! (fld ! refl (stop !))) (look-in ! 12 (sub ! 4 refl (whole !))))
+      (and-then ! (load ! (from ! (fld ! refl (stop !))) (look-in ! 12 (sub ! 5 refl (whole !)))) (no-more !)))))) (λ av.
+      use1 W (later (some (λ (answer : ReceivedFor). ((‵ (flft κt qt) ⊛ (‵ (flft κr qr) ⊛ ‵ ftrue)) ⊛ ‵ (Rf.the-row .own answer (av ∷ []))) ⊛ raw
+      (ensured 𝓤 H A cl.ended (cl.clauses 𝓤 H A at-mem run) (κt, (κr, tt)) (argsC m) tt answer)))) (id⊢ 𝓤 _) $ await ! tt $ pick ! (λ answer.
+      split ! $ move ! (1 ∷ []) $ use1 W (some (λ (zs : Lasts). ‵ (lasts cl.ended (κt, (κr, tt)) (argsC m) zs) ⊛ raw (fact 𝓤 (Says m answer (lastR zs))))) (id⊢ 𝓤 _) $
+      pick ! (λ zs. split ! $ move ! (1 ∷ []) $
+      heard ! (Says m answer (lastR zs)) (λ says-a. fsplit ! $ let-go ! $ fsplit ! $ let-go ! $ fsplit ! $ fsplit ! $ move ! (1 ∷ []) $ feqL ! (λ long. move ! (1 ∷ []) $ let-go ! $
+      move ! (1 ∷ []) $ split ! $ move ! (1 ∷ []) $
+      peeks ! Rf.the-row (Is Rf.the-row) (shows 𝓤 H A Rf.the-row) answer (av ∷ []) (λ isa. let-go ! $
+      land ! (from ! (stop !)) (init ! 11 refl (LL.lawful Rf.the-type Rf′.the-laws 𝓤 H A W .typed answer (av ∷ []) isa .0)) $
+      rewrite ! 11 (λ (u : Val). ‵ (fat fullShare Rf′.mir l7 0 u)) (ap only (LL.tells Rf.the-type Rf′.the-laws answer (av ∷ []) isa)) refl $ split ! $ move ! (1 ∷ []) $ split ! $
+      move ! (1 ∷ []) $ let-go ! $
       -- and its answer into the record's
       nothing ! $ use1 W (raw (Let 𝓤 H A at-mem run .pre (toL m answer))) (goesL m answer (made m mv ism) (made-r answer av isa)) $
-      calls-at ! (fmOf 𝓤 H (W .laws) 𝓣) (Let 𝓤 H A at-mem run) known-l (toL m answer) (and-then ! (load ! (from ! (stop !)) (look ! 15 refl)) (and-then ! (load ! (from ! (stop !)) (look ! 17 refl)) (and-then ! (load ! (from ! (stop !)) (look ! 13 refl)) (no-more !)))) (λ rv.
-      use1 W (later (some (λ (r : Fed). (‵ ftrue ⊛ ‵ (Fd.the-row .own r (rv ∷ []))) ⊛ raw (ensured 𝓤 H A li.ended (li.clauses 𝓤 H A at-mem run) tt (argsL m answer) tt r)))) (id⊢ 𝓤 _) $ await ! tt $ pick ! (λ r. split ! $
-      move ! (1 ∷ []) $ use1 W (raw (fact 𝓤 (r ≡ letInOf m x answer))) (saidL m answer r) $ heard ! (r ≡ letInOf m x answer) (λ er. split ! $ let-go ! $ peeks ! Fd.the-row (Is Fd.the-row) (shows 𝓤 H A Fd.the-row) r (rv ∷ []) (λ isr.
-      land ! (from ! (stop !)) (init ! 27 refl (LL.lawful Fd.the-type Fd′.the-laws 𝓤 H A W .typed r (rv ∷ []) isr .0)) $ returns ! (look ! 27 refl) $ forget ! 27 refl $ forget ! 25 refl $ forget ! 23 refl $ forget ! 21 refl $
-      forget ! 19 refl $ forget ! 17 refl $ forget ! 15 refl $ forget ! 13 refl $ forget ! 11 refl $ forget ! 7 refl $ forget ! 5 refl $ move ! (27 ∷ 28 ∷ []) $ free1 ! $ move ! (25 ∷ 26 ∷ []) $ free1 ! $ move ! (23 ∷ 24 ∷ []) $
-      free1 ! $ move ! (21 ∷ 22 ∷ []) $ free1 ! $ move ! (19 ∷ 20 ∷ []) $ free1 ! $ move ! (17 ∷ 18 ∷ []) $ free1 ! $ move ! (15 ∷ 16 ∷ []) $ free1 ! $ move ! (13 ∷ 14 ∷ []) $ free1 ! $ move ! (11 ∷ 12 ∷ []) $ free1 ! $
+      calls-at ! (fmOf 𝓤 H (W .laws) 𝓣) (Let 𝓤 H A at-mem run) known-l (toL m answer) (and-then ! (load ! (from ! (stop !)) (look ! 15 refl))
+      (and-then ! (load ! (from ! (stop !)) (look ! 17 refl)) (and-then ! (load ! (from ! (stop !)) (look ! 13 refl)) (no-more !)))) (λ rv.
+      use1 W (later (some (λ (r : Fed). (‵ ftrue ⊛ ‵ (Fd.the-row .own r (rv ∷ []))) ⊛ raw (ensured 𝓤 H A li.ended (li.clauses 𝓤 H A at-mem run) tt (argsL m answer) tt r)))) (id⊢ 𝓤 _) $
+      await ! tt $ pick ! (λ r. split ! $
+      move ! (1 ∷ []) $ use1 W (raw (fact 𝓤 (r ≡ letInOf m x answer))) (saidL m answer r) $ heard ! (r ≡ letInOf m x answer) (λ er. split ! $ let-go ! $
+      peeks ! Fd.the-row (Is Fd.the-row) (shows 𝓤 H A Fd.the-row) r (rv ∷ []) (λ isr.
+      land ! (from ! (stop !)) (init ! 27 refl (LL.lawful Fd.the-type Fd′.the-laws 𝓤 H A W .typed r (rv ∷ []) isr .0)) $ returns ! (look ! 27 refl) $ forget ! 27 refl $
+      forget ! 25 refl $ forget ! 23 refl $ forget ! 21 refl $
+      forget ! 19 refl $ forget ! 17 refl $ forget ! 15 refl $ forget ! 13 refl $ forget ! 11 refl $ forget ! 7 refl $ forget ! 5 refl $ move ! (27 ∷ 28 ∷ []) $ free1 ! $
+      move ! (25 ∷ 26 ∷ []) $ free1 ! $ move ! (23 ∷ 24 ∷ []) $
+      free1 ! $ move ! (21 ∷ 22 ∷ []) $ free1 ! $ move ! (19 ∷ 20 ∷ []) $ free1 ! $ move ! (17 ∷ 18 ∷ []) $ free1 ! $ move ! (15 ∷ 16 ∷ []) $ free1 ! $ move ! (13 ∷ 14 ∷ []) $ free1 ! $
+      move ! (11 ∷ 12 ∷ []) $ free1 ! $
       move ! (9 ∷ 10 ∷ []) $ free1 ! $ move ! (7 ∷ 8 ∷ []) $ free1 ! $ move ! (5 ∷ 6 ∷ []) $ free1 ! $ free0 ! $ keep ! (2 ∷ 1 ∷ 4 ∷ 3 ∷ 0 ∷ []) $
       by ! (leaves r rv (lastR zs) long (receive-in a t ys s x m em (is-zero (m .refusal) good) answer (lastR zs) says-a r er)))))))))))))))))))))))))))))
 

@@ -220,7 +220,8 @@ module _ {M : Type 1} (𝓤 : URA M) (H : Heap 𝓤) (A : Atoms 𝓤) (W : Given
   goesC : (a : Automaton) (av : Val) (e : Expected) (ev : Val)
       → ent 𝓤 (onEntry 𝓤 H A fd.signature (κt, (κr, (κs, tt))) (qt, (qr, (qs, tt))) (argsC a e) (valsC av ev)) (Call 𝓤 H A at-mem run .pre (toC a av e ev))
   goesC a av e ev = qed W ((‵ (flft κt qt) ⊛ (‵ (flft κr qr) ⊛ (‵ (flft κs qs) ⊛ ‵ ftrue))) ∷
-      ‵ (owns (Au.the-row ∷ ShrSlice (named 0) κt u32 ∷ MutSlice (named 1) κr T.the-row ∷ ShrSlice (named 2) κs u8 ∷ Ex.the-row ∷ []) (argsC a e) (valsC av ev)) ∷ []) ∵ join ! $ frame ! $ done !
+      ‵ (owns (Au.the-row ∷ ShrSlice (named 0) κt u32 ∷ MutSlice (named 1) κr T.the-row ∷ ShrSlice (named 2) κs u8 ∷ Ex.the-row ∷ []) (argsC a e) (valsC av ev)) ∷ []) ∵ join ! $
+      frame ! $ done !
 
   -- of `lay_fed`
   abbrev argsL : Fed → Args la.signature (κe, (κa, tt))
@@ -243,56 +244,94 @@ module _ {M : Type 1} (𝓤 : URA M) (H : Heap 𝓤) (A : Atoms 𝓤) (W : Given
       (WpFn 𝓤 H (𝓣 .C) (𝓣 .Λ) code.function (vB ∷ vT ∷ vR ∷ vS ∷ vE ∷ vA ∷ []) Post)
   walk 𝓣 known-b known-x known-c known-l fT fR fS =
       qed W ((‵ (flft κb qb) ⊛ (‵ (flft κt qt) ⊛ (‵ (flft κr qr) ⊛ (‵ (flft κs qs) ⊛ (‵ (flft κe qe) ⊛ (‵ (flft κa qa) ⊛ ‵ ftrue)))))) ∷
-      ‵ (owns (ShrRef (named 0) κb (Array u8 564) ∷ ShrSlice (named 1) κt u32 ∷ MutSlice (named 2) κr T.the-row ∷ ShrSlice (named 3) κs u8 ∷ MutRef (named 4) κe R3 ∷ MutRef (named 5) κa R25 ∷ []) x
+      ‵ (owns (ShrRef (named 0) κb (Array u8 564) ∷ ShrSlice (named 1) κt u32 ∷ MutSlice (named 2) κr T.the-row ∷ ShrSlice (named 3) κs u8 ∷ MutRef (named 4) κe R3 ∷ MutRef
+      (named 5) κa R25 ∷ []) x
       at) ∷ []) ∵
       enter ! (𝓣 .C) (𝓣 .Λ) code.function (vB ∷ vT ∷ vR ∷ vS ∷ vE ∷ vA ∷ []) _ $
-      alloc1 ! (λ l0. alloc1 ! (λ l1. alloc1 ! (λ l2. alloc1 ! (λ l3. alloc1 ! (λ l4. alloc1 ! (λ l5. alloc1 ! (λ l6. alloc1 ! (λ l7. alloc1 ! (λ l8. alloc1 ! (λ l9. alloc1 ! (λ l10. alloc1 ! (λ l11. alloc1 ! (λ l12. alloc1 ! (λ l13. alloc1 ! (λ l14. alloc0 ! $ params1 ! $
+      alloc1 ! (λ l0. alloc1 ! (λ l1. alloc1 ! (λ l2. alloc1 ! (λ l3. alloc1 ! (λ l4. alloc1 ! (λ l5. alloc1 ! (λ l6. alloc1 ! (λ l7. alloc1 ! (λ l8. alloc1 ! (λ l9. alloc1 !
+      (λ l10. alloc1 ! (λ l11. alloc1 ! (λ l12. alloc1 ! (λ l13. alloc1 ! (λ l14. alloc0 ! $ params1 ! $
       pass1 ! (init ! 26 refl (tt, tt)) $ pass1 ! (init ! 24 refl (tt, (tt, (record { fits = fT }, tt)))) $ pass1 ! (init ! 22 refl (tt, (tt, (record { fits = fR }, tt)))) $
-      pass1 ! (init ! 20 refl (tt, (tt, (record { fits = fS }, tt)))) $ pass1 ! (init ! 18 refl (tt, tt)) $ pass1 ! (init ! 16 refl (tt, tt)) $ pass0 ! $ move ! (30 ∷ []) $ split ! $ move ! (1 ∷ []) $ split ! $ move ! (1 ∷ []) $
-      split ! $ move ! (1 ∷ []) $ split ! $ move ! (1 ∷ []) $ split ! $ move ! (1 ∷ []) $ split ! $ move ! (1 ∷ []) $ let-go ! $ move ! (36 ∷ []) $ fsplit ! $ move ! (1 ∷ []) $ fsplit ! $ move ! (1 ∷ []) $ fsplit ! $ move ! (1 ∷ []) $
+      pass1 ! (init ! 20 refl (tt, (tt, (record { fits = fS }, tt)))) $ pass1 ! (init ! 18 refl (tt, tt)) $ pass1 ! (init ! 16 refl (tt, tt)) $ pass0 ! $ move ! (30 ∷ []) $ split ! $
+      move ! (1 ∷ []) $ split ! $ move ! (1 ∷ []) $
+      split ! $ move ! (1 ∷ []) $ split ! $ move ! (1 ∷ []) $ split ! $ move ! (1 ∷ []) $ split ! $ move ! (1 ∷ []) $ let-go ! $ move ! (36 ∷ []) $ fsplit ! $ move ! (1 ∷ []) $
+      fsplit ! $ move ! (1 ∷ []) $ fsplit ! $ move ! (1 ∷ []) $
       fsplit ! $ move ! (1 ∷ []) $ fsplit ! $ move ! (1 ∷ []) $ fsplit ! $ move ! (1 ∷ []) $ let-go ! $
       -- the automaton is read
-      nothing ! $ move ! (6 ∷ 0 ∷ []) $ fjoin ! $ nothing ! $ move ! (12 ∷ 0 ∷ []) $ join ! $ use2 W (raw (Read 𝓤 H A at-mem run .pre (to-read 𝓤 H A at-mem run κb qb refB))) (reads 𝓤 H A at-mem run κb qb refB W) $
+      nothing ! $ move ! (6 ∷ 0 ∷ []) $ fjoin ! $ nothing ! $ move ! (12 ∷ 0 ∷ []) $ join ! $
+      use2 W (raw (Read 𝓤 H A at-mem run .pre (to-read 𝓤 H A at-mem run κb qb refB))) (reads 𝓤 H A at-mem run κb qb refB W) $
       calls-at ! (fmOf 𝓤 H (W .laws) 𝓣) (Read 𝓤 H A at-mem run) known-b (to-read 𝓤 H A at-mem run κb qb refB) (and-then ! (load ! (from ! (stop !)) (look ! 37 refl)) (no-more !)) (λ av.
-      use1 W (later (some (λ (a : Automaton). ((‵ (flft κb qb) ⊛ ‵ ftrue) ⊛ ‵ (Au.the-row .own a (av ∷ []))) ⊛ raw (ensured 𝓤 H A rd.ended (rd.clauses 𝓤 H A at-mem run) (κb, tt) (refB, tt) tt a)))) (id⊢ 𝓤 _) $ await ! tt $ pick ! (λ a.
-      split ! $ move ! (1 ∷ []) $ use1 W (raw (fact 𝓤 (a ≡ automatonOf bs))) (is-read 𝓤 H A at-mem run κb qb refB a) $ heard ! (a ≡ automatonOf bs) (λ the-record. split ! $ move ! (1 ∷ []) $
-      peeks ! Au.the-row (Is Au.the-row) (shows 𝓤 H A Au.the-row) a (av ∷ []) (λ is-a. land ! (from ! (stop !)) (init ! 26 refl (LL.lawful Au.the-type Au′.the-laws 𝓤 H A W .typed a (av ∷ []) is-a .0)) $ move ! (1 ∷ []) $ split ! $
+      use1 W (later (some (λ (a : Automaton). ((‵ (flft κb qb) ⊛ ‵ ftrue) ⊛ ‵ (Au.the-row .own a (av ∷ []))) ⊛ raw
+      (ensured 𝓤 H A rd.ended (rd.clauses 𝓤 H A at-mem run) (κb, tt) (refB, tt) tt a)))) (id⊢ 𝓤 _) $ await ! tt $ pick ! (λ a.
+      split ! $ move ! (1 ∷ []) $ use1 W (raw (fact 𝓤 (a ≡ automatonOf bs))) (is-read 𝓤 H A at-mem run κb qb refB a) $ heard ! (a ≡ automatonOf bs) (λ the-record. split ! $
+      move ! (1 ∷ []) $
+      peeks ! Au.the-row (Is Au.the-row) (shows 𝓤 H A Au.the-row) a (av ∷ []) (λ is-a. land ! (from ! (stop !)) (init ! 26 refl (LL.lawful Au.the-type Au′.the-laws 𝓤 H A W .typed a
+      (av ∷ []) is-a .0)) $ move ! (1 ∷ []) $ split ! $
       move ! (1 ∷ []) $ let-go ! $
       -- the expected serial is copied out of its opened borrow
       move ! (3 ∷ []) $ fsplit ! $ let-go ! $ fsplit ! $ move ! (0 ∷ 1 ∷ 9 ∷ []) $ opens ! tt R3 {h = lent} (refE .ptr .0) (refE .ptr .1) (λ vs.
-      spelt ! R3 (Is R3) (shows 𝓤 H A R3) (array-vals (uint-vals w8)) (array-tells u8 (uint-vals w8) (uint-tells w8) 3) fullShare lent vs (refE .ptr .0) (refE .ptr .1) $ move ! (1 ∷ []) $
+      spelt ! R3 (Is R3) (shows 𝓤 H A R3) (array-vals (uint-vals w8)) (array-tells u8 (uint-vals w8) (uint-tells w8) 3) fullShare lent vs (refE .ptr .0) (refE .ptr .1) $
+      move ! (1 ∷ []) $
       peeks ! R3 (Is R3) (shows 𝓤 H A R3) lent v3 (λ is-3. move ! (1 ∷ 0 ∷ []) $
-      assigns ! (of-opd ! (load ! (from ! (hop ! (look ! 33 refl) (stop !))) (look ! 0 refl))) (from ! (stop !)) (init ! 23 refl (array-lawful 𝓤 H A W u8 (uint-lawful 𝓤 H A W w8) 3 .typed lent v3 is-3 .0)) $
+      assigns ! (of-opd ! (load ! (from ! (hop ! (look ! 33 refl) (stop !))) (look ! 0 refl))) (from ! (stop !)) (init ! 23 refl (array-lawful 𝓤 H A W u8
+      (uint-lawful 𝓤 H A W w8) 3 .typed lent v3 is-3 .0)) $
       closes ! tt R3 lent v3 (refE .ptr .0) (refE .ptr .1) $
       -- and read
-      nothing ! $ use1 W (raw (Expect 𝓤 H A at-mem run .pre toX)) (goesX is-3) $ calls-at ! (fmOf 𝓤 H (W .laws) 𝓣) (Expect 𝓤 H A at-mem run) known-x toX (and-then ! (load ! (from ! (stop !)) (look ! 22 refl)) (no-more !)) (λ xv.
-      use1 W (later (some (λ (x : Expected). (‵ ftrue ⊛ ‵ (Ex.the-row .own x (xv ∷ []))) ⊛ raw (ensured 𝓤 H A ex.ended (ex.clauses 𝓤 H A at-mem run) tt (lent, tt) tt x)))) (id⊢ 𝓤 _) $ await ! tt $ pick ! (λ x. split ! $
-      move ! (1 ∷ []) $ use1 W (raw (fact 𝓤 (x ≡ expectedOf lent))) (saidX x) $ heard ! (x ≡ expectedOf lent) (λ the-serial. split ! $ let-go ! $ peeks ! Ex.the-row (Is Ex.the-row) (shows 𝓤 H A Ex.the-row) x (xv ∷ []) (λ is-x.
+      nothing ! $ use1 W (raw (Expect 𝓤 H A at-mem run .pre toX)) (goesX is-3) $
+      calls-at ! (fmOf 𝓤 H (W .laws) 𝓣) (Expect 𝓤 H A at-mem run) known-x toX (and-then ! (load ! (from ! (stop !)) (look ! 22 refl)) (no-more !)) (λ xv.
+      use1 W (later (some (λ (x : Expected). (‵ ftrue ⊛ ‵ (Ex.the-row .own x (xv ∷ []))) ⊛ raw (ensured 𝓤 H A ex.ended (ex.clauses 𝓤 H A at-mem run) tt (lent, tt) tt x)))) (id⊢ 𝓤 _) $
+      await ! tt $ pick ! (λ x. split ! $
+      move ! (1 ∷ []) $ use1 W (raw (fact 𝓤 (x ≡ expectedOf lent))) (saidX x) $ heard ! (x ≡ expectedOf lent) (λ the-serial. split ! $ let-go ! $
+      peeks ! Ex.the-row (Is Ex.the-row) (shows 𝓤 H A Ex.the-row) x (xv ∷ []) (λ is-x.
       land ! (from ! (stop !)) (init ! 26 refl (EL.lawful Ex.the-type Ex′.the-laws 𝓤 H A W tt .typed x (xv ∷ []) is-x .0)) $
       -- the list goes to the call
       assigns ! (addr ! (from ! (fld ! refl (hop ! (look-in ! 36 (sub ! 0 refl (whole !))) (stop !))))) (from ! (stop !)) (init ! 20 refl (tt, tt)) $
-      assigns ! (agg ! (and-then ! (load ! (from ! (stop !)) (look ! 20 refl)) (and-then ! (load ! (from ! (fld ! refl (stop !))) (look-in ! 36 (sub ! 1 refl (whole !)))) (no-more !)))) (from ! (stop !)) (init ! 18 refl (tt, (tt, (record { fits = fR }, tt)))) $
-      nothing ! $ move ! (1 ∷ 0 ∷ []) $ fjoin ! $ move ! (7 ∷ 0 ∷ []) $ fjoin ! $ move ! (7 ∷ 0 ∷ []) $ fjoin ! $ move ! (7 ∷ 0 ∷ []) $ fjoin ! $ move ! (5 ∷ 0 ∷ []) $ fjoin ! $ nothing ! $ move ! (8 ∷ 0 ∷ []) $ join ! $
+      assigns ! (agg ! (and-then ! (load ! (from ! (stop !)) (look ! 20 refl))
+      (and-then ! (load ! (from ! (fld ! refl (stop !))) (look-in ! 36 (sub ! 1 refl (whole !)))) (no-more !)))) (from ! (stop !)) (init ! 18 refl (
+        tt,
+        (
+          tt,
+          (record { fits = fR }, tt),
+        ),
+      )) $
+      nothing ! $ move ! (1 ∷ 0 ∷ []) $ fjoin ! $ move ! (7 ∷ 0 ∷ []) $ fjoin ! $ move ! (7 ∷ 0 ∷ []) $ fjoin ! $ move ! (7 ∷ 0 ∷ []) $ fjoin ! $ move ! (5 ∷ 0 ∷ []) $ fjoin ! $
+      nothing ! $ move ! (8 ∷ 0 ∷ []) $ join ! $
       move ! (8 ∷ 0 ∷ []) $ join ! $ move ! (8 ∷ 0 ∷ []) $ join ! $ use2 W (raw (Call 𝓤 H A at-mem run .pre (toC a av x xv))) (goesC a av x xv) $
-      calls-at ! (fmOf 𝓤 H (W .laws) 𝓣) (Call 𝓤 H A at-mem run) known-c (toC a av x xv) (and-then ! (load ! (from ! (stop !)) (look ! 21 refl)) (and-then ! (load ! (from ! (stop !)) (look ! 31 refl)) (and-then ! (load ! (from ! (stop !)) (look ! 11 refl)) (and-then ! (load ! (from ! (stop !)) (look ! 27 refl)) (and-then ! (load ! (from ! (stop !)) (look ! 19 refl)) (no-more !)))))) (λ rv.
-      use1 W (later (some (λ (r : Fed). ((‵ (flft κt qt) ⊛ (‵ (flft κr qr) ⊛ (‵ (flft κs qs) ⊛ ‵ ftrue))) ⊛ ‵ (Fd.the-row .own r (rv ∷ []))) ⊛ raw (ensured 𝓤 H A fd.ended (fd.clauses 𝓤 H A at-mem run) (κt, (κr, (κs, tt))) (argsC a x) tt r)))) (id⊢ 𝓤 _) $ await ! tt $ pick ! (λ r.
-      split ! $ move ! (1 ∷ []) $ use1 W (some (λ (zs : Lasts). ‵ (lasts fd.ended (κt, (κr, (κs, tt))) (argsC a x) zs) ⊛ raw (fact 𝓤 (Says a x r (lastR zs))))) (id⊢ 𝓤 _) $ pick ! (λ zs. split ! $ move ! (1 ∷ []) $
-      heard ! (Says a x r (lastR zs)) (λ says-r. fsplit ! $ let-go ! $ fsplit ! $ let-go ! $ fsplit ! $ fsplit ! $ move ! (1 ∷ []) $ feqL ! (λ long. move ! (1 ∷ []) $ let-go ! $ move ! (1 ∷ []) $ split ! $ move ! (1 ∷ []) $
-      peeks ! Fd.the-row (Is Fd.the-row) (shows 𝓤 H A Fd.the-row) r (rv ∷ []) (λ is-r. land ! (from ! (stop !)) (init ! 19 refl (LL.lawful Fd.the-type Fd′.the-laws 𝓤 H A W .typed r (rv ∷ []) is-r .0)) $ move ! (1 ∷ []) $ split ! $
+      calls-at ! (fmOf 𝓤 H (W .laws) 𝓣) (Call 𝓤 H A at-mem run) known-c (toC a av x xv) (and-then ! (load ! (from ! (stop !)) (look ! 21 refl))
+      (and-then ! (load ! (from ! (stop !)) (look ! 31 refl)) (and-then ! (load ! (from ! (stop !)) (look ! 11 refl)) (and-then ! (load ! (from ! (stop !)) (look ! 27 refl))
+      (and-then ! (load ! (from ! (stop !)) (look ! 19 refl)) (no-more !)))))) (λ rv.
+      use1 W (later (some (λ (r : Fed). ((‵ (flft κt qt) ⊛ (‵ (flft κr qr) ⊛ (‵ (flft κs qs) ⊛ ‵ ftrue))) ⊛ ‵ (Fd.the-row .own r (rv ∷ []))) ⊛ raw
+      (ensured 𝓤 H A fd.ended (fd.clauses 𝓤 H A at-mem run) (κt, (κr, (κs, tt))) (argsC a x) tt r)))) (id⊢ 𝓤 _) $ await ! tt $ pick ! (λ r.
+      split ! $ move ! (1 ∷ []) $ use1 W (some (λ (zs : Lasts). ‵ (lasts fd.ended (κt, (κr, (κs, tt))) (argsC a x) zs) ⊛ raw (fact 𝓤 (Says a x r (lastR zs))))) (id⊢ 𝓤 _) $
+      pick ! (λ zs. split ! $ move ! (1 ∷ []) $
+      heard ! (Says a x r (lastR zs)) (λ says-r. fsplit ! $ let-go ! $ fsplit ! $ let-go ! $ fsplit ! $ fsplit ! $ move ! (1 ∷ []) $ feqL ! (λ long. move ! (1 ∷ []) $ let-go ! $
+      move ! (1 ∷ []) $ split ! $ move ! (1 ∷ []) $
+      peeks ! Fd.the-row (Is Fd.the-row) (shows 𝓤 H A Fd.the-row) r (rv ∷ []) (λ is-r. land ! (from ! (stop !)) (init ! 19 refl (LL.lawful Fd.the-type Fd′.the-laws 𝓤 H A W .typed r
+      (rv ∷ []) is-r .0)) $ move ! (1 ∷ []) $ split ! $
       move ! (1 ∷ []) $ split ! $ move ! (1 ∷ []) $ split ! $ move ! (1 ∷ []) $ let-go ! $
       -- and both lent arrays to `lay_fed`
-      assigns ! (addr ! (from ! (hop ! (look ! 29 refl) (stop !)))) (from ! (stop !)) (init ! 13 refl (tt, tt)) $ assigns ! (addr ! (from ! (hop ! (look ! 27 refl) (stop !)))) (from ! (stop !)) (init ! 11 refl (tt, tt)) $
-      move ! (5 ∷ 6 ∷ []) $ fjoin ! $ feqI ! (List Val) (vE ∷ []) (vE ∷ []) refl $ fjoin ! $ nothing ! $ move ! (9 ∷ 0 ∷ []) $ fjoin ! $ move ! (1 ∷ 0 ∷ []) $ fjoin ! $ move ! (4 ∷ 0 ∷ []) $ fjoin ! $ nothing ! $ move ! (8 ∷ 0 ∷ []) $
+      assigns ! (addr ! (from ! (hop ! (look ! 29 refl) (stop !)))) (from ! (stop !)) (init ! 13 refl (tt, tt)) $
+      assigns ! (addr ! (from ! (hop ! (look ! 27 refl) (stop !)))) (from ! (stop !)) (init ! 11 refl (tt, tt)) $
+      move ! (5 ∷ 6 ∷ []) $ fjoin ! $ feqI ! (List Val) (vE ∷ []) (vE ∷ []) refl $ fjoin ! $ nothing ! $ move ! (9 ∷ 0 ∷ []) $ fjoin ! $ move ! (1 ∷ 0 ∷ []) $ fjoin ! $
+      move ! (4 ∷ 0 ∷ []) $ fjoin ! $ nothing ! $ move ! (8 ∷ 0 ∷ []) $
       join ! $ move ! (6 ∷ 0 ∷ []) $ join ! $ use2 W (raw (Lay 𝓤 H A at-mem run .pre (toL r rv))) (goesL r rv) $
-      calls-at ! (fmOf 𝓤 H (W .laws) 𝓣) (Lay 𝓤 H A at-mem run) known-l (toL r rv) (and-then ! (load ! (from ! (stop !)) (look ! 16 refl)) (and-then ! (load ! (from ! (stop !)) (look ! 8 refl)) (and-then ! (load ! (from ! (stop !)) (look ! 6 refl)) (no-more !)))) (λ nv.
-      use1 W (later (some (λ (n : ℕ). ((‵ (flft κe qe) ⊛ (‵ (flft κa qa) ⊛ ‵ ftrue)) ⊛ ‵ (u8 .own n (nv ∷ []))) ⊛ raw (ensured 𝓤 H A la.ended (la.clauses 𝓤 H A at-mem run) (κe, (κa, tt)) (argsL r) tt n)))) (id⊢ 𝓤 _) $ await ! tt $ pick ! (λ n.
-      split ! $ move ! (1 ∷ []) $ use1 W (some (λ (ws : Unit {0} × (List ℕ × (List ℕ × Unit {0}))). ‵ (lasts la.ended (κe, (κa, tt)) (argsL r) ws) ⊛ raw (fact 𝓤 (Lays r n (ws .1 .0) (ws .1 .1 .0))))) (id⊢ 𝓤 _) $ pick ! (λ ws. split ! $
-      move ! (1 ∷ []) $ heard ! (Lays r n (ws .1 .0) (ws .1 .1 .0)) (λ lays-n. fsplit ! $ let-go ! $ fsplit ! $ move ! (1 ∷ []) $ fsplit ! $ move ! (1 ∷ []) $ let-go ! $ move ! (2 ∷ []) $ split ! $ move ! (1 ∷ []) $
-      peeks ! u8 (Is u8) (shows 𝓤 H A u8) n (nv ∷ []) (λ is-n. land ! (from ! (stop !)) (init ! 37 refl (uint-lawful 𝓤 H A W w8 .typed n _ is-n .0)) $ move ! (1 ∷ []) $ split ! $ move ! (1 ∷ []) $ split ! $ move ! (1 ∷ []) $ let-go ! $
-      returns ! (look ! 38 refl) $ forget ! 38 refl $ forget ! 36 refl $ forget ! 34 refl $ forget ! 32 refl $ forget ! 30 refl $ forget ! 28 refl $ forget ! 26 refl $ forget ! 24 refl $ forget ! 22 refl $ forget ! 20 refl $
-      forget ! 18 refl $ forget ! 16 refl $ forget ! 14 refl $ forget ! 12 refl $ forget ! 10 refl $ move ! (38 ∷ 39 ∷ []) $ free1 ! $ move ! (36 ∷ 37 ∷ []) $ free1 ! $ move ! (34 ∷ 35 ∷ []) $ free1 ! $ move ! (32 ∷ 33 ∷ []) $ free1 ! $
-      move ! (30 ∷ 31 ∷ []) $ free1 ! $ move ! (28 ∷ 29 ∷ []) $ free1 ! $ move ! (26 ∷ 27 ∷ []) $ free1 ! $ move ! (24 ∷ 25 ∷ []) $ free1 ! $ move ! (22 ∷ 23 ∷ []) $ free1 ! $ move ! (20 ∷ 21 ∷ []) $ free1 ! $ move ! (18 ∷ 19 ∷ []) $
-      free1 ! $ move ! (16 ∷ 17 ∷ []) $ free1 ! $ move ! (14 ∷ 15 ∷ []) $ free1 ! $ move ! (12 ∷ 13 ∷ []) $ free1 ! $ move ! (10 ∷ 11 ∷ []) $ free1 ! $ free0 ! $ keep ! (9 ∷ 7 ∷ 6 ∷ 5 ∷ 1 ∷ 0 ∷ 8 ∷ 4 ∷ 3 ∷ 2 ∷ []) $
+      calls-at ! (fmOf 𝓤 H (W .laws) 𝓣) (Lay 𝓤 H A at-mem run) known-l (toL r rv) (and-then ! (load ! (from ! (stop !)) (look ! 16 refl))
+      (and-then ! (load ! (from ! (stop !)) (look ! 8 refl)) (and-then ! (load ! (from ! (stop !)) (look ! 6 refl)) (no-more !)))) (λ nv.
+      use1 W (later (some (λ (n : ℕ). ((‵ (flft κe qe) ⊛ (‵ (flft κa qa) ⊛ ‵ ftrue)) ⊛ ‵ (u8 .own n (nv ∷ []))) ⊛ raw
+      (ensured 𝓤 H A la.ended (la.clauses 𝓤 H A at-mem run) (κe, (κa, tt)) (argsL r) tt n)))) (id⊢ 𝓤 _) $ await ! tt $ pick ! (λ n.
+      split ! $ move ! (1 ∷ []) $ use1 W (some (λ (ws : Unit {0} × (List ℕ × (List ℕ × Unit {0}))). ‵ (lasts la.ended (κe, (κa, tt)) (argsL r) ws) ⊛ raw
+      (fact 𝓤 (Lays r n (ws .1 .0) (ws .1 .1 .0))))) (id⊢ 𝓤 _) $ pick ! (λ ws. split ! $
+      move ! (1 ∷ []) $ heard ! (Lays r n (ws .1 .0) (ws .1 .1 .0)) (λ lays-n. fsplit ! $ let-go ! $ fsplit ! $ move ! (1 ∷ []) $ fsplit ! $ move ! (1 ∷ []) $ let-go ! $
+      move ! (2 ∷ []) $ split ! $ move ! (1 ∷ []) $
+      peeks ! u8 (Is u8) (shows 𝓤 H A u8) n (nv ∷ []) (λ is-n. land ! (from ! (stop !)) (init ! 37 refl (uint-lawful 𝓤 H A W w8 .typed n _ is-n .0)) $ move ! (1 ∷ []) $ split ! $
+      move ! (1 ∷ []) $ split ! $ move ! (1 ∷ []) $ let-go ! $
+      returns ! (look ! 38 refl) $ forget ! 38 refl $ forget ! 36 refl $ forget ! 34 refl $ forget ! 32 refl $ forget ! 30 refl $ forget ! 28 refl $ forget ! 26 refl $
+      forget ! 24 refl $ forget ! 22 refl $ forget ! 20 refl $
+      forget ! 18 refl $ forget ! 16 refl $ forget ! 14 refl $ forget ! 12 refl $ forget ! 10 refl $ move ! (38 ∷ 39 ∷ []) $ free1 ! $ move ! (36 ∷ 37 ∷ []) $ free1 ! $
+      move ! (34 ∷ 35 ∷ []) $ free1 ! $ move ! (32 ∷ 33 ∷ []) $ free1 ! $
+      move ! (30 ∷ 31 ∷ []) $ free1 ! $ move ! (28 ∷ 29 ∷ []) $ free1 ! $ move ! (26 ∷ 27 ∷ []) $ free1 ! $ move ! (24 ∷ 25 ∷ []) $ free1 ! $ move ! (22 ∷ 23 ∷ []) $ free1 ! $
+      move ! (20 ∷ 21 ∷ []) $ free1 ! $ move ! (18 ∷ 19 ∷ []) $
+      free1 ! $ move ! (16 ∷ 17 ∷ []) $ free1 ! $ move ! (14 ∷ 15 ∷ []) $ free1 ! $ move ! (12 ∷ 13 ∷ []) $ free1 ! $ move ! (10 ∷ 11 ∷ []) $ free1 ! $ free0 ! $
+      keep ! (9 ∷ 7 ∷ 6 ∷ 5 ∷ 1 ∷ 0 ∷ 8 ∷ 4 ∷ 3 ∷ 2 ∷ []) $
       by ! (leaves a the-record x the-serial r (lastR zs) says-r long n nv (ws .1 .0) (ws .1 .1 .0) lays-n)))))))))))))))))))))))))))))))))))))
 
 module _ {M : Type 1} (𝓤 : URA M) (H : Heap 𝓤) (A : Atoms 𝓤) (W : Given 𝓤 H A) (at-mem : Memory → SProp 𝓤) (run : Routine → Fun 𝓤) (𝓣 : Tables 𝓤 H)
@@ -317,7 +356,8 @@ module _ {M : Type 1} (𝓤 : URA M) (H : Heap 𝓤) (A : Atoms 𝓤) (W : Given
       ))
       (λ κs qs bounds x g are. via 𝓤 _ (fst∗ 𝓤 _ (emp 𝓤)) (walk 𝓤 H A W at-mem run (κs .0) (κs .1 .0) (κs .1 .1 .0) (κs .1 .1 .1 .0) (κs .1 .1 .1 .1 .0) (κs .1 .1 .1 .1 .1 .0)
       (qs .0) (qs .1 .0) (qs .1 .1 .0) (qs .1 .1 .1 .0) (qs .1 .1 .1 .1 .0) (qs .1 .1 .1 .1 .1 .0)
-      (x .0) (x .1 .0) (x .1 .1 .0) (x .1 .1 .1 .0) (x .1 .1 .1 .1 .0) (x .1 .1 .1 .1 .1 .0) 𝓣 known-b known-x known-c known-l (are .1 .0 .0 .1 .0) (are .1 .1 .0 .0 .1 .0) (are .1 .1 .1 .0 .0 .1 .0)))
+      (x .0) (x .1 .0) (x .1 .1 .0) (x .1 .1 .1 .0) (x .1 .1 .1 .1 .0) (x .1 .1 .1 .1 .1 .0) 𝓣 known-b known-x known-c known-l (are .1 .0 .0 .1 .0) (are .1 .1 .0 .0 .1 .0)
+      (are .1 .1 .1 .0 .0 .1 .0)))
 
   meets : Meets 𝓤 H A f.signature (WpFn 𝓤 H (𝓣 .C) (𝓣 .Λ) code.function) (f.spec 𝓤 H A at-mem run)
   meets =
