@@ -239,7 +239,7 @@ pub fn present(a: Automaton, table: &[u32], count: usize, c: Configuration, even
 }
 
 // A refused event's answer.
-fn refused(row: u8) -> ReceivedFor
+pub fn refused(row: u8) -> ReceivedFor
     ensures { λ r. ⌜ r ≡ refusedFor row ⌝ }
 {
     ReceivedFor {

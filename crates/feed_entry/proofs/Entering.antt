@@ -7,13 +7,19 @@ use lib.Dec.{eqb}
 use borrow.Author.Tests.{ne-eqb}
 use Rattle.automaton.specs.declared.Automaton.{Automaton}
 use Rattle.clients_answers.specs.declared.ReceivedFor.{ReceivedFor}
-use Rattle.clients_answers.specs.Clients.{listRefusal}
+use Rattle.clients_answers.specs.Clients.{listRefusal, refusedFor}
 use Rattle.clients_entry.specs.declared.ListEntry.{ListEntry}
 use Rattle.clients_entry.specs.Entries.{listEntryOf}
 use Rattle.feed_record.specs.declared.Expected.{Expected}
 use Rattle.feed_record.specs.declared.Admitted.{Admitted}
+use Rattle.feed_answers.specs.declared.Fed.{Fed}
 use Rattle.feed_answers.specs.Feed.{refusedFed, deliveredFed}
 use Rattle.feed_entry.specs.Entries.{refusesCall, notLetIn, letInOf}
+
+-- a refused event's answer, beside the place and the expected serial
+pub away : (expected : Expected) (row place : ℕ) (answer : ReceivedFor) → answer ≡ refusedFor row
+    → _≡_ {A = Fed} (record { answer = answer; place = place; expected = expected; loss = 0 }) (refusedFed expected row place)
+away expected row place answer h = rw h
 
 -- the three rows
 module _ (row : ℕ) where

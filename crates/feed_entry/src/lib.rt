@@ -27,13 +27,9 @@ fn refuses_call(row: u8) -> bool
 fn refused(row: u8, place: usize, expected: Expected) -> Fed
     ensures { λ r. ⌜ r ≡ refusedFed expected row place ⌝ }
 {
+    let answer = clients_entry::refused(row);
     Fed {
-        answer: ReceivedFor {
-            refusal: row,
-            emitted: [0u8; 7],
-            count: 0,
-            winning: false,
-        },
+        answer,
         place,
         expected,
         loss: 0,
