@@ -12,13 +12,17 @@ use c_layout::RAN_REFUSED;
 use c_layout::RAN_SIZE;
 use c_layout::RECEIVED_COUNT;
 use c_layout::RECEIVED_EMITTED;
+use c_layout::RECEIVED_PLACES;
 use c_layout::RECEIVED_SIZE;
 use c_layout::RECEIVED_WINNING;
 use c_layout::STATUS_SIZE;
 use c_layout::VERDICT_SIZE;
+use c_places::EMITTED_SIZE;
+use c_places::emitted_bytes;
 use c_records::lay_expected;
 use clients_answers::RanFor;
 use clients_answers::ReceivedFor;
+use configuration_places::InputPlace;
 use feed_answers::Fed;
 use game::Verdict;
 use monitor_answers::Ran;
@@ -51,15 +55,22 @@ pub fn status_bytes(s: Status) -> [u8; STATUS_SIZE]
     [s.winning as u8]
 }
 
-// One event: the places of what is emitted, how many of them are used, and whether the
-// configuration is winning.
-fn event_bytes(emitted: [u8; MAX_EMITTED], count: u8, winning: bool) -> [u8; RECEIVED_SIZE]
-    ensures { λ b. ⌜ b ≡ eventBytes emitted count winning ⌝ }
+// One event: the places of what is emitted, how many of them are used, whether the configuration
+// is winning, and the place in the input of each symbol emitted.
+fn event_bytes(
+    emitted: [u8; MAX_EMITTED],
+    count: u8,
+    winning: bool,
+    places: [InputPlace; MAX_EMITTED],
+) -> [u8; RECEIVED_SIZE]
+    ensures { λ b. ⌜ b ≡ eventBytes emitted count winning places ⌝ }
 {
     let mut bytes = [0u8; RECEIVED_SIZE];
     copy(&emitted, 0, MAX_EMITTED, &mut bytes, RECEIVED_EMITTED);
     bytes[RECEIVED_COUNT] = count;
     bytes[RECEIVED_WINNING] = winning as u8;
+    let from = emitted_bytes(places);
+    copy(&from, 0, EMITTED_SIZE, &mut bytes, RECEIVED_PLACES);
     bytes
 }
 
@@ -67,7 +78,8 @@ pub fn received_bytes(r: Received) -> [u8; RECEIVED_SIZE]
     ensures { λ b. ⌜ b ≡ receivedBytes r ⌝ }
 {
     let emitted = r.emitted;
-    event_bytes(emitted, r.count, r.winning)
+    let places = r.places;
+    event_bytes(emitted, r.count, r.winning, places)
 }
 
 // Lays the answer to an event for a client, and gives its refusal: both in one call, since the
@@ -76,7 +88,8 @@ pub fn lay_received_for(r: ReceivedFor, answer: &mut [u8; RECEIVED_SIZE]) -> u8
     ensures { λ n. ⌜ (n ≡ r .refusal) × (now (answer .exit) ≡ receivedForBytes r) ⌝ }
 {
     let emitted = r.emitted;
-    *answer = event_bytes(emitted, r.count, r.winning);
+    let places = r.places;
+    *answer = event_bytes(emitted, r.count, r.winning, places);
     r.refusal
 }
 
@@ -112,7 +125,8 @@ fn fed_bytes(r: Fed) -> [u8; FED_SIZE]
 {
     let answer = r.answer;
     let emitted = answer.emitted;
-    let event = event_bytes(emitted, answer.count, answer.winning);
+    let places = answer.places;
+    let event = event_bytes(emitted, answer.count, answer.winning, places);
     let loss = number_bytes(r.loss as usize);
     let place = number_bytes(r.place);
     let mut bytes = [0u8; FED_SIZE];

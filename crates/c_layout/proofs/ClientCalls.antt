@@ -4,14 +4,14 @@ use Rattle.clients_answers.specs.Clients.{receiveForRefusal, receivedFor, ranFo
 use Rattle.clients_answers.proofs.Kept.{others-kept}
 use Rattle.clients_answers.proofs.Single.{clients-emitted-padded}
 use Rattle.clients_answers.proofs.Worded.{client-rows-as-worded}
-use Rattle.c_layout.specs.Layout.{automatonOf, numberBytes}
+use Rattle.c_layout.specs.Layout.{automatonOf, numberBytes, placesBytes}
 use Rattle.c_layout.specs.Answers.{receivedForBytes, ranForBytes}
 use Rattle.c_layout.specs.Calls.{receivedForLeft, ranForLeft, receiveForLeaves, runForLeaves}
 use Rattle.c_layout.specs.Claims.{ClientsLeftAsAnswered}
-use Rattle.c_layout.proofs.Offsets.{offsets-hold}
+use Rattle.c_layout.proofs.Offsets.{places-seven, offsets-hold}
 
 pub clients-left-as-answered : ClientsLeftAsAnswered
-unfolding receiveForLeaves runForLeaves receivedForLeft ranForLeft receivedForBytes ranForBytes numberBytes ranFor
+unfolding receiveForLeaves runForLeaves receivedForLeft ranForLeft receivedForBytes ranForBytes placesBytes numberBytes ranFor
 clients-left-as-answered record-bytes t cs =
     let a = automatonOf record-bytes in
     let kept = others-kept a t cs in
@@ -20,7 +20,9 @@ clients-left-as-answered record-bytes t cs =
       event-refusal = answered;
       event-list = λ i e. refl;
       event-answer = λ i e.
-          offsets-hold .received-for (receivedFor a t cs i e) (receivedClients a t cs i e) (clients-emitted-padded a t cs i e .1 .0);
+          let r = receivedFor a t cs i e in
+          let padded = clients-emitted-padded a t cs i e in
+          offsets-hold .received-for r (receivedClients a t cs i e) (padded .1 .0) (places-seven (r .places) (padded .2 .0));
       run-refusal = λ vs out. refl;
       run-list = λ vs out. refl;
       run-answer = λ vs out. offsets-hold .ran-for (ranFor a t cs vs out) (ranClients a t cs vs out) (ranForBuffer a t cs vs out);

@@ -22,12 +22,13 @@ use Rattle.feed_answers.proofs.Entering.{entry-record, entry-clear, fed-list, f
 use Rattle.feed_answers.proofs.Worded.{feed-rows-as-worded, feed-answered-as-worded, feed-emitted-padded}
 use Rattle.clients_answers.proofs.Refusals.{list-clear}
 use Rattle.c_layout.specs.Offsets.{numberSize, receivedSize, expectedSize, expectedKnown, expectedSerial, fedLoss}
-use Rattle.c_layout.specs.Layout.{byteAt, part, automatonOf, numberOf, numberBytes, expectedOf, expectedBytes, sameExpected, expectedLaid}
+use Rattle.c_layout.specs.Layout.{byteAt, part, automatonOf, numberOf, numberBytes, placesBytes}
+use Rattle.c_layout.specs.Layout.{expectedOf, expectedBytes, sameExpected, expectedLaid}
 use Rattle.c_layout.specs.Answers.{receivedForBytes, fedBytes}
 use Rattle.c_layout.specs.Calls.{receivedForLeft, fedLeft, feedLeaves}
 use Rattle.c_layout.specs.Claims.{ExpectedKept, FeedLeftAsAnswered}
-use Rattle.c_layout.proofs.Laying.{number-length}
-use Rattle.c_layout.proofs.Offsets.{offsets-hold}
+use Rattle.c_layout.proofs.Numbers.{number-length}
+use Rattle.c_layout.proofs.Offsets.{places-seven, offsets-hold}
 
 -- out of bytes
 pub expected-none : (bytes : List ℕ) → byteAt bytes expectedKnown ≡ 0 → Any ≡ expectedOf bytes
@@ -109,7 +110,7 @@ module _ (r : Fed) where
       take-at (numberBytes numberSize (r .loss)) _ numberSize (number-length numberSize (r .loss))
 
 zeros-laid : (row : ℕ) → receivedForBytes (refusedFor row) ≡ replicate receivedSize 0
-unfolding receivedForBytes
+unfolding receivedForBytes placesBytes numberBytes
 zeros-laid row = refl
 
 module _ (record-bytes t : List ℕ) (cs : List Configuration) (s lent : List ℕ) where
@@ -125,7 +126,8 @@ module _ (record-bytes t : List ℕ) (cs : List Configuration) (s lent : List �
   event-long : length (receivedForBytes (r .answer)) ≡ receivedSize
   unfolding receivedForLeft
   event-long =
-      offsets-hold .received-for (r .answer) cs (feed-emitted-padded (automatonOf record-bytes) t cs s x .1 .0) .size
+      let padded = feed-emitted-padded (automatonOf record-bytes) t cs s x in
+      offsets-hold .received-for (r .answer) cs (padded .1 .0) (places-seven (r .answer .places) (padded .2 .0)) .size
 
   -- not let in
   unmoved : (row ≡ 0 → ⊥) → (r .expected ≡ x) × (r .loss ≡ 0)
@@ -192,10 +194,12 @@ unfolding feedLeaves fedLeft
 feed-left-as-answered record-bytes t cs s lent long =
     let a = automatonOf record-bytes in
     let x = expectedOf lent in
+    let r = fedFor a t cs s x in
+    let padded = feed-emitted-padded a t cs s x in
     record {
       refusal = feed-rows-as-worded a t cs s x .answered;
       list = refl;
-      answer = offsets-hold .fed (fedFor a t cs s x) (fedClients a t cs s x) lent (feed-emitted-padded a t cs s x .1 .0);
+      answer = offsets-hold .fed r (fedClients a t cs s x) lent (padded .1 .0) (places-seven (r .answer .places) (padded .2 .0));
       kept = kept record-bytes t cs s lent;
       next = next record-bytes t cs s lent;
       handed-on = handed-on record-bytes t cs s lent;

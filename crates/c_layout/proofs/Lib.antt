@@ -1,3 +1,5 @@
+pub mod Numbers
+pub mod Configurations
 pub mod Laying
 pub mod Trips
 pub mod Offsets

@@ -1,15 +1,17 @@
 -- Proof of what stands at each offset.
-use Prim.Native.Nat.{ℕ, zero, suc, _+_, _*_, _/_, _%_, _^_, _<_}
+use Prim.Native.Nat.{ℕ, _+_, _*_, _<_}
 use mathlib.Core.Path.{_≡_, refl, sym, _∙_, ap}
 use mathlib.Core.Bool.{Bool, true, cond}
-use mathlib.Core.List.{List, [], _∷_, _++_, append-nil, append-assoc}
-use native.Mathlib.Nat.{zero-add, div-one, div-div-eq-div-mul, mul-comm, pow-suc}
+use mathlib.Core.List.{List, [], _∷_, _++_, map, append-nil, append-assoc}
+use native.Mathlib.Nat.{zero-add}
 use native.Mathlib.Omega.{arith}
-use lib.ListN.{length, getD, take, drop, length-append, List·getD-append}
-use lib.Seq.{getD-take, getD-drop, getD-append-add, getD-at, take-at, drop-at}
+use lib.ListN.{length, getD, length-append, length-map, List·getD-append}
+use lib.Seq.{getD-append-add, getD-at}
 use borrow.Author.Tests.{ne-eqb}
 use Rattle.automaton.specs.declared.Automaton.{Automaton}
 use Rattle.automaton.specs.Automaton.{step, shaped}
+use Rattle.configuration_places.specs.declared.InputPlace.{InputPlace}
+use Rattle.configuration_places.specs.Places.{inputPlace, inputNumber}
 use Rattle.configuration.specs.declared.Configuration.{Configuration}
 use Rattle.monitor_answers.specs.declared.Received.{Received}
 use Rattle.monitor_answers.specs.declared.Ran.{Ran}
@@ -17,22 +19,18 @@ use Rattle.clients_answers.specs.declared.ReceivedFor.{ReceivedFor}
 use Rattle.clients_answers.specs.declared.RanFor.{RanFor}
 use Rattle.feed_record.specs.declared.Expected.the-variants.{Serial}
 use Rattle.feed_answers.specs.declared.Fed.{Fed}
-use Rattle.c_layout.specs.Offsets.{maxSymbols, maxStates, maxNext, maxCapacity, maxEmitted}
+use Rattle.c_layout.specs.Offsets.{maxSymbols, maxStates, maxNext, maxEmitted}
 use Rattle.c_layout.specs.Offsets.{automatonSize, automatonClasses, automatonAccepting, automatonNext}
-use Rattle.c_layout.specs.Offsets.{configurationSize, configurationBuffer, numberSize, receivedSize, receivedEmitted, receivedCount, receivedWinning}
-use Rattle.c_layout.specs.Offsets.{expectedSize, fedPlace}
-use Rattle.c_layout.specs.Layout.{byteAt, part, automatonOf, automatonBytes, configurationOf, configurationBytes}
-use Rattle.c_layout.specs.Layout.{numberOf, numberBytes, expectedOf}
+use Rattle.c_layout.specs.Offsets.{receivedSize, receivedEmitted, receivedCount, receivedWinning, receivedPlaces}
+use Rattle.c_layout.specs.Offsets.{placeSize, numberSize, expectedSize, fedPlace}
+use Rattle.c_layout.specs.Layout.{byteAt, part, automatonOf, automatonBytes, numberOf, numberBytes, placesBytes, expectedOf}
 use Rattle.c_layout.specs.Answers.{statusBytes, eventBytes, dayBytes, receivedBytes, receivedForBytes, ranBytes, ranForBytes, fedBytes, verdictBytes}
 use Rattle.c_layout.specs.Calls.{receivedLeft, ranLeft, receivedForLeft, ranForLeft, fedLeft}
-use Rattle.c_layout.specs.Claims.{YesOrNo, NumberAt, AutomatonIn, ConfigurationIn, ReceivedIn, RanIn, FedIn, ExpectedIn, OffsetsHold}
-use Rattle.c_layout.proofs.Laying.{number-length}
-use Rattle.c_layout.proofs.Trips.{shaped-lengths, automaton-kept, configuration-kept, number-kept}
-
--- a byte of a part
-part-byte : (at n i : ℕ) (bytes : List ℕ) → i < n → byteAt bytes (at + i) ≡ getD (part at n bytes) i 0
-unfolding part
-part-byte at n i bytes h = sym (getD-take n (drop at bytes) i 0 h ∙ getD-drop at bytes i 0)
+use Rattle.c_layout.specs.Claims.{YesOrNo, NumberAt, PlaceAt, AutomatonIn, ReceivedIn, RanIn, FedIn, ExpectedIn}
+use Rattle.c_layout.specs.Claims.{OffsetsHold}
+use Rattle.c_layout.proofs.Numbers.{part-byte, number-length, lies-between}
+use Rattle.c_layout.proofs.Configurations.{place-in, places-size, configuration-in, configuration-out}
+use Rattle.c_layout.proofs.Trips.{shaped-lengths, automaton-kept}
 
 yes-or-no : (b : Bool) → YesOrNo b (cond b 1 0)
 yes-or-no b = (λ h. rw h refl, λ h. rw h refl)
@@ -46,18 +44,13 @@ automaton-out bytes long =
       symbols = refl;
       capacity = refl;
       initial = refl;
-      classes = λ e h. part-byte automatonClasses maxSymbols e bytes h;
-      accepting = λ q h. part-byte automatonAccepting maxStates q bytes h;
+      classes = λ e h. part-byte automatonClasses maxSymbols bytes e h;
+      accepting = λ q h. part-byte automatonAccepting maxStates bytes q h;
       next = λ q e h k.
-          ap (byteAt bytes) (omega arith) ∙ part-byte automatonNext maxNext (q * maxSymbols + e) bytes (omega arith);
+          ap (byteAt bytes) (omega arith) ∙ part-byte automatonNext maxNext bytes (q * maxSymbols + e) (omega arith);
     }
 
-configuration-out : (bytes : List ℕ) → length bytes ≡ configurationSize → ConfigurationIn (configurationOf bytes) bytes
-unfolding configurationOf
-configuration-out bytes long =
-    record { size = long; state = refl; held = refl; buffer = λ i h. part-byte configurationBuffer maxCapacity i bytes h }
-
--- a record's bytes, and a configuration's
+-- a record's bytes
 automaton-in : (a : Automaton) → shaped a ≡ true → AutomatonIn a (automatonBytes a)
 unfolding automatonBytes
 automaton-in a h =
@@ -65,65 +58,73 @@ automaton-in a h =
     let long : length (automatonBytes a) ≡ automatonSize = simp length-append (omega arith) in
     rw (automaton-kept a h) at (automaton-out (automatonBytes a) long)
 
-configuration-in : (c : Configuration) → length (c .buffer) ≡ maxCapacity → ConfigurationIn c (configurationBytes c)
-unfolding configurationBytes
-configuration-in c h =
-    let long : length (configurationBytes c) ≡ configurationSize = omega arith in
-    rw (configuration-kept c h) at (configuration-out (configurationBytes c) long)
-
--- byte i of a number
-number-byte : (width i v : ℕ) → i < width → byteAt (numberBytes width v) i ≡ v / 256 ^ i % 256
-unfolding numberBytes
-number-byte zero i v h = absurd (omega arith)
-number-byte (suc width) zero v h = ap (λ x. x % 256) (sym (div-one v))
-number-byte (suc width) (suc i) v h =
-    number-byte width i (v / 256) (omega arith) ∙
-    ap (λ x. x % 256) (div-div-eq-div-mul v 256 (256 ^ i) ∙ ap (λ x. v / x) (mul-comm 256 (256 ^ i) ∙ sym (pow-suc 256 i)))
-
 -- a number that stands behind other bytes and before others
 number-at : (v : ℕ) (front later : List ℕ) → NumberAt v (length front) (front ++ (numberBytes numberSize v ++ later))
-unfolding part
 number-at v front later =
-    let bytes = numberBytes numberSize v in
-    let long : length bytes ≡ numberSize = number-length numberSize v in
-    record {
-      low-first = λ i h.
-          getD-append-add front (bytes ++ later) i 0 ∙
-          List·getD-append bytes later 0 i (omega arith) ∙
-          number-byte numberSize i v h;
-      value = λ h.
-          ap (λ l. numberOf (take numberSize l)) (drop-at front (bytes ++ later) (length front) refl) ∙
-          ap numberOf (take-at bytes later numberSize long) ∙
-          number-kept numberSize v h;
-    }
+    let l = lies-between numberSize v front later in
+    record { low-first = l .low-first; value = l .value }
 
 number-in : (v : ℕ) → (length (numberBytes numberSize v) ≡ numberSize) × NumberAt v 0 (numberBytes numberSize v)
 number-in v =
     (number-length numberSize v, rw (append-nil (numberBytes numberSize v)) at (number-at v [] []))
 
-event-in : (symbols : List ℕ) (many : ℕ) (wins : Bool) → length symbols ≡ maxEmitted
-    → ReceivedIn symbols many wins (eventBytes symbols many wins)
-event-in symbols many wins long =
-    let flag : ℕ = cond wins 1 0 in
-    let tail : List ℕ = many ∷ flag ∷ [] in
-    let bytes = symbols ++ tail in
-    let last : byteAt bytes receivedWinning ≡ flag = ap (byteAt bytes) (omega arith) ∙ getD-append-add symbols tail 1 0 in
-    record {
-      size = simp length-append (omega arith);
-      emitted = λ i h. ap (byteAt bytes) (zero-add i) ∙ List·getD-append symbols tail 0 i (omega arith);
-      count = getD-at symbols many (flag ∷ []) 0 receivedCount long;
-      winning = rw last (yes-or-no wins);
-    }
+-- as many places as numbers
+pub places-seven : (ps : List InputPlace) → length (map inputNumber ps) ≡ maxEmitted → length ps ≡ maxEmitted
+places-seven ps h = sym (length-map ps inputNumber) ∙ h
 
-received-in : (r : Received) → length (r .emitted) ≡ maxEmitted
-    → ReceivedIn (r .emitted) (r .count) (r .winning) (receivedLeft r .answer)
+-- an event's bytes, and others behind them
+module _ (symbols : List ℕ) (many : ℕ) (wins : Bool) (from : List InputPlace) where
+  abbrev flag : ℕ
+  flag = cond wins 1 0
+
+  abbrev two : List ℕ
+  two = many ∷ flag ∷ []
+
+  abbrev places : List ℕ
+  places = placesBytes (map inputNumber from)
+
+  abbrev event : List ℕ
+  event = eventBytes symbols many wins from
+
+  module _ (long : length symbols ≡ maxEmitted) (sources : length from ≡ maxEmitted) where
+    event-size : length event ≡ receivedSize
+    event-size = simp length-append (omega (arith, places-size from))
+
+    event-emitted : (i : ℕ) → i < maxEmitted → byteAt event (receivedEmitted + i) ≡ getD symbols i 0
+    event-emitted i h = ap (byteAt event) (zero-add i) ∙ List·getD-append symbols (two ++ places) 0 i (omega arith)
+
+    event-winning : byteAt event receivedWinning ≡ flag
+    event-winning = ap (byteAt event) (omega arith) ∙ getD-append-add symbols (two ++ places) 1 0
+
+    to-places : length (symbols ++ two) ≡ receivedPlaces
+    to-places = length-append symbols two ∙ omega arith
+
+    event-place : (later : List ℕ) (i : ℕ) → i < maxEmitted
+        → PlaceAt (inputNumber (getD from i (inputPlace 0))) (receivedPlaces + i * placeSize) (event ++ later)
+    event-place later i h =
+        let same : (symbols ++ two) ++ (places ++ later) ≡ event ++ later =
+        append-assoc symbols two (places ++ later) ∙ sym (append-assoc symbols (two ++ places) later) in
+        rw (to-places, same) at (place-in from (symbols ++ two) later i (omega arith))
+
+    event-in : ReceivedIn symbols many wins from event
+    event-in =
+        record {
+          size = event-size;
+          emitted = event-emitted;
+          count = getD-at symbols many (flag ∷ places) 0 receivedCount long;
+          winning = rw event-winning (yes-or-no wins);
+          places = λ i h. rw (append-nil event) at (event-place [] i h);
+        }
+
+received-in : (r : Received) → length (r .emitted) ≡ maxEmitted → length (r .places) ≡ maxEmitted
+    → ReceivedIn (r .emitted) (r .count) (r .winning) (r .places) (receivedLeft r .answer)
 unfolding receivedLeft receivedBytes
-received-in r long = event-in (r .emitted) (r .count) (r .winning) long
+received-in r = event-in (r .emitted) (r .count) (r .winning) (r .places)
 
-received-for-in : (r : ReceivedFor) (cs : List Configuration) → length (r .emitted) ≡ maxEmitted
-    → ReceivedIn (r .emitted) (r .count) (r .winning) (receivedForLeft r cs .answer)
+received-for-in : (r : ReceivedFor) (cs : List Configuration) → length (r .emitted) ≡ maxEmitted → length (r .places) ≡ maxEmitted
+    → ReceivedIn (r .emitted) (r .count) (r .winning) (r .places) (receivedForLeft r cs .answer)
 unfolding receivedForLeft receivedForBytes
-received-for-in r cs long = event-in (r .emitted) (r .count) (r .winning) long
+received-for-in r cs = event-in (r .emitted) (r .count) (r .winning) (r .places)
 
 day-in : (length-written events-refused : ℕ) → RanIn length-written events-refused (dayBytes length-written events-refused)
 day-in k j =
@@ -146,27 +147,33 @@ unfolding ranForLeft ranForBytes
 ran-for-in r cs out = day-in (r .length) (r .refused)
 
 -- a record of the feed: its event's bytes, then two numbers
-fed-in : (r : Fed) (cs : List Configuration) (lent : List ℕ) → length (r .answer .emitted) ≡ maxEmitted → FedIn r (fedLeft r cs lent .answer)
+fed-in : (r : Fed) (cs : List Configuration) (lent : List ℕ) → length (r .answer .emitted) ≡ maxEmitted
+    → length (r .answer .places) ≡ maxEmitted → FedIn r (fedLeft r cs lent .answer)
 unfolding fedLeft fedBytes receivedForBytes
-fed-in r cs lent long =
-    let answer = r .answer in
-    let event = eventBytes (answer .emitted) (answer .count) (answer .winning) in
+fed-in r cs lent long sources =
+    let symbols = r .answer .emitted in
+    let many = r .answer .count in
+    let wins = r .answer .winning in
+    let from = r .answer .places in
+    let bytes = event symbols many wins from in
     let n = numberBytes numberSize (r .loss) in
     let m = numberBytes numberSize (r .place) in
-    let e = event-in (answer .emitted) (answer .count) (answer .winning) long in
-    let size : length event ≡ receivedSize = e .size in
-    let front : (i : ℕ) → i < receivedSize → byteAt (event ++ (n ++ m)) i ≡ byteAt event i =
-    λ i h. List·getD-append event (n ++ m) 0 i (omega arith) in
-    let loss : NumberAt (r .loss) (length event) (event ++ (n ++ m)) = number-at (r .loss) event m in
-    let place : NumberAt (r .place) (length (event ++ n)) ((event ++ n) ++ (m ++ [])) = number-at (r .place) (event ++ n) [] in
-    let before : length (event ++ n) ≡ fedPlace = length-append event n ∙ omega (arith, number-length numberSize (r .loss)) in
+    let e = event-in symbols many wins from long sources in
+    let size : length bytes ≡ receivedSize = e .size in
+    let front : (i : ℕ) → i < receivedSize → byteAt (bytes ++ (n ++ m)) i ≡ byteAt bytes i =
+    λ i h. List·getD-append bytes (n ++ m) 0 i (omega arith) in
+    let loss : NumberAt (r .loss) (length bytes) (bytes ++ (n ++ m)) = number-at (r .loss) bytes m in
+    let place : NumberAt (r .place) (length (bytes ++ n)) ((bytes ++ n) ++ (m ++ [])) = number-at (r .place) (bytes ++ n) [] in
+    let before : length (bytes ++ n) ≡ fedPlace = length-append bytes n ∙ omega (arith, number-length numberSize (r .loss)) in
     record {
-      size = simp length-append (omega (arith, number-length numberSize (r .loss), number-length numberSize (r .place)));
+      size = length-append bytes (n ++ m) ∙
+          omega (arith, length-append n m, number-length numberSize (r .loss), number-length numberSize (r .place));
       emitted = λ i h. front (receivedEmitted + i) (omega arith) ∙ e .emitted i h;
       count = front receivedCount (omega arith) ∙ e .count;
       winning = rw (front receivedWinning (omega arith)) (e .winning);
+      places = event-place symbols many wins from long sources (n ++ m);
       loss = rw size at loss;
-      place = rw (before, append-nil m, append-assoc event n m) at place;
+      place = rw (before, append-nil m, append-assoc bytes n m) at place;
     }
 
 -- the expected serial
@@ -185,8 +192,8 @@ offsets-hold =
     record {
       automaton = automaton-in;
       automaton-out = automaton-out;
-      configuration = configuration-in;
-      configuration-out = configuration-out;
+      configuration = λ c six many. configuration-in c six many;
+      configuration-out = λ bytes long low. configuration-out bytes long low;
       number = number-in;
       status = λ s. record { size = refl; winning = yes-or-no (s .winning) };
       received = received-in;

@@ -1,5 +1,5 @@
 -- Proofs of the layout's claims.
-use Prim.Native.Nat.{ℕ, zero, suc, _+_, _-_, _/_}
+use Prim.Native.Nat.{ℕ, _+_}
 use mathlib.Core.Path.{_≡_, refl, sym, _∙_, ap}
 use mathlib.Core.Bool.{true, _&&_}
 use mathlib.Core.List.{List, [], _∷_, _++_}
@@ -13,13 +13,16 @@ use Rattle.automaton.specs.declared.Automaton.{Automaton}
 use Rattle.automaton.specs.Automaton.{shaped}
 use Rattle.monitor_answers.specs.Answers.{received, receiveRefusal, ran, ranBuffer, runRefusal}
 use Rattle.configuration.specs.Configuration.{initialAnswer}
-use Rattle.c_layout.specs.Offsets.{maxStates, maxSymbols, maxNext, maxCapacity}
+use Rattle.c_layout.specs.Offsets.{maxStates, maxSymbols, maxNext}
 use Rattle.c_layout.specs.Offsets.{automatonClasses, automatonAccepting, automatonNext}
-use Rattle.c_layout.specs.Layout.{part, automatonOf, automatonBytes, configurationOf, configurationBytes, numberOf, numberBytes}
+use Rattle.c_layout.specs.Layout.{part, automatonOf, automatonBytes, configurationOf, configurationBytes}
+use Rattle.c_layout.specs.Layout.{numberBytes, placesBytes}
 use Rattle.c_layout.specs.Answers.{receivedBytes, ranBytes}
 use Rattle.c_layout.specs.Calls.{initialBytes, receivedLeft, ranLeft, receiveLeaves, runLeaves}
-use Rattle.c_layout.specs.Claims.{AutomatonKept, AutomatonBytesKept, ConfigurationKept, ConfigurationBytesKept, NumberKept, LeftAsAnswered}
+use Rattle.c_layout.specs.Claims.{AutomatonKept, AutomatonBytesKept, LeftAsAnswered}
 use Rattle.c_layout.specs.Claims.{RefusedInitialKeeps, RefusedEventKeeps, RefusedRunKeeps}
+pub use Rattle.c_layout.proofs.Numbers.{number-kept}
+pub use Rattle.c_layout.proofs.Configurations.{configuration-kept, configuration-bytes-kept}
 
 -- the arrays of a record, found again behind its four numbers
 module _ (a : Automaton) (x : length (a .classes) ≡ maxSymbols) (y : length (a .accepting) ≡ maxStates) (z : length (a .next) ≡ maxNext) where
@@ -88,23 +91,6 @@ automaton-bytes-kept (n ∷ m ∷ []) h = absurd (omega arith)
 automaton-bytes-kept (n ∷ m ∷ b ∷ []) h = absurd (omega arith)
 automaton-bytes-kept (n ∷ m ∷ b ∷ q ∷ l) h = ap (λ r. n ∷ m ∷ b ∷ q ∷ r) (parts-joined l (omega arith))
 
-pub configuration-kept : ConfigurationKept
-unfolding configurationOf configurationBytes part
-configuration-kept c h =
-    let x = take-all maxCapacity (c .buffer) (omega arith) in
-    λ i. record { state = c .state; held = c .held; buffer = x i }
-
-pub configuration-bytes-kept : ConfigurationBytesKept
-unfolding configurationOf configurationBytes part
-configuration-bytes-kept [] h = absurd (omega arith)
-configuration-bytes-kept (q ∷ []) h = absurd (omega arith)
-configuration-bytes-kept (q ∷ n ∷ l) h = ap (λ r. q ∷ n ∷ r) (take-all maxCapacity l (omega arith))
-
-pub number-kept : NumberKept
-unfolding numberOf numberBytes
-number-kept zero v h = omega arith
-number-kept (suc width) v h = omega (arith, number-kept width (v / 256) (omega arith))
-
 pub initial-written : (record-bytes lent : List ℕ) → initialAnswer (automatonOf record-bytes) .refusal ≡ 0
     → initialBytes record-bytes lent ≡ configurationBytes (initialAnswer (automatonOf record-bytes) .configuration)
 unfolding initialBytes
@@ -116,18 +102,18 @@ refused-initial-keeps record-bytes lent refused =
     rw (ne-eqb (initialAnswer (automatonOf record-bytes) .refusal) 0 refused)
 
 pub refused-event-keeps : RefusedEventKeeps
-unfolding received receiveLeaves receivedLeft receivedBytes
-refused-event-keeps record-bytes t c e long refused =
+unfolding received receiveLeaves receivedLeft receivedBytes placesBytes numberBytes
+refused-event-keeps record-bytes t c e long low refused =
     by (eqb (receiveRefusal (automatonOf record-bytes) t (configurationOf c) e) 0)
     (λ h. absurd (refused (rw h)))
-    (λ h. rw h (configuration-bytes-kept c long, refl))
+    (λ h. rw h (configuration-bytes-kept c long low, refl))
 
 pub refused-run-keeps : RefusedRunKeeps
 unfolding ran ranBuffer runLeaves ranLeft ranBytes numberBytes
-refused-run-keeps record-bytes t c events out long refused =
+refused-run-keeps record-bytes t c events out long low refused =
     by (eqb (runRefusal (automatonOf record-bytes) t (configurationOf c) events out) 0)
     (λ h. absurd (refused (rw h)))
-    (λ h. rw h (configuration-bytes-kept c long, refl, refl))
+    (λ h. rw h (configuration-bytes-kept c long low, refl, refl))
 
 pub left-as-answered : LeftAsAnswered
 unfolding receivedLeft ranLeft

@@ -2,7 +2,9 @@
 -- the configuration.
 use Prim.Native.Nat.{ℕ}
 use mathlib.Core.Bool.{Bool, cond}
-use mathlib.Core.List.{List, [], _∷_, _++_}
+use mathlib.Core.List.{List, [], _∷_, _++_, map}
+use Rattle.configuration_places.specs.declared.InputPlace.{InputPlace}
+use Rattle.configuration_places.specs.Places.{inputNumber}
 use Rattle.monitor_answers.specs.declared.Status.{Status}
 use Rattle.monitor_answers.specs.declared.Received.{Received}
 use Rattle.monitor_answers.specs.declared.Ran.{Ran}
@@ -11,16 +13,17 @@ use Rattle.clients_answers.specs.declared.RanFor.{RanFor}
 use Rattle.feed_answers.specs.declared.Fed.{Fed}
 use Rattle.game.specs.declared.Verdict.{Verdict}
 use Rattle.c_layout.specs.Offsets.{numberSize}
-use Rattle.c_layout.specs.Layout.{numberBytes}
+use Rattle.c_layout.specs.Layout.{numberBytes, placesBytes}
 
 -- whether the configuration is winning (document 01's guarded): 1 or 0
 unfoldable pub statusBytes : Status → List ℕ
 statusBytes s = cond (s .winning) 1 0 ∷ []
 
--- one event: the places of what is emitted, how many of them are used, and whether the
--- configuration is winning
-abbrev pub eventBytes : List ℕ → ℕ → Bool → List ℕ
-eventBytes emitted count winning = emitted ++ (count ∷ cond winning 1 0 ∷ [])
+-- one event: the places of what is emitted, how many of them are used, whether the configuration
+-- is winning, and the place in the input of each symbol emitted
+abbrev pub eventBytes : List ℕ → ℕ → Bool → List InputPlace → List ℕ
+eventBytes emitted count winning places =
+    emitted ++ ((count ∷ cond winning 1 0 ∷ []) ++ placesBytes (map inputNumber places))
 
 -- a whole day: how many bytes were written, and how many events were refused
 abbrev pub dayBytes : ℕ → ℕ → List ℕ
@@ -28,10 +31,10 @@ dayBytes written refused = numberBytes numberSize written ++ numberBytes numberS
 
 -- of one configuration, and over a list of clients
 unfoldable pub receivedBytes : Received → List ℕ
-receivedBytes r = eventBytes (r .emitted) (r .count) (r .winning)
+receivedBytes r = eventBytes (r .emitted) (r .count) (r .winning) (r .places)
 
 unfoldable pub receivedForBytes : ReceivedFor → List ℕ
-receivedForBytes r = eventBytes (r .emitted) (r .count) (r .winning)
+receivedForBytes r = eventBytes (r .emitted) (r .count) (r .winning) (r .places)
 
 unfoldable pub ranBytes : Ran → List ℕ
 ranBytes r = dayBytes (r .length) (r .refused)

@@ -7,6 +7,8 @@ use mathlib.Core.List.{List, [], _∷_}
 use lib.ListN.{length, getD, take, replicate}
 use Rattle.automaton.specs.declared.Automaton.{Automaton}
 use Rattle.automaton.specs.Automaton.{class, flag, step, shaped}
+use Rattle.configuration_places.specs.declared.InputPlace.{InputPlace}
+use Rattle.configuration_places.specs.Places.{inputPlace, inputNumber, outputNumber}
 use Rattle.configuration.specs.declared.Configuration.{Configuration}
 use Rattle.configuration.specs.Configuration.{initialOf, initialAnswer}
 use Rattle.game.specs.declared.Verdict.{Verdict}
@@ -27,7 +29,9 @@ use Rattle.c_layout.specs.Offsets.{maxStates, maxSymbols, maxCapacity, m
 use Rattle.c_layout.specs.Offsets.{automatonSize, automatonStates, automatonSymbols, automatonCapacity, automatonInitial}
 use Rattle.c_layout.specs.Offsets.{automatonClasses, automatonAccepting, automatonNext}
 use Rattle.c_layout.specs.Offsets.{configurationSize, configurationState, configurationHeld, configurationBuffer}
+use Rattle.c_layout.specs.Offsets.{placeSize, configurationPlaces, configurationReceived, configurationEmitted}
 use Rattle.c_layout.specs.Offsets.{numberSize, statusSize, receivedSize, receivedEmitted, receivedCount, receivedWinning}
+use Rattle.c_layout.specs.Offsets.{receivedPlaces}
 use Rattle.c_layout.specs.Offsets.{ranSize, ranLength, ranRefused, verdictSize, verdictMayRest, verdictCanRest}
 use Rattle.c_layout.specs.Offsets.{expectedSize, expectedKnown, expectedSerial, fedSize, fedLoss, fedPlace}
 use Rattle.c_layout.specs.Layout.{byteAt, part, automatonOf, automatonBytes, configurationOf, configurationBytes}
@@ -35,6 +39,18 @@ use Rattle.c_layout.specs.Layout.{numberOf, numberBytes, expectedOf, exp
 use Rattle.c_layout.specs.Answers.{statusBytes, verdictBytes}
 use Rattle.c_layout.specs.Calls.{initialBytes, receivedLeft, ranLeft, receiveLeaves, runLeaves}
 use Rattle.c_layout.specs.Calls.{receivedForLeft, ranForLeft, fedLeft, receiveForLeaves, runForLeaves, feedLeaves}
+
+-- lent bytes: each below 256, as their type has them
+abbrev pub Bytes : List ℕ → Type 0
+Bytes bytes = (i : ℕ) → byteAt bytes i < 256
+
+-- a configuration as its type has it: the arrays' lengths, and places of 32 bits
+pub record Typed (c : Configuration) : Type 0 where
+  pub buffer-length : length (c .buffer) ≡ maxCapacity
+  pub places-length : length (c .places) ≡ maxCapacity
+  pub places-low : (i : ℕ) → inputNumber (getD (c .places) i (inputPlace 0)) < 2 ^ 32
+  pub received-low : inputNumber (c .received) < 2 ^ 32
+  pub emitted-low : outputNumber (c .emitted) < 2 ^ 32
 
 -- What stands at each offset, in the header's words.
 
@@ -46,6 +62,11 @@ YesOrNo b byte = (b ≡ true → byte ≡ 1) × (b ≡ false → byte ≡ 0)
 pub record NumberAt (v place : ℕ) (bytes : List ℕ) : Type 0 where
   pub low-first : (i : ℕ) → i < numberSize → byteAt bytes (place + i) ≡ v / 256 ^ i % 256
   pub value : v < 2 ^ 64 → numberOf (part place numberSize bytes) ≡ v
+
+-- a place in the input or in the output: four bytes, low byte first
+pub record PlaceAt (v place : ℕ) (bytes : List ℕ) : Type 0 where
+  pub low-first : (i : ℕ) → i < placeSize → byteAt bytes (place + i) ≡ v / 256 ^ i % 256
+  pub value : v < 2 ^ 32 → numberOf (part place placeSize bytes) ≡ v
 
 pub record AutomatonIn (a : Automaton) (bytes : List ℕ) : Type 0 where
   pub size : length bytes ≡ automatonSize
@@ -62,16 +83,22 @@ pub record ConfigurationIn (c : Configuration) (bytes : List ℕ) : Type 0 where
   pub state : byteAt bytes configurationState ≡ c .state
   pub held : byteAt bytes configurationHeld ≡ c .held
   pub buffer : (i : ℕ) → i < maxCapacity → byteAt bytes (configurationBuffer + i) ≡ getD (c .buffer) i 0
+  pub places : (i : ℕ) → i < maxCapacity
+      → PlaceAt (inputNumber (getD (c .places) i (inputPlace 0))) (configurationPlaces + i * placeSize) bytes
+  pub received : PlaceAt (inputNumber (c .received)) configurationReceived bytes
+  pub emitted : PlaceAt (outputNumber (c .emitted)) configurationEmitted bytes
 
 pub record StatusIn (s : Status) (bytes : List ℕ) : Type 0 where
   pub size : length bytes ≡ statusSize
   pub winning : YesOrNo (s .winning) (byteAt bytes 0)
 
-pub record ReceivedIn (symbols : List ℕ) (many : ℕ) (wins : Bool) (bytes : List ℕ) : Type 0 where
+pub record ReceivedIn (symbols : List ℕ) (many : ℕ) (wins : Bool) (from : List InputPlace) (bytes : List ℕ) : Type 0 where
   pub size : length bytes ≡ receivedSize
   pub emitted : (i : ℕ) → i < maxEmitted → byteAt bytes (receivedEmitted + i) ≡ getD symbols i 0
   pub count : byteAt bytes receivedCount ≡ many
   pub winning : YesOrNo wins (byteAt bytes receivedWinning)
+  pub places : (i : ℕ) → i < maxEmitted
+      → PlaceAt (inputNumber (getD from i (inputPlace 0))) (receivedPlaces + i * placeSize) bytes
 
 pub record RanIn (bytes-written events-refused : ℕ) (bytes : List ℕ) : Type 0 where
   pub size : length bytes ≡ ranSize
@@ -84,6 +111,8 @@ pub record FedIn (r : Fed) (bytes : List ℕ) : Type 0 where
   pub emitted : (i : ℕ) → i < maxEmitted → byteAt bytes (receivedEmitted + i) ≡ getD (r .answer .emitted) i 0
   pub count : byteAt bytes receivedCount ≡ r .answer .count
   pub winning : YesOrNo (r .answer .winning) (byteAt bytes receivedWinning)
+  pub places : (i : ℕ) → i < maxEmitted
+      → PlaceAt (inputNumber (getD (r .answer .places) i (inputPlace 0))) (receivedPlaces + i * placeSize) bytes
   pub loss : NumberAt (r .loss) fedLoss bytes
   pub place : NumberAt (r .place) fedPlace bytes
 
@@ -103,20 +132,23 @@ pub record VerdictIn (v : Verdict) (bytes : List ℕ) : Type 0 where
 pub record OffsetsHold : Type 0 where
   pub automaton : (a : Automaton) → shaped a ≡ true → AutomatonIn a (automatonBytes a)
   pub automaton-out : (bytes : List ℕ) → length bytes ≡ automatonSize → AutomatonIn (automatonOf bytes) bytes
-  pub configuration : (c : Configuration) → length (c .buffer) ≡ maxCapacity → ConfigurationIn c (configurationBytes c)
-  pub configuration-out : (bytes : List ℕ) → length bytes ≡ configurationSize → ConfigurationIn (configurationOf bytes) bytes
+  pub configuration : (c : Configuration) → length (c .buffer) ≡ maxCapacity → length (c .places) ≡ maxCapacity
+      → ConfigurationIn c (configurationBytes c)
+  pub configuration-out : (bytes : List ℕ) → length bytes ≡ configurationSize → Bytes bytes
+      → ConfigurationIn (configurationOf bytes) bytes
   pub number : (v : ℕ) → (length (numberBytes numberSize v) ≡ numberSize) × NumberAt v 0 (numberBytes numberSize v)
   pub status : (s : Status) → StatusIn s (statusBytes s)
-  pub received : (r : Received) → length (r .emitted) ≡ maxEmitted
-      → ReceivedIn (r .emitted) (r .count) (r .winning) (receivedLeft r .answer)
+  pub received : (r : Received) → length (r .emitted) ≡ maxEmitted → length (r .places) ≡ maxEmitted
+      → ReceivedIn (r .emitted) (r .count) (r .winning) (r .places) (receivedLeft r .answer)
   pub received-for : (r : ReceivedFor) (cs : List Configuration) → length (r .emitted) ≡ maxEmitted
-      → ReceivedIn (r .emitted) (r .count) (r .winning) (receivedForLeft r cs .answer)
+      → length (r .places) ≡ maxEmitted
+      → ReceivedIn (r .emitted) (r .count) (r .winning) (r .places) (receivedForLeft r cs .answer)
   pub ran : (r : Ran) (out : List ℕ) → RanIn (r .length) (r .refused) (ranLeft r out .answer)
   pub ran-for : (r : RanFor) (cs : List Configuration) (out : List ℕ)
       → RanIn (r .length) (r .refused) (ranForLeft r cs out .answer)
   pub expected : (bytes : List ℕ) → length bytes ≡ expectedSize → ExpectedIn bytes
   pub fed : (r : Fed) (cs : List Configuration) (lent : List ℕ) → length (r .answer .emitted) ≡ maxEmitted
-      → FedIn r (fedLeft r cs lent .answer)
+      → length (r .answer .places) ≡ maxEmitted → FedIn r (fedLeft r cs lent .answer)
   pub verdict : (v : Verdict) → VerdictIn v (verdictBytes v)
 
 -- a record comes back from its bytes, and its bytes from it
@@ -128,10 +160,11 @@ AutomatonBytesKept = (bytes : List ℕ) → length bytes ≡ automatonSize → a
 
 -- so does a configuration
 abbrev pub ConfigurationKept : Type 0
-ConfigurationKept = (c : Configuration) → length (c .buffer) ≡ maxCapacity → configurationOf (configurationBytes c) ≡ c
+ConfigurationKept = (c : Configuration) → Typed c → configurationOf (configurationBytes c) ≡ c
 
 abbrev pub ConfigurationBytesKept : Type 0
-ConfigurationBytesKept = (bytes : List ℕ) → length bytes ≡ configurationSize → configurationBytes (configurationOf bytes) ≡ bytes
+ConfigurationBytesKept =
+    (bytes : List ℕ) → length bytes ≡ configurationSize → Bytes bytes → configurationBytes (configurationOf bytes) ≡ bytes
 
 -- so does an expected serial, whatever the bytes were that it is laid into; bytes that say it
 -- already stay, and else none is three zeros
@@ -165,7 +198,7 @@ pub record LeftForAsAnswered (record-bytes t : List ℕ) (cs : List Configuratio
   pub event-list : (i e : ℕ) → receiveForLeaves record-bytes t cs i e .configurations
       ≡ receivedClients (automatonOf record-bytes) t cs i e
   pub event-answer : (i e : ℕ) → let r = receivedFor (automatonOf record-bytes) t cs i e in
-      ReceivedIn (r .emitted) (r .count) (r .winning) (receiveForLeaves record-bytes t cs i e .answer)
+      ReceivedIn (r .emitted) (r .count) (r .winning) (r .places) (receiveForLeaves record-bytes t cs i e .answer)
   pub run-refusal : (vs out : List ℕ) → runForLeaves record-bytes t cs vs out .refusal
       ≡ runForRefusal (automatonOf record-bytes) t cs vs out
   pub run-list : (vs out : List ℕ) → runForLeaves record-bytes t cs vs out .configurations
@@ -221,14 +254,14 @@ RefusedInitialKeeps =
 
 abbrev pub RefusedEventKeeps : Type 0
 RefusedEventKeeps =
-    (record-bytes t c : List ℕ) (e : ℕ) → length c ≡ configurationSize
+    (record-bytes t c : List ℕ) (e : ℕ) → length c ≡ configurationSize → Bytes c
     → (received (automatonOf record-bytes) t (configurationOf c) e .refusal ≡ 0 → ⊥)
     → let x = receiveLeaves record-bytes t c e in
     (x .configuration ≡ c) × (x .answer ≡ replicate receivedSize 0)
 
 abbrev pub RefusedRunKeeps : Type 0
 RefusedRunKeeps =
-    (record-bytes t c events out : List ℕ) → length c ≡ configurationSize
+    (record-bytes t c events out : List ℕ) → length c ≡ configurationSize → Bytes c
     → (ran (automatonOf record-bytes) t (configurationOf c) events out .refusal ≡ 0 → ⊥)
     → let x = runLeaves record-bytes t c events out in
     (x .configuration ≡ c) × (x .answer ≡ replicate ranSize 0) × (x .output ≡ out)
@@ -242,12 +275,12 @@ InitialHandedOn =
 
 abbrev pub EventHandedOn : Type 0
 EventHandedOn =
-    (record-bytes t c : List ℕ) (e : ℕ) → length c ≡ configurationSize
+    (record-bytes t c : List ℕ) (e : ℕ) → length c ≡ configurationSize → Bytes c
     → configurationOf (receiveLeaves record-bytes t c e .configuration)
     ≡ received (automatonOf record-bytes) t (configurationOf c) e .configuration
 
 abbrev pub RunHandedOn : Type 0
 RunHandedOn =
-    (record-bytes t c events out : List ℕ) → length c ≡ configurationSize
+    (record-bytes t c events out : List ℕ) → length c ≡ configurationSize → Bytes c
     → configurationOf (runLeaves record-bytes t c events out .configuration)
     ≡ ran (automatonOf record-bytes) t (configurationOf c) events out .configuration

@@ -1,17 +1,19 @@
 -- How the record, the configuration and numbers lie in the bytes that a caller lends.
 use Prim.Native.Nat.{ℕ, zero, suc, _+_, _*_, _/_, _%_}
-use mathlib.Core.List.{List, [], _∷_, _++_}
+use mathlib.Core.List.{List, [], _∷_, _++_, map}
 use mathlib.Core.Bool.{Bool, true, false, cond}
 use lib.ListN.{getD, take, drop}
 use lib.Dec.{eqb}
 use Rattle.automaton.specs.declared.Automaton.{Automaton}
+use Rattle.configuration_places.specs.Places.{inputPlace, inputNumber, outputPlace, outputNumber}
 use Rattle.configuration.specs.declared.Configuration.{Configuration}
 use Rattle.feed_record.specs.declared.Expected.{Expected}
 use Rattle.feed_record.specs.declared.Expected.the-variants.{Any, Serial}
 use Rattle.c_layout.specs.Offsets.{maxStates, maxSymbols, maxNext, maxCapacity}
 use Rattle.c_layout.specs.Offsets.{automatonStates, automatonSymbols, automatonCapacity, automatonInitial}
 use Rattle.c_layout.specs.Offsets.{automatonClasses, automatonAccepting, automatonNext}
-use Rattle.c_layout.specs.Offsets.{configurationState, configurationHeld, configurationBuffer}
+use Rattle.c_layout.specs.Offsets.{placeSize, configurationState, configurationHeld, configurationBuffer}
+use Rattle.c_layout.specs.Offsets.{configurationPlaces, configurationReceived, configurationEmitted}
 use Rattle.c_layout.specs.Offsets.{expectedKnown, expectedSerial}
 
 -- the byte at a place
@@ -39,19 +41,6 @@ automatonOf bytes =
       next = part automatonNext maxNext bytes;
     }
 
--- the configuration (document 01's carried state): the state, how many are held, the places of the
--- buffer
-unfoldable pub configurationBytes : Configuration → List ℕ
-configurationBytes c = (c .state ∷ c .held ∷ []) ++ c .buffer
-
-unfoldable pub configurationOf : List ℕ → Configuration
-configurationOf bytes =
-    record {
-      state = byteAt bytes configurationState;
-      held = byteAt bytes configurationHeld;
-      buffer = part configurationBuffer maxCapacity bytes;
-    }
-
 -- a number in `width` bytes, low byte first
 unfoldable pub numberBytes : ℕ → ℕ → List ℕ
 numberBytes zero v = []
@@ -60,6 +49,35 @@ numberBytes (suc width) v = v % 256 ∷ numberBytes width (v / 256)
 unfoldable pub numberOf : List ℕ → ℕ
 numberOf [] = 0
 numberOf (b ∷ bytes) = b + 256 * numberOf bytes
+
+-- numbers of places, one after the other; and `count` of them from a place of the bytes on
+unfoldable pub placesBytes : List ℕ → List ℕ
+placesBytes [] = []
+placesBytes (n ∷ ns) = numberBytes placeSize n ++ placesBytes ns
+
+unfoldable pub placesOf : ℕ → ℕ → List ℕ → List ℕ
+placesOf zero at bytes = []
+placesOf (suc count) at bytes = numberOf (part at placeSize bytes) ∷ placesOf count (at + placeSize) bytes
+
+-- the configuration (document 01's carried state): the state, how many are held, the places of the
+-- buffer; the place in the input of each, and the input and the output count
+unfoldable pub configurationBytes : Configuration → List ℕ
+configurationBytes c =
+    (c .state ∷ c .held ∷ []) ++
+    (c .buffer ++
+    (placesBytes (map inputNumber (c .places)) ++
+    (numberBytes placeSize (inputNumber (c .received)) ++ numberBytes placeSize (outputNumber (c .emitted)))))
+
+unfoldable pub configurationOf : List ℕ → Configuration
+configurationOf bytes =
+    record {
+      state = byteAt bytes configurationState;
+      held = byteAt bytes configurationHeld;
+      buffer = part configurationBuffer maxCapacity bytes;
+      places = map inputPlace (placesOf maxCapacity configurationPlaces bytes);
+      received = inputPlace (numberOf (part configurationReceived placeSize bytes));
+      emitted = outputPlace (numberOf (part configurationEmitted placeSize bytes));
+    }
 
 -- The expected serial of a feed: 0 where none is expected, whatever stands behind it; any other
 -- number where one is, in two bytes, low byte first.

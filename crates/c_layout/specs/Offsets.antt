@@ -36,12 +36,16 @@ automatonAccepting = 20
 abbrev pub automatonNext : ℕ
 automatonNext = 52
 
+-- a place in the input or in the output: a number of 32 bits
+abbrev pub placeSize : ℕ
+placeSize = 4
+
 -- the configuration; its buffer has this many places
 abbrev pub maxCapacity : ℕ
 maxCapacity = 6
 
 abbrev pub configurationSize : ℕ
-configurationSize = 8
+configurationSize = 40
 
 abbrev pub configurationState : ℕ
 configurationState = 0
@@ -51,6 +55,15 @@ configurationHeld = 1
 
 abbrev pub configurationBuffer : ℕ
 configurationBuffer = 2
+
+abbrev pub configurationPlaces : ℕ
+configurationPlaces = 8
+
+abbrev pub configurationReceived : ℕ
+configurationReceived = 32
+
+abbrev pub configurationEmitted : ℕ
+configurationEmitted = 36
 
 -- a number
 abbrev pub numberSize : ℕ
@@ -65,7 +78,7 @@ abbrev pub maxEmitted : ℕ
 maxEmitted = 7
 
 abbrev pub receivedSize : ℕ
-receivedSize = 9
+receivedSize = 37
 
 abbrev pub receivedEmitted : ℕ
 receivedEmitted = 0
@@ -75,6 +88,9 @@ receivedCount = 7
 
 abbrev pub receivedWinning : ℕ
 receivedWinning = 8
+
+abbrev pub receivedPlaces : ℕ
+receivedPlaces = 9
 
 -- of `jaxhophasi_run` and `jaxhophasi_run_for`
 abbrev pub ranSize : ℕ
@@ -98,13 +114,13 @@ expectedSerial = 1
 
 -- of `jaxhophasi_feed`: behind the bytes of `jaxhophasi_receive_for`, two numbers
 abbrev pub fedSize : ℕ
-fedSize = 25
+fedSize = 53
 
 abbrev pub fedLoss : ℕ
-fedLoss = 9
+fedLoss = 37
 
 abbrev pub fedPlace : ℕ
-fedPlace = 17
+fedPlace = 45
 
 -- of `jaxhophasi_judge`
 abbrev pub verdictSize : ℕ

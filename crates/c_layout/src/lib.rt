@@ -30,7 +30,9 @@ pub const AUTOMATON_ACCEPTING: usize = 20;
 
 pub const AUTOMATON_NEXT: usize = 52;
 
-pub const CONFIGURATION_SIZE: usize = 8;
+pub const PLACE_SIZE: usize = 4;
+
+pub const CONFIGURATION_SIZE: usize = 40;
 
 pub const CONFIGURATION_STATE: usize = 0;
 
@@ -38,17 +40,25 @@ pub const CONFIGURATION_HELD: usize = 1;
 
 pub const CONFIGURATION_BUFFER: usize = 2;
 
+pub const CONFIGURATION_PLACES: usize = 8;
+
+pub const CONFIGURATION_RECEIVED: usize = 32;
+
+pub const CONFIGURATION_EMITTED: usize = 36;
+
 pub const NUMBER_SIZE: usize = 8;
 
 pub const STATUS_SIZE: usize = 1;
 
-pub const RECEIVED_SIZE: usize = 9;
+pub const RECEIVED_SIZE: usize = 37;
 
 pub const RECEIVED_EMITTED: usize = 0;
 
 pub const RECEIVED_COUNT: usize = 7;
 
 pub const RECEIVED_WINNING: usize = 8;
+
+pub const RECEIVED_PLACES: usize = 9;
 
 pub const RAN_SIZE: usize = 16;
 
@@ -62,10 +72,10 @@ pub const EXPECTED_KNOWN: usize = 0;
 
 pub const EXPECTED_SERIAL: usize = 1;
 
-pub const FED_SIZE: usize = 25;
+pub const FED_SIZE: usize = 53;
 
-pub const FED_LOSS: usize = 9;
+pub const FED_LOSS: usize = 37;
 
-pub const FED_PLACE: usize = 17;
+pub const FED_PLACE: usize = 45;
 
 pub const VERDICT_SIZE: usize = 2;

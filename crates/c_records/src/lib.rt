@@ -12,7 +12,10 @@ use c_layout::AUTOMATON_SIZE;
 use c_layout::AUTOMATON_STATES;
 use c_layout::AUTOMATON_SYMBOLS;
 use c_layout::CONFIGURATION_BUFFER;
+use c_layout::CONFIGURATION_EMITTED;
 use c_layout::CONFIGURATION_HELD;
+use c_layout::CONFIGURATION_PLACES;
+use c_layout::CONFIGURATION_RECEIVED;
 use c_layout::CONFIGURATION_SIZE;
 use c_layout::CONFIGURATION_STATE;
 use c_layout::EXPECTED_KNOWN;
@@ -22,7 +25,15 @@ use c_layout::MAX_CAPACITY;
 use c_layout::MAX_NEXT;
 use c_layout::MAX_STATES;
 use c_layout::MAX_SYMBOLS;
+use c_layout::PLACE_SIZE;
+use c_places::HELD_SIZE;
+use c_places::held_bytes;
+use c_places::held_places;
+use c_places::place_at;
+use c_places::place_bytes;
 use configuration::Configuration;
+use configuration_places::InputPlace;
+use configuration_places::OutputPlace;
 use feed_record::Expected;
 ghost use mathlib.Core.Path.{_≡_};
 ghost use Rattle.c_layout.specs.Layout.{automatonOf, automatonBytes, configurationOf, configurationBytes};
@@ -67,10 +78,14 @@ pub fn configuration_of(bytes: &[u8; CONFIGURATION_SIZE]) -> Configuration
 {
     let mut buffer = [0u8; MAX_CAPACITY];
     copy(bytes, CONFIGURATION_BUFFER, MAX_CAPACITY, &mut buffer, 0);
+    let places = held_places(bytes);
     Configuration {
         state: bytes[CONFIGURATION_STATE],
         held: bytes[CONFIGURATION_HELD],
         buffer,
+        places,
+        received: InputPlace(place_at(bytes, CONFIGURATION_RECEIVED)),
+        emitted: OutputPlace(place_at(bytes, CONFIGURATION_EMITTED)),
     }
 }
 
@@ -81,6 +96,12 @@ pub fn configuration_bytes(c: Configuration) -> [u8; CONFIGURATION_SIZE]
     bytes[CONFIGURATION_STATE] = c.state;
     bytes[CONFIGURATION_HELD] = c.held;
     copy(&c.buffer, 0, MAX_CAPACITY, &mut bytes, CONFIGURATION_BUFFER);
+    let places = held_bytes(c.places);
+    copy(&places, 0, HELD_SIZE, &mut bytes, CONFIGURATION_PLACES);
+    let received = place_bytes(c.received.0);
+    copy(&received, 0, PLACE_SIZE, &mut bytes, CONFIGURATION_RECEIVED);
+    let emitted = place_bytes(c.emitted.0);
+    copy(&emitted, 0, PLACE_SIZE, &mut bytes, CONFIGURATION_EMITTED);
     bytes
 }
 

@@ -19,7 +19,8 @@ use Rattle.clients_answers.specs.Clients.{none, listRefusal, clientRows, receiv
 use Rattle.clients_answers.proofs.Refusals.{list-passes, list-clear, list-stands, clear-opened}
 use Rattle.clients_answers.proofs.Worded.{client-rows-as-worded}
 use Rattle.clients_answers.proofs.Kept.{event-refused}
-use Rattle.clients_answers.proofs.Single.{same-next, events-alone}
+use Rattle.monitor_answers.proofs.Eventwise.{same-next}
+use Rattle.clients_answers.proofs.Single.{events-alone}
 use Rattle.clients_entry.specs.Entries.{presentOf, absentOf}
 
 module _ (a : Automaton) (t : List ℕ) (cs : List Configuration) (i e : ℕ) where

@@ -22,7 +22,7 @@ use Rattle.clients_answers.proofs.Worded.{client-rows-as-worded}
 module _ (a : Automaton) (t : List ℕ) where
   -- one event inside a day is the call for it
   absent-answer : (cs : List Configuration) (i e : ℕ) → receiveForRefusal a t cs i e ≡ 19
-      → outcomeOf (receivedFor a t cs i e) ≡ record { refusal = 19; emitted = [] }
+      → outcomeOf (receivedFor a t cs i e) ≡ record { refusal = 19; emitted = []; sources = [] }
   unfolding receivedFor
   absent-answer cs i e h = rw h
 

@@ -14,7 +14,7 @@ use Rattle.configuration.specs.declared.Configuration.{Configuration}
 use Rattle.configuration.specs.Configuration.{Position, heldEvents, positionOf, configuration, consistent}
 use Rattle.monitor_rule.specs.Step.{byTable, advance}
 use Rattle.monitor_rule.proofs.Effects.{effect-length}
-use Rattle.monitor_answers.specs.Turns.{turnRefusal, turnEmitted, turnNext}
+use Rattle.monitor_answers.specs.Turns.{turnRefusal, turnEmitted, turnSources, turnNext}
 use Rattle.monitor_answers.proofs.Turns.{turn-stands, turn-unmoved, turn-silent, turn-emits, turn-moves}
 use Rattle.clients_answers.specs.Listed.{outcome, changed, outcomes, changedBy}
 use Rattle.clients_answers.specs.Clients.{none, named, monitored, emittedOf, heldIn, heldInAll}
@@ -31,10 +31,10 @@ named-length (v ∷ vs) = ap suc (named-length vs)
 module _ (a : Automaton) (t : List ℕ) where
   -- an event inside a day: of a client that is there, and of none
   pub outcome-in : (cs : List Configuration) (i e : ℕ) → i < length cs
-      → let c = getD cs i none in outcome (monitored a t) cs i e ≡ record { refusal = turnRefusal a t c e; emitted = turnEmitted a t c e }
+      → let c = getD cs i none in outcome (monitored a t) cs i e ≡ record { refusal = turnRefusal a t c e; emitted = turnEmitted a t c e; sources = turnSources a t c e }
   outcome-in cs i e l = outcome-own (monitored a t) cs i e l
 
-  pub outcome-beyond : (cs : List Configuration) (i e : ℕ) → length cs ≤ i → outcome (monitored a t) cs i e ≡ record { refusal = 19; emitted = [] }
+  pub outcome-beyond : (cs : List Configuration) (i e : ℕ) → length cs ≤ i → outcome (monitored a t) cs i e ≡ record { refusal = 19; emitted = []; sources = [] }
   unfolding outcome
   outcome-beyond cs i e l = rw (le-ltb i (length cs) l)
 

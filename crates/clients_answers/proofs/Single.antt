@@ -1,23 +1,26 @@
 -- One event for a client is the call on its configuration alone.
 use Prim.Native.Nat.{ℕ, _<_}
 use mathlib.Core.Path.{_≡_, refl, sym, _∙_, ap}
-use mathlib.Core.List.{List}
+use mathlib.Core.List.{List, map}
 use native.Mathlib.Omega.{arith}
 use lib.ListN.{length, getD, take}
 use lib.Dec.{eqb}
 use borrow.Author.Tests.{eqb-true, eqb-false, lt-ltb}
 use Rattle.base.specs.Rows.{first}
+use Rattle.base.specs.Pad.{pad}
 use Rattle.base.proofs.Bools.{by}
 use Rattle.base.proofs.Padding.{take-pad, zeros-used}
 use Rattle.automaton.specs.declared.Automaton.{Automaton}
+use Rattle.configuration_places.specs.Places.{inputNumber}
+use Rattle.configuration_places.proofs.Facts.{numbers-places}
 use Rattle.configuration.specs.declared.Configuration.{Configuration}
-use Rattle.configuration.specs.Configuration.{Position, positionOf, configuration}
-use Rattle.configuration.proofs.Facts.{position-made}
-use Rattle.monitor_rule.specs.Step.{byTable, effectFrom, advance}
+use Rattle.configuration.specs.Configuration.{Position, heldEvents, positionOf, configuration}
+use Rattle.monitor_rule.specs.Step.{byTable, effectFrom, sources, advance}
 use Rattle.monitor_answers.specs.Answers.{isWinning, received}
-use Rattle.monitor_answers.specs.Turns.{turnRefusal, turnEmitted, turnNext}
-use Rattle.monitor_answers.proofs.Turns.{Opened, receive-turns, turn-emits, turn-moves}
+use Rattle.monitor_answers.specs.Turns.{turnRefusal, turnEmitted, turnSources, turnNext}
+use Rattle.monitor_answers.proofs.Turns.{Opened, receive-turns, turn-emits, turn-traces, turn-moves}
 use Rattle.monitor_answers.proofs.Accepted.{emitted-padded}
+use Rattle.monitor_answers.proofs.Eventwise.{same-row, same-emitted, same-sources, same-next}
 use Rattle.clients_answers.specs.Listed.{changedBy}
 use Rattle.clients_answers.specs.Clients.{none, monitored, clientRows, receiveForRefusal, receivedFor, answerOf, receivedClients}
 use Rattle.clients_answers.specs.Claims.{ListClear, EventsAlone, ClientsEmittedPadded}
@@ -29,29 +32,10 @@ use Rattle.clients_answers.proofs.Kept.{event-refused}
 
 -- the configuration of a position is winning where the position is
 pub winning-made : (a : Automaton) (t : List ℕ) (p : Position) → isWinning a t (configuration p) ≡ byTable a t (p .buffer) (p .state)
-unfolding isWinning
-winning-made a t p = ap (λ (q : Position). byTable a t (q .buffer) (q .state)) (position-made p)
+unfolding isWinning heldEvents
+winning-made a t p = ap (λ w. byTable a t w (p .state)) (take-pad 6 (p .buffer))
 
 module _ (a : Automaton) (t : List ℕ) (o : Opened a t) where
-  pub same-next : (c : Configuration) (e : ℕ) → turnNext a t c e ≡ received a t c e .configuration
-  unfolding turnNext received
-  same-next c e = by (eqb (turnRefusal a t c e) 0) (λ h. rw (receive-turns a t c e o, h)) (λ h. rw (receive-turns a t c e o, h))
-
-  pub same-row : (c : Configuration) (e : ℕ) → turnRefusal a t c e ≡ received a t c e .refusal
-  unfolding received
-  same-row c e =
-      let n = turnRefusal a t c e in
-      by (eqb n 0)
-      (λ h. rw (receive-turns a t c e o, h) (eqb-true n 0 h))
-      (λ h. rw (receive-turns a t c e o, h))
-
-  pub same-emitted : (c : Configuration) (e : ℕ) → turnEmitted a t c e ≡ take (received a t c e .count) (received a t c e .emitted)
-  unfolding turnEmitted received
-  same-emitted c e =
-      by (eqb (turnRefusal a t c e) 0)
-      (λ h. rw (receive-turns a t c e o, h) (sym (take-pad 7 (effectFrom (byTable a t) a (positionOf c) e .emitted))))
-      (λ h. rw (receive-turns a t c e o, h))
-
   same-answer : (cs : List Configuration) (i e : ℕ) → receiveForRefusal a t cs i e ≡ turnRefusal a t (getD cs i none) e
       → receivedFor a t cs i e ≡ answerOf (received a t (getD cs i none) e)
   unfolding receivedFor received
@@ -62,7 +46,7 @@ module _ (a : Automaton) (t : List ℕ) (o : Opened a t) where
       (λ k.
       let z = eqb-true n 0 k in
       let wins = winning-made a t (advance (byTable a t) a (positionOf c) e) in
-      rw (h, receive-turns a t c e o, k, turn-emits a t c e z, turn-moves a t c e z, wins))
+      rw (h, receive-turns a t c e o, k, turn-emits a t c e z, turn-traces a t c e z, turn-moves a t c e z, wins))
       (λ k. rw (h, receive-turns a t c e o, k))
 
 -- its row is that of its configuration alone
@@ -79,7 +63,9 @@ events-alone a t cs k i e l =
     record {
       answer = same-answer a t o cs i e (own-row a t cs k i e l);
       next = rw (clear-list a t (length cs) k) (changed-own (monitored a t) cs i e l ∙ same-next a t o c e);
-      inside = outcome-in a t cs i e l ∙ (λ j. record { refusal = same-row a t o c e j; emitted = same-emitted a t o c e j });
+      inside =
+          outcome-in a t cs i e l ∙
+          (λ j. record { refusal = same-row a t o c e j; emitted = same-emitted a t o c e j; sources = same-sources a t o c e j });
     }
 
 pub clients-emitted-padded : ClientsEmittedPadded
@@ -89,4 +75,4 @@ clients-emitted-padded a t cs i e =
     (λ h.
     let k = client-rows-as-worded a t cs .event i e .accepted .0 (eqb-true n 0 h) in
     rw (events-alone a t cs (k .0) i e (k .1) .answer) (emitted-padded a t (getD cs i none) e))
-    (λ h. rw (event-refused a t cs n (eqb-false n 0 h) i e refl .0) (omega arith, zeros-used 7))
+    (λ h. rw (event-refused a t cs n (eqb-false n 0 h) i e refl .0) (omega arith, zeros-used 7, zeros-used 7))

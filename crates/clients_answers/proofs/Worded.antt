@@ -14,6 +14,7 @@ use Rattle.base.proofs.Refusals.{first-stands, first-passes, first-never, first
 use Rattle.automaton.specs.declared.Automaton.{Automaton}
 use Rattle.automaton.specs.Automaton.{valid}
 use Rattle.automaton.proofs.Facts.{valid-facts}
+use Rattle.configuration_places.specs.Places.{inputNumber}
 use Rattle.configuration.specs.declared.Configuration.{Configuration}
 use Rattle.configuration.specs.Configuration.{positionOf, consistent}
 use Rattle.configuration.proofs.Facts.{consistent-facts}
@@ -28,7 +29,7 @@ use Rattle.clients_answers.specs.Listed.{outcome}
 use Rattle.clients_answers.specs.Clients.{none, monitored, listRows, clientRows, heldIn, heldInAll}
 use Rattle.clients_answers.specs.Clients.{receiveForRefusal, receivedFor, roomRows, runForRefusal, ranFor}
 use Rattle.clients_answers.specs.Claims.{ClientRows, sumBelow, holds, ClientRowsAsWorded}
-use Rattle.clients_answers.proofs.Refusals.{Inner, inner-later, list-later, list-rows}
+use Rattle.clients_answers.proofs.Refusals.{Inner, inner-later, inner-between, inner-beyond, list-later, list-rows}
 
 -- the sum from the front
 sum-front : (n : ℕ) (f : ℕ → ℕ) → sumBelow (suc n) f ≡ f 0 + sumBelow n (λ g. f (suc g))
@@ -68,30 +69,35 @@ module _ (a : Automaton) (t : List ℕ) (cs : List Configuration) (i e : ℕ) wh
   there-words : (absent ≡ false) ↔ (i < length cs)
   there-words = Iff·trans (contrary (ltb i (length cs)) .1) (ltb-true i (length cs), lt-ltb i (length cs))
 
-  -- the event's own number is 14, 15 or 0
-  own-number : {R : Type 0} → (own ≡ 0 → R) → (14 ≤ own → own ≤ 15 → R) → R
+  -- the event's own number is 14, 15, 23 or 0
+  own-number : {R : Type 0} → (own ≡ 0 → R) → (14 ≤ own → own ≤ 15 → R) → (own ≡ 23 → R) → R
   unfolding eventRefusal
-  own-number none some =
+  own-number without some end =
       either (event-number (byTable a t) a (positionOf c) e)
       (λ h. some (omega arith) (omega arith))
-      (λ f. either f (λ h. some (omega arith) (omega arith)) none)
+      (λ f. either f (λ h. some (omega arith) (omega arith)) (λ g. either g end without))
 
   own-other : (m : ℕ) → (m ≡ 13) ⊎ (m ≡ 19) → own ≡ m → ⊥
-  own-other m f h = either f (λ z. own-number (λ k. omega arith) (λ l k. omega arith)) (λ z. own-number (λ k. omega arith) (λ l k. omega arith))
+  own-other m f h =
+      either f
+      (λ z. own-number (λ k. omega arith) (λ l k. omega arith) (λ k. omega arith))
+      (λ z. own-number (λ k. omega arith) (λ l k. omega arith) (λ k. omega arith))
+
+  own-inner : Inner own
+  own-inner = own-number inl (λ l u. inner-between own (omega arith) (omega arith)) (λ h. inner-beyond own (omega arith))
 
   pub client-inner : Inner row
   unfolding clientRows turnRows configurationRows
   client-inner =
       by absent
-      (λ h. subst Inner (sym (first-stands 19 absent from-13 h)) (inr (omega arith, omega arith)))
+      (λ h. subst Inner (sym (first-stands 19 absent from-13 h)) (inner-between 19 (omega arith) (omega arith)))
       (λ h. subst Inner (sym (first-passes 19 absent from-13 h))
       (by broken
-      (λ k. subst Inner (sym (first-stands 13 broken _ k)) (inr (omega arith, omega arith)))
-      (λ k. subst Inner (sym (first-passes 13 broken _ k))
-      (own-number inl (λ l u. inr (omega arith, omega arith))))))
+      (λ k. subst Inner (sym (first-stands 13 broken _ k)) (inner-between 13 (omega arith) (omega arith)))
+      (λ k. subst Inner (sym (first-passes 13 broken _ k)) own-inner)))
 
   -- its configuration's rows, in words
-  own-rows : valid a ≡ true → consistent a c ≡ true → RowsOfEvent a (c .held) e own
+  own-rows : valid a ≡ true → consistent a c ≡ true → RowsOfEvent a (c .held) (inputNumber (c .received)) e own
   unfolding eventRefusal
   own-rows v k =
       rw (consistent-facts a c (valid-facts a v) k .held-length) at (event-rows-as-worded (byTable a t) a (positionOf c) e)
@@ -111,16 +117,17 @@ module _ (a : Automaton) (t : List ℕ) (cs : List Configuration) (i e : ℕ) wh
     unfolding clientRows turnRows configurationRows
     client-rows =
         record {
-          row-19 = on _ 19 (inr (omega arith, omega arith))
+          row-19 = on _ 19 (inner-between 19 (omega arith) (omega arith))
               (λ _. first-own 19 absent from-13 absent-words there-words
               (first-never 13 broken _ 19 (λ h. omega arith) (own-other 19 (inr refl))));
           row-13 = Iff·trans
-              (on _ 13 (inr (omega arith, omega arith))
+              (on _ 13 (inner-between 13 (omega arith) (omega arith))
               (λ _. first-later 19 absent from-13 absent-words there-words 13 (λ h. omega arith)
               (λ _. first-own 13 broken _ (contrary (consistent a c) .0) (contrary (consistent a c) .1) (own-other 13 (inl refl)))))
               (λ (p, (b, d)). (p, b, d), λ (p, b, d). (p, (b, d)));
-          row-14 = of-own 14 (inr (omega arith, omega arith)) (λ h. omega arith) (λ h. omega arith) (λ p k. own-rows (v p) k .row-14);
-          row-15 = of-own 15 (inr (omega arith, omega arith)) (λ h. omega arith) (λ h. omega arith) (λ p k. own-rows (v p) k .row-15);
+          row-14 = of-own 14 (inner-between 14 (omega arith) (omega arith)) (λ h. omega arith) (λ h. omega arith) (λ p k. own-rows (v p) k .row-14);
+          row-15 = of-own 15 (inner-between 15 (omega arith) (omega arith)) (λ h. omega arith) (λ h. omega arith) (λ p k. own-rows (v p) k .row-15);
+          row-23 = of-own 23 (inner-beyond 23 (omega arith)) (λ h. omega arith) (λ h. omega arith) (λ p k. own-rows (v p) k .row-23);
           accepted = of-own 0 (inl refl) (λ h. omega arith) (λ h. omega arith) (λ p k. own-rows (v p) k .accepted);
         }
 
@@ -150,7 +157,7 @@ module _ (a : Automaton) (cs : List Configuration) (vs out : List ℕ) where
   room-0 h = rw h
 
   day-inner : Inner (first rows)
-  day-inner = by lacking (λ h. let z = room-16 h in inr (omega arith, omega arith)) (λ h. inl (room-0 h))
+  day-inner = by lacking (λ h. let z = room-16 h in inner-between (first rows) (omega arith) (omega arith)) (λ h. inl (room-0 h))
 
   day-row : RowOfRun (length out) vs (holds a cs) (first rows)
   day-row =
@@ -168,7 +175,7 @@ client-rows-as-worded a t cs =
           client-rows a t cs i e (first (listRows a t count ++ rows)) (λ Z k l. list-later a t count rows k (inner-later k l)) (λ k. k .record-valid);
       answered = answered-row a t cs;
       day-first = λ vs out. list-rows a t count (roomRows a cs vs out) (inner-later _ (day-inner a cs vs out));
-      row-16 = λ vs out. list-later a t count (roomRows a cs vs out) 16 (inner-later 16 (inr (omega arith, omega arith))) (λ _. day-row a cs vs out .row-16);
+      row-16 = λ vs out. list-later a t count (roomRows a cs vs out) 16 (inner-later 16 (inner-between 16 (omega arith) (omega arith))) (λ _. day-row a cs vs out .row-16);
       accepted = λ vs out. list-later a t count (roomRows a cs vs out) 0 (inner-later 0 (inl refl)) (λ _. day-row a cs vs out .accepted);
       day-answered = λ vs out. refl;
       inside = λ v i e.

@@ -12,9 +12,10 @@ use Rattle.base.specs.Pad.{UsedTo}
 use Rattle.automaton.specs.declared.Automaton.{Automaton}
 use Rattle.automaton.specs.Automaton.{valid}
 use Rattle.solver_sets.specs.Table.{short}
+use Rattle.configuration_places.specs.Places.{inputNumber}
 use Rattle.configuration.specs.declared.Configuration.{Configuration}
 use Rattle.configuration.specs.Configuration.{consistent}
-use Rattle.monitor_rule.specs.Claims.{Unknown, Full, Admitted}
+use Rattle.monitor_rule.specs.Claims.{Unknown, Full, CountEnded, Admitted}
 use Rattle.monitor_answers.specs.declared.Received.{Received}
 use Rattle.monitor_answers.specs.Answers.{received}
 use Rattle.clients_answers.specs.declared.ReceivedFor.{ReceivedFor}
@@ -94,13 +95,16 @@ pub record ListClear (a : Automaton) (t : List ℕ) (count : ℕ) : Type 0 where
   pub count-right : RightCount count
 
 -- The rows of an event for a client, n being the number that it gives, and P saying that no row
--- before these holds: 19, then 13 of that client's configuration alone, then 14 and 15.
+-- before these holds: 19, then 13 of that client's configuration alone, then 14, 15 and 23.
 pub record ClientRows (P : Type 0) (a : Automaton) (cs : List Configuration) (i e n : ℕ) : Type 0 where
   pub row-19 : (n ≡ 19) ↔ (P × (length cs ≤ i))
   pub row-13 : (n ≡ 13) ↔ (P × (i < length cs) × (consistent a (getD cs i none) ≡ false))
   pub row-14 : (n ≡ 14) ↔ (P × (i < length cs) × (consistent a (getD cs i none) ≡ true) × Unknown a e)
   pub row-15 : (n ≡ 15) ↔ (P × (i < length cs) × (consistent a (getD cs i none) ≡ true) × Full a (getD cs i none .held) e)
-  pub accepted : (n ≡ 0) ↔ (P × (i < length cs) × (consistent a (getD cs i none) ≡ true) × Admitted a (getD cs i none .held) e)
+  pub row-23 : let c = getD cs i none in
+      (n ≡ 23) ↔ (P × (i < length cs) × (consistent a c ≡ true) × CountEnded a (c .held) (inputNumber (c .received)) e)
+  pub accepted : let c = getD cs i none in
+      (n ≡ 0) ↔ (P × (i < length cs) × (consistent a c ≡ true) × Admitted a (c .held) (inputNumber (c .received)) e)
 
 -- the sum over the numbers below n
 unfoldable pub sumBelow : ℕ → (ℕ → ℕ) → ℕ
@@ -145,25 +149,34 @@ pub record Room (a : Automaton) (t : List ℕ) (cs : List Configuration) : Type 
 abbrev pub RoomSuffices : Type 0
 RoomSuffices = (a : Automaton) (t : List ℕ) (cs : List Configuration) → Room a t cs
 
+-- what an answer tells of its event: the row, what was emitted, and the places of that
+abbrev pub outcomeOf : ReceivedFor → Outcome
+outcomeOf r =
+    record {
+      refusal = r .refusal;
+      emitted = take (r .count) (r .emitted);
+      sources = take (r .count) (map inputNumber (r .places));
+    }
+
 -- One event for a client is the call on its configuration alone: the same answer, and the
 -- configuration handed back lies in the list; and inside a day it brings the same row and emits
--- the same.
+-- the same from the same places.
 pub record AsReceived (a : Automaton) (t : List ℕ) (cs : List Configuration) (i e : ℕ) (r : Received) : Type 0 where
   pub answer : receivedFor a t cs i e ≡ answerOf r
   pub next : getD (receivedClients a t cs i e) i none ≡ r .configuration
-  pub inside : outcome (monitored a t) cs i e ≡ record { refusal = r .refusal; emitted = take (r .count) (r .emitted) }
+  pub inside : outcome (monitored a t) cs i e ≡ outcomeOf (answerOf r)
 
 abbrev pub EventsAlone : Type 0
 EventsAlone =
     (a : Automaton) (t : List ℕ) (cs : List Configuration) → ListClear a t (length cs) → (i e : ℕ) → i < length cs
     → AsReceived a t cs i e (received a t (getD cs i none) e)
 
--- an event's answer, refused or not, has seven places for what is emitted; those past the count
--- hold 0
+-- an event's answer, refused or not, has seven places for what is emitted, and as many for its
+-- places in the input; those past the count hold 0
 abbrev pub ClientsEmittedPadded : Type 0
 ClientsEmittedPadded =
     (a : Automaton) (t : List ℕ) (cs : List Configuration) (i e : ℕ) → let r = receivedFor a t cs i e in
-    (r .count ≤ 7) × UsedTo 7 (r .count) (r .emitted)
+    (r .count ≤ 7) × UsedTo 7 (r .count) (r .emitted) × UsedTo 7 (r .count) (map inputNumber (r .places))
 
 -- a day's events brought one by one, by calls of their own: their answers, and the list afterwards
 unfoldable pub answers : Automaton → List ℕ → List Configuration → List (ℕ × ℕ) → List ReceivedFor
@@ -173,10 +186,6 @@ answers a t cs (x ∷ xs) = receivedFor a t cs (x .0) (x .1) ∷ answers a t (re
 unfoldable pub clientsAfter : Automaton → List ℕ → List Configuration → List (ℕ × ℕ) → List Configuration
 clientsAfter a t cs [] = cs
 clientsAfter a t cs (x ∷ xs) = clientsAfter a t (receivedClients a t cs (x .0) (x .1)) xs
-
--- what an answer tells of its event: the row, and what was emitted
-abbrev pub outcomeOf : ReceivedFor → Outcome
-outcomeOf r = record { refusal = r .refusal; emitted = take (r .count) (r .emitted) }
 
 -- what they emitted, end to end, and how many of them were refused
 unfoldable pub allEmitted : List ReceivedFor → List ℕ

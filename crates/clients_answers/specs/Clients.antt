@@ -2,17 +2,18 @@
 -- client, and a whole day of all of them. Each client's configuration lies in the lent list.
 use Prim.Native.Nat.{ℕ, _+_, _/_, _%_}
 use mathlib.Core.Bool.{Bool, false, cond, not, _&&_}
-use mathlib.Core.List.{List, [], _∷_, _++_}
+use mathlib.Core.List.{List, [], _∷_, _++_, map}
 use lib.ListN.{length, getD, drop, replicate}
 use lib.Dec.{eqb, leb, ltb}
 use Rattle.base.specs.Rows.{first}
 use Rattle.base.specs.Pad.{pad}
 use Rattle.automaton.specs.declared.Automaton.{Automaton}
+use Rattle.configuration_places.specs.Places.{inputPlace}
 use Rattle.configuration.specs.declared.Configuration.{Configuration}
 use Rattle.configuration.specs.Configuration.{emptyAt, configuration, consistent, initialOf}
 use Rattle.monitor_answers.specs.declared.Received.{Received}
 use Rattle.monitor_answers.specs.Answers.{tableRows, isWinning, tooShort}
-use Rattle.monitor_answers.specs.Turns.{turnRows, turnRefusal, turnEmitted, turnNext}
+use Rattle.monitor_answers.specs.Turns.{turnRows, turnRefusal, turnEmitted, turnSources, turnNext}
 use Rattle.clients_answers.specs.Listed.{Stepping, outcomes, changedBy}
 pub use Rattle.clients_answers.specs.declared.ReceivedFor.{ReceivedFor}
 pub use Rattle.clients_answers.specs.declared.RanFor.{RanFor}
@@ -52,24 +53,26 @@ listRows a t count = tableRows a t ++ (20, not (rightCount count)) ∷ []
 unfoldable pub listRefusal : Automaton → List ℕ → ℕ → ℕ
 listRefusal a t count = first (listRows a t count)
 
--- the rows of an event for a client: 19, no such client; then 13 to 15, of its own configuration
--- alone
+-- the rows of an event for a client: 19, no such client; then 13 to 15 and 23, of its own
+-- configuration alone
 unfoldable pub clientRows : Automaton → List ℕ → List Configuration → ℕ → ℕ → List (ℕ × Bool)
 clientRows a t cs i e = (19, not (ltb i (length cs))) ∷ turnRows a t (getD cs i none) e
 
--- what an event brings its client: the row that refuses it (0: none), and what is emitted
+-- what an event brings its client: the row that refuses it (0: none), what is emitted, and the
+-- places in the input of that
 pub record Outcome : Type 0 where
   pub refusal : ℕ
   pub emitted : List ℕ
+  pub sources : List ℕ
 
 -- the step of a client: one event for its configuration; an event for a client that is not there
 -- is refused by 19 and emits nothing
 abbrev pub monitored : Automaton → List ℕ → Stepping Configuration Outcome
 monitored a t =
     record {
-      says = λ c e. record { refusal = turnRefusal a t c e; emitted = turnEmitted a t c e };
+      says = λ c e. record { refusal = turnRefusal a t c e; emitted = turnEmitted a t c e; sources = turnSources a t c e };
       next = turnNext a t;
-      absent = record { refusal = 19; emitted = [] };
+      absent = record { refusal = 19; emitted = []; sources = [] };
       none = none;
     }
 
@@ -82,25 +85,33 @@ unfoldable pub refusedIn : List Outcome → ℕ
 refusedIn [] = 0
 refusedIn (x ∷ xs) = cond (eqb (x .refusal) 0) 0 1 + refusedIn xs
 
--- one event: rows 11, 12, 20, 19, 13, 14, 15
+-- one event: rows 11, 12, 20, 19, 13, 14, 15, 23
 unfoldable pub receiveForRefusal : Automaton → List ℕ → List Configuration → ℕ → ℕ → ℕ
 receiveForRefusal a t cs i e = first (listRows a t (length cs) ++ clientRows a t cs i e)
 
 -- a refused one
 abbrev pub refusedFor : ℕ → ReceivedFor
-refusedFor row = record { refusal = row; emitted = replicate 7 0; count = 0; winning = false }
+refusedFor row =
+    record { refusal = row; emitted = replicate 7 0; count = 0; winning = false; places = replicate 7 (inputPlace 0) }
 
 unfoldable pub receivedFor : Automaton → List ℕ → List Configuration → ℕ → ℕ → ReceivedFor
 receivedFor a t cs i e =
     let c = getD cs i none in
     let emitted = turnEmitted a t c e in
     cond (eqb (receiveForRefusal a t cs i e) 0)
-    (record { refusal = 0; emitted = pad 7 emitted; count = length emitted; winning = isWinning a t (turnNext a t c e) })
+    (record {
+      refusal = 0;
+      emitted = pad 7 emitted;
+      count = length emitted;
+      winning = isWinning a t (turnNext a t c e);
+      places = map inputPlace (pad 7 (turnSources a t c e));
+    })
     (refusedFor (receiveForRefusal a t cs i e))
 
 -- the answer of a call on a client's configuration alone as one over the list, where that lies
 abbrev pub answerOf : Received → ReceivedFor
-answerOf r = record { refusal = r .refusal; emitted = r .emitted; count = r .count; winning = r .winning }
+answerOf r =
+    record { refusal = r .refusal; emitted = r .emitted; count = r .count; winning = r .winning; places = r .places }
 
 -- the lent list afterwards
 unfoldable pub receivedClients : Automaton → List ℕ → List Configuration → ℕ → ℕ → List Configuration

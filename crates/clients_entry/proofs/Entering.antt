@@ -5,6 +5,7 @@ use mathlib.Core.Bool.{true, false, _&&_}
 use mathlib.Core.List.{List, [], _∷_}
 use native.Mathlib.Omega.{arith}
 use lib.Dec.{eqb, leb, ltb}
+use lib.ListN.{length}
 use borrow.Author.Tests.{ne-eqb, eqb-true, eqb-false, ltb-true, ltb-false, lt-ltb, le-ltb}
 use Rattle.base.specs.Rows.{first}
 use Rattle.base.proofs.Bools.{by}
@@ -15,12 +16,13 @@ use Rattle.configuration.specs.declared.Configuration.{Configuration}
 use Rattle.configuration.specs.Configuration.{consistentIn, consistent}
 use Rattle.monitor_answers.specs.Answers.{tableRows, tableRefusal, refusedEvent, received}
 use Rattle.monitor_answers.specs.declared.Turned.{Turned}
-use Rattle.monitor_answers.specs.Turns.{turnRefusal, turned}
+use Rattle.monitor_answers.specs.Turns.{turnRefusal, turnEmitted, turnNext, turned}
 use Rattle.monitor_answers.proofs.Turns.{Opened, receive-unopened}
 use Rattle.monitor_entry.specs.declared.Entry.{Entry}
 use Rattle.monitor_entry.specs.Entries.{entryOf}
 use Rattle.monitor_loop.specs.declared.Limits.{Limits}
-use Rattle.monitor_loop.specs.Lending.{Lends, Turns, Takes}
+use Rattle.monitor_loop.specs.declared.Processed.{Processed}
+use Rattle.monitor_loop.specs.Lending.{Lends, processed, Turns, Takes}
 use Rattle.clients_answers.specs.Clients.{rightCount, listRows, listRefusal, refusedFor}
 use Rattle.clients_answers.proofs.Refusals.{list-passes, list-clear, list-stands}
 use Rattle.clients_entry.specs.Entries.{ListEntry, Taken, countRow, listEntryOf, takenOf, Taking, presentOf, absentOf}
@@ -134,16 +136,17 @@ passes-over l classes next ranks t c e at row out z f r er a o s =
     (er ∙ ap (λ (x : Turned). record { configuration = x .configuration; written = x .written; refused = 1 }) (w .0) ∙ rw (ne-eqb (turnRefusal a t c e) 0 n), w .1)
 
 -- accepted, as one is that a consistent configuration meets
-pub takes-event : (l : Limits) (classes next ranks t : List ℕ) (c : Configuration) (e at : ℕ) (out : List ℕ) (d : Configuration) (written : ℕ) (out′ : List ℕ)
-    → consistentIn (l .states) (l .symbols) (l .capacity) classes c ≡ true
-    → Takes l next ranks t c e at out (record { row = 0; configuration = d; written = written }) out′
-    → Taking l classes next ranks t c e at out (record { configuration = d; written = written; refused = 0 }) out′
-unfolding takenOf turned
-takes-event l classes next ranks t c e at out d written out′ k f a o s =
+pub takes-event : (l : Limits) (classes next ranks t : List ℕ) (c : Configuration) (e at : ℕ) (out : List ℕ) (d : Configuration) (r : Processed) (out′ : List ℕ)
+    → consistentIn (l .states) (l .symbols) (l .capacity) classes c ≡ true → (s : Takes l next ranks t c e at out r out′) → r .row ≡ 0
+    → ((a : Automaton) → Lends a l next ranks t → consistent a c ≡ true → (d ≡ turnNext a t c e) × (r .written ≡ at + length (turnEmitted a t c e)))
+    → Taking l classes next ranks t c e at out (record { configuration = d; written = r .written; refused = 0 }) out′
+unfolding takenOf processed
+takes-event l classes next ranks t c e at out d r out′ k f z found a o s =
     let same : consistentIn (l .states) (l .symbols) (l .capacity) classes c ≡ consistent a c = rw (o .limits-are, s) in
     let w = f a o (sym same ∙ k) in
-    let n : turnRefusal a t c e ≡ 0 = sym (ap (λ (x : Turned). x .row) (w .0)) in
-    (ap (λ (x : Turned). record { configuration = x .configuration; written = x .written; refused = 0 }) (w .0) ∙ rw n, w .1)
+    let x = found a o (sym same ∙ k) in
+    let n : turnRefusal a t c e ≡ 0 = sym (ap (λ (x : Processed). x .row) (w .0)) ∙ z in
+    (rw (x .0, x .1, n), w .1)
 
 -- row 16: a test of a difference, and of a sum
 module _ (size events held : ℕ) where

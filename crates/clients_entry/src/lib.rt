@@ -6,10 +6,13 @@ use clients_answers::RanFor;
 use clients_answers::ReceivedFor;
 use configuration::Configuration;
 use configuration_check::consistent;
+use configuration_places::InputPlace;
 use monitor::receive_in;
 use monitor_answers::Received;
 use monitor_entry::enter;
 use monitor_loop::Limits;
+use monitor_loop::derive;
+use monitor_places::places_left;
 use monitor_step::event_row;
 use monitor_step::step;
 ghost use mathlib.Core.Path.{_≡_};
@@ -112,8 +115,8 @@ fn passed_over(c: Configuration, at: usize) -> Taken
     }
 }
 
-// One event of a day, for any configuration: rows 13 to 15, and the step of an accepted one, which
-// writes from a place on. (The step is inlined here, as it is into the loop over one
+// One event of a day, for any configuration: rows 13 to 15 and 23, and the step of an accepted
+// one, which writes from a place on. (The step is inlined here, as it is into the loop over one
 // configuration's events: with a call of `monitor_loop::turn` a day took 1.20 to 1.38 of C.)
 pub fn take<'a>(
     limits: Limits,
@@ -140,6 +143,7 @@ pub fn take<'a>(
         limits.symbols,
         as_usize(limits.capacity),
         held,
+        c.received,
         event,
     );
     if row != 0 {
@@ -158,13 +162,18 @@ pub fn take<'a>(
         out,
         at,
     );
+    let own = c.received;
+    let mut places = c.places;
+    if held < after.held {
+        places[held] = own;
+    } else if 0 < after.released {
+        let kept = places_left(places, held, own, after.released, after.held);
+        places = kept;
+    }
     let left = after.buffer;
+    let received = InputPlace(own.0 + 1);
     Taken {
-        configuration: Configuration {
-            state: after.state as u8,
-            held: after.held as u8,
-            buffer: left,
-        },
+        configuration: derive(after.state as u8, after.held as u8, left, places, received),
         written: after.written,
         refused: 0,
     }
@@ -247,6 +256,7 @@ pub fn refused(row: u8) -> ReceivedFor
         emitted: [0u8; 7],
         count: 0,
         winning: false,
+        places: [InputPlace(0); 7],
     }
 }
 
@@ -266,10 +276,12 @@ pub fn answer_of(r: Received) -> ReceivedFor
     ensures { λ x. ⌜ x ≡ answerOf r ⌝ }
 {
     let emitted = r.emitted;
+    let places = r.places;
     ReceivedFor {
         refusal: r.refusal,
         emitted,
         count: r.count,
         winning: r.winning,
+        places,
     }
 }

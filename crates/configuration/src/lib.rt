@@ -1,16 +1,24 @@
-// The configuration of a monitor: its state and the events that it holds back. (The crate
-// `configuration_check` checks row 13.)
+// The configuration of a monitor: its state, the events that it holds back with their places in
+// the input, and how many events came in and went out. (The crate `configuration_check` checks
+// row 13.)
 use automaton::Automaton;
+use configuration_places::InputPlace;
+use configuration_places::OutputPlace;
 ghost use mathlib.Core.Path.{_≡_};
 ghost use Rattle.configuration.specs.Configuration.{emptyAt, configuration, initialAnswer};
 
-// Document 01's carried state: a state, how many events are held, and those events in order;
-// unused places are 0. (`repr(C)`: a list of them crosses to C as it lies, crate `jaxhophasi`.)
+// Document 01's carried state: a state, how many events are held, those events in order and the
+// place of each in the input (unused places of both are 0); how many events were accepted, which
+// is the next one's place in the input, and how many symbols were put out. (`repr(C)`: a list of
+// them crosses to C as it lies, crate `jaxhophasi`.)
 #[repr(C)]
 pub struct Configuration {
     pub state: u8,
     pub held: u8,
     pub buffer: [u8; 6],
+    pub places: [InputPlace; 6],
+    pub received: InputPlace,
+    pub emitted: OutputPlace,
 }
 
 // What `initial` gives: the initial configuration (refusal 0), or the refusing row with zeros.
@@ -19,7 +27,7 @@ pub struct FirstConfiguration {
     pub configuration: Configuration,
 }
 
-// A state with nothing held.
+// A state with nothing held and nothing counted.
 pub fn empty(state: u8) -> Configuration
     ensures { λ r. ⌜ r ≡ configuration (emptyAt state) ⌝ }
 {
@@ -27,6 +35,9 @@ pub fn empty(state: u8) -> Configuration
         state,
         held: 0,
         buffer: [0u8; 6],
+        places: [InputPlace(0); 6],
+        received: InputPlace(0),
+        emitted: OutputPlace(0),
     }
 }
 

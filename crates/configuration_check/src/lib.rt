@@ -1,9 +1,17 @@
 // Row 13: the configuration is one of the automaton, of which only what the row reads is passed.
-// The loop is not left early.
+// The loops are not left early.
 use configuration::Configuration;
+use configuration_places::InputPlace;
+use configuration_places::OutputPlace;
 ghost use mathlib.Core.Path.{_≡_};
-ghost use lib.ListN.{getD};
+ghost use mathlib.Core.Bool.{cond, _&&_, _||_};
+ghost use mathlib.Core.List.{map};
+ghost use Prim.Native.Nat.{_+_, _-_, _<_};
+ghost use lib.Dec.{eqb, ltb};
+ghost use lib.ListN.{length, getD};
+ghost use Rattle.configuration_places.specs.Places.{inputNumber, outputNumber};
 ghost use Rattle.configuration.specs.Configuration.{controllableSymbol, placeStands, consistentIn, bufferStands};
+ghost use Rattle.configuration.specs.Configuration.{inputsStand};
 
 // The class at a place; 0 where there is none.
 fn class_at(classes: &[u8], e: usize) -> u8
@@ -48,6 +56,60 @@ fn buffer_stands<'a>(symbols: u8, classes: &'a [u8; 16], held: usize, buffer: &'
     fine
 }
 
+// Whether the place in the input of a held event lies above that of the one held before it.
+fn rises(places: [InputPlace; 6], i: usize) -> bool
+    requires { ⌜ i < 6 ⌝ }
+    ensures { λ r. let numbers = map inputNumber places in
+        ⌜ r ≡ eqb i 0 || ltb (getD numbers (i - 1) 0) (getD numbers i 0) ⌝ }
+{
+    if i == 0 {
+        return true;
+    }
+    places[i - 1].0 < places[i].0
+}
+
+// A place in the input: where it is used, above the one before it and below the input count; else
+// 0.
+fn input_stands(used: bool, rises: bool, place: InputPlace, received: InputPlace) -> bool
+    ensures { λ r. let n = inputNumber place in
+        ⌜ r ≡ cond used (rises && ltb n (inputNumber received)) (eqb n 0) ⌝ }
+{
+    if !used {
+        return place.0 == 0;
+    }
+    if !rises {
+        return false;
+    }
+    place.0 < received.0
+}
+
+// The places in the input: rising below the input count where they are used, else 0. (That there
+// are six is said for `consistent`, which has them in a struct.)
+fn inputs_stand(places: [InputPlace; 6], held: usize, received: InputPlace) -> bool
+    ensures { λ r. ⌜ (r ≡ inputsStand held (inputNumber received) (map inputNumber places)) × (length places ≡ 6) ⌝ }
+{
+    let mut fine = true;
+    let mut i: usize = 0;
+    while i < 6 {
+        if !input_stands(i < held, rises(places, i), places[i], received) {
+            fine = false;
+        }
+        i = i + 1;
+    }
+    fine
+}
+
+// The output count with the held events is the input count. (They are not added up, since the sum
+// may need more than 32 bits.)
+fn counts_fit(emitted: OutputPlace, held: u32, received: InputPlace) -> bool
+    ensures { λ r. ⌜ r ≡ eqb (outputNumber emitted + held) (inputNumber received) ⌝ }
+{
+    if received.0 < held {
+        return false;
+    }
+    received.0 - held == emitted.0
+}
+
 pub fn consistent(
     states: u8,
     symbols: u8,
@@ -63,5 +125,13 @@ pub fn consistent(
     if capacity < c.held {
         return false;
     }
-    buffer_stands(symbols, classes, base::as_usize(c.held), &c.buffer)
+    if !counts_fit(c.emitted, base::as_u32(c.held), c.received) {
+        return false;
+    }
+    let held = base::as_usize(c.held);
+    let places = c.places;
+    if !inputs_stand(places, held, c.received) {
+        return false;
+    }
+    buffer_stands(symbols, classes, held, &c.buffer)
 }

@@ -123,14 +123,15 @@ first-none : (k : ℕ) → first [] ≤ k
 unfolding first
 first-none k = omega arith
 
-refusal-high : (a : Automaton) (t : List ℕ) (c : Configuration) (e : ℕ) → receiveRefusal a t c e ≤ 15
+refusal-high : (a : Automaton) (t : List ℕ) (c : Configuration) (e : ℕ) → receiveRefusal a t c e ≤ 23
 unfolding receiveRefusal tableRows configurationRows callRows eventRows
 refusal-high a t c e =
-    first-high 15 11 _ _ (omega arith)
-    (first-high 15 12 _ _ (omega arith)
-    (first-high 15 13 _ _ (omega arith)
-    (first-high 15 14 _ _ (omega arith)
-    (first-high 15 15 _ _ (omega arith) (first-none 15)))))
+    first-high 23 11 _ _ (omega arith)
+    (first-high 23 12 _ _ (omega arith)
+    (first-high 23 13 _ _ (omega arith)
+    (first-high 23 14 _ _ (omega arith)
+    (first-high 23 15 _ _ (omega arith)
+    (first-high 23 23 _ _ (omega arith) (first-none 23))))))
 
 -- an event's line
 answer-refused-is : (a : Automaton) (t : List ℕ) (c : Configuration) (e : ℕ) → eqb (receiveRefusal a t c e) 0 ≡ false
@@ -147,7 +148,7 @@ answer-short a t c e h =
     let taken = accepted-facts (byTable a t) a (positionOf c) e (receive-event a t c e (eqb-true _ 0 z)) in
     let v = valid-facts a (k .record-valid) in
     let total′ = total a (k .record-valid) in
-    let o = clear-occurs a t c k in
+    let o = clear-occurs a t c k .occurs in
     let f = effect (byTable a t) a (c .state) (heldEvents c) e in
     let after = effect-occurs (byTable a t) a (c .state) (heldEvents c) e total′ o taken in
     let many = effect-length (byTable a t) a (c .state) (heldEvents c) e in

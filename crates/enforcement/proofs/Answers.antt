@@ -1,6 +1,6 @@
 -- What the answers tell, from any configuration.
 use Prim.Native.Nat.{ℕ}
-use mathlib.Core.Path.{_≡_, refl, sym, _∙_, ap, ap₂}
+use mathlib.Core.Path.{_≡_, refl, sym, _∙_, ap}
 use mathlib.Core.Bool.{true, false}
 use mathlib.Core.List.{List, [], _∷_}
 use lib.Dec.{eqb}
@@ -40,14 +40,15 @@ module _ (a : Automaton) (t : List ℕ) (v : valid a ≡ true) (s : short a t �
   made-clear = record {
     record-valid = v;
     table-long = s;
-    configuration-consistent = consistent-of a (configuration p) (configuration-consistent a (valid-facts a v) p (o .state-below) (o .buffer));
+    configuration-consistent = consistent-of a (configuration p)
+        (configuration-consistent a (valid-facts a v) p (o .occurs .state-below) (o .occurs .buffer) (o .placed));
   }
 
   made-status : status a t (configuration p) ≡ record { refusal = 0; winning = byTable a t (p .buffer) (p .state) }
   unfolding status isWinning
   made-status =
       let k = made-clear in
-      rw (status-clear a t (configuration p) v s (k .configuration-consistent), ap (λ (x : Position). x .buffer) (position-made p))
+      rw (status-clear a t (configuration p) v s (k .configuration-consistent), ap (λ (x : Position). x .buffer) (position-made p (o .placed .each-has)))
 
 pub flag-is-status : FlagIsStatus
 unfolding received
@@ -72,18 +73,18 @@ module _ (a : Automaton) (t : List ℕ) (sv : Solved a t) where
   good-status c h =
       let g = status-refusal a t c h in
       let k = clear a t c (g .0) in
-      record { rows = k; wins = sym (solved-agree a t sv (heldEvents c) (c .state) (clear-occurs a t c k)) ∙ g .1 }
+      record { rows = k; wins = sym (solved-agree a t sv (heldEvents c) (c .state) (clear-occurs a t c k .occurs)) ∙ g .1 }
 
   status-good : (c : Configuration) → Good c → status a t c .winning ≡ true
   unfolding status isWinning bySets
   status-good c g =
       let k = g .rows in
       rw (status-clear a t c (k .record-valid) (k .table-long) (k .configuration-consistent))
-      (solved-agree a t sv (heldEvents c) (c .state) (clear-occurs a t c k) ∙ g .wins)
+      (solved-agree a t sv (heldEvents c) (c .state) (clear-occurs a t c k .occurs) ∙ g .wins)
 
   made-good : valid a ≡ true → short a t ≡ false → (p : Position) → OccursAt a p → Winning a (p .buffer) (p .state) → Good (configuration p)
   made-good v s p o h =
-      record { rows = made-clear a t v s p o; wins = rw (ap (λ (x : Position). x .buffer) (position-made p)) h }
+      record { rows = made-clear a t v s p o; wins = rw (ap (λ (x : Position). x .buffer) (position-made p (o .placed .each-has))) h }
 
   -- one accepted event, and a list of events
   module _ (v : valid a ≡ true) where
@@ -102,9 +103,10 @@ module _ (a : Automaton) (t : List ℕ) (sv : Solved a t) where
         (λ p e es r h k o i. k (advance-occurs (byTable a t) a p e (total a v) o h) (event-wins p e o h i))
         (λ p e es r h k o i. k o i)
 
-  good-on : (c : Configuration) → Good c → (x : Call) → Good (handedBack (reply a t c x))
-  unfolding reply handedBack received ran
-  good-on c g (receiveCall e) =
+  -- an event, a day and any call
+  event-good : (c : Configuration) → Good c → (e : ℕ) → Good (received a t c e .configuration)
+  unfolding received
+  event-good c g e =
       let n = receiveRefusal a t c e in
       let k = g .rows in
       let o = clear-occurs a t c k in
@@ -115,7 +117,10 @@ module _ (a : Automaton) (t : List ℕ) (sv : Solved a t) where
       (advance-occurs (byTable a t) a (positionOf c) e (total a (k .record-valid)) o h)
       (event-wins (k .record-valid) (positionOf c) e o h (g .wins))))
       (λ z. rw z g)
-  good-on c g (runCall es out) =
+
+  run-good : (c : Configuration) → Good c → (es out : List ℕ) → Good (ran a t c es out .configuration)
+  unfolding ran
+  run-good c g es out =
       let k = g .rows in
       let o = clear-occurs a t c k in
       by (eqb (runRefusal a t c es out) 0)
@@ -124,15 +129,26 @@ module _ (a : Automaton) (t : List ℕ) (sv : Solved a t) where
       (run-wins (k .record-valid) es (positionOf c) o (g .wins))))
       (λ z. rw z g)
 
+  event-hands : (c : Configuration) (e : ℕ) → handedBack (reply a t c (receiveCall e)) ≡ received a t c e .configuration
+  unfolding reply handedBack
+  event-hands c e = refl
+
+  run-hands : (c : Configuration) (es out : List ℕ) → handedBack (reply a t c (runCall es out)) ≡ ran a t c es out .configuration
+  unfolding reply handedBack
+  run-hands c es out = refl
+
+  good-on : (c : Configuration) → Good c → (x : Call) → Good (handedBack (reply a t c x))
+  good-on c g (receiveCall e) = rw (event-hands c e) (event-good c g e)
+  good-on c g (runCall es out) = rw (run-hands c es out) (run-good c g es out)
+
   good-all : (xs : List Call) (c : Configuration) → Good c → Good (configurationAfter a t c xs)
   unfolding configurationAfter
   good-all [] c g = g
   good-all (x ∷ xs) c g = good-all xs (handedBack (reply a t c x)) (good-on c g x)
 
   flagged : (c : Configuration) → Good c → (e : ℕ) → received a t c e .refusal ≡ 0 → received a t c e .winning ≡ true
-  unfolding reply handedBack
   flagged c g e h =
-      sym (ap (λ r. r .winning) (flag-is-status a t c e h)) ∙ status-good (received a t c e .configuration) (good-on c g (receiveCall e))
+      sym (ap (λ r. r .winning) (flag-is-status a t c e h)) ∙ status-good (received a t c e .configuration) (event-good c g e)
 
 pub flag-stays : FlagStays
 flag-stays a t sv c h calls =
@@ -154,8 +170,7 @@ module _ (a : Automaton) (t u : List ℕ) (s : short a t ≡ short a u) (b : Sam
   same-replies : (xs : List Call) (c : Configuration) → replies a t c xs ≡ replies a u c xs
   unfolding replies
   same-replies [] c = refl
-  same-replies (x ∷ xs) c =
-      ap₂ _∷_ (same-reply c x) (ap (λ r. replies a t (handedBack r) xs) (same-reply c x) ∙ same-replies xs (handedBack (reply a u c x)))
+  same-replies (x ∷ xs) c = rw (same-reply c x, same-replies xs (handedBack (reply a u c x)))
 
 pub others-ignored : OthersIgnored
 others-ignored a t u s b c =

@@ -13,16 +13,15 @@ use Rattle.automaton.specs.Automaton.{reached, valid}
 use Rattle.solver_sets.specs.Table.{Solved}
 use Rattle.solver_sets.proofs.Total.{total}
 use Rattle.configuration.specs.Configuration.{initialOf}
-use Rattle.monitor_rule.specs.Step.{bySets, byTable}
-use Rattle.monitor_rule.proofs.Effects.{effect-agrees}
-use Rattle.monitor_rule.proofs.Solved.{solved-agree}
+use Rattle.monitor_rule.specs.Step.{bySets, byTable, sources}
+use Rattle.monitor_rule.proofs.Effects.{sources-agree, advance-agrees}
 use Rattle.enforcement.specs.Store.{Store, empty, positionAt, refusalAt, store, storeAll, lacksRoom, feed, feedAll, acceptedOf, acceptedBy, acceptedAll}
 use Rattle.enforcement.specs.Calls.{Call, receiveCall, runCall, fedBy, configurationAt}
-use Rattle.enforcement.specs.Moments.{Moment, effectAt, emittedAt, within, broughtBy, broughtAll, moments}
+use Rattle.enforcement.specs.Moments.{Moment, effectAt, positionAfter, emittedAt, sourcesAt, within, broughtBy, broughtAll, moments}
 use Rattle.enforcement.specs.Claims.{MomentsAccounted}
-use Rattle.enforcement.proofs.Stores.{Sound, grown, initially, initial-sound, byStore, store-accepts, store-refuses, store-state, store-sound}
+use Rattle.enforcement.proofs.Stores.{Sound, initially, initial-sound, byStore, fromStore, stored, stored-position, store-accepts, store-refuses, store-sound}
 use Rattle.enforcement.proofs.Alone.{store-append, accepted-append}
-use Rattle.enforcement.proofs.Replies.{position-at, by-sets, event-refusal, run-refusal, reply-hands, feed-sound, each-reply}
+use Rattle.enforcement.proofs.Replies.{position-at, by-sets, event-effect, event-refusal, run-refusal, reply-hands, feed-sound, each-reply}
 use Rattle.enforcement.proofs.Moments.{moments-all}
 use Rattle.enforcement.proofs.History.{within-traced, traced-at}
 
@@ -31,6 +30,7 @@ module _ (a : Automaton) (t : List ℕ) (v : valid a ≡ true) (sv : Solved a t)
   record Within (s : Store) (es : List ℕ) (ms : List Moment) : Type 0 where
     events : map (λ (m : Moment). m .event) ms ≡ acceptedOf a s es
     emitted : storeAll a s es .output ≡ s .output ++ emittedAt a t ms
+    traced : storeAll a s es .sources ≡ s .sources ++ sourcesAt a t ms
 
   -- those met from the function's output and position on
   abbrev from : List ℕ → Store → List ℕ → List Moment
@@ -44,25 +44,43 @@ module _ (a : Automaton) (t : List ℕ) (v : valid a ≡ true) (sv : Solved a t)
     module _ (o : Sound a s) (h : eqb (refusalAt a s e) 0 ≡ true) where
       effect-is : effectAt a t m ≡ byStore a s e
       unfolding effectAt
-      effect-is =
-          effect-agrees (byTable a t) a (positionAt a s) e (bySets a) (solved-agree a t sv) (total a v) o
-          (by-sets a t v sv s o e ∙ eqb-true (refusalAt a s e) 0 h)
+      effect-is = event-effect a t v sv s o e (eqb-true (refusalAt a s e) 0 h)
 
-      stored : store a s e ≡ grown s (byStore a s e .emitted) (byStore a s e .buffer)
-      stored = store-accepts a s e (eqb-true (refusalAt a s e) 0 h)
+      sources-are : sources (byTable a t) a (positionAt a s) e ≡ fromStore a s e
+      unfolding effectAt
+      sources-are = sources-agree (byTable a t) a (positionAt a s) e (bySets a) effect-is
+
+      next : store a s e ≡ stored a s e
+      next = store-accepts a s e (eqb-true (refusalAt a s e) 0 h)
+
+      next-output : s .output ++ effectAt a t m .emitted ≡ store a s e .output
+      next-output = ap (λ f. s .output ++ f .emitted) effect-is ∙ ap (λ z. z .output) (sym next)
+
+      next-position : positionAfter a t m ≡ positionAt a (store a s e)
+      unfolding effectAt
+      next-position =
+          advance-agrees (byTable a t) a (positionAt a s) e (bySets a) effect-is ∙
+          sym (stored-position a s e) ∙
+          ap (positionAt a) (sym next)
 
       accepts-first : (es : List ℕ) → from past s (e ∷ es) ≡ m ∷ from (past ++ e ∷ []) (store a s e) es
-      unfolding within effectAt
-      accepts-first es = rw (by-sets a t v sv s o e, h, effect-is, stored, store-state a s e)
+      unfolding within
+      accepts-first es =
+          rw (by-sets a t v sv s o e, h)
+          (ap₂ (λ out p. m ∷ within a t (past ++ e ∷ []) out p es) next-output next-position)
 
       accepts-then : (es : List ℕ) (ms : List Moment) → Within (store a s e) es ms → Within s (e ∷ es) (m ∷ ms)
-      unfolding acceptedOf storeAll emittedAt
+      unfolding acceptedOf storeAll emittedAt sourcesAt
       accepts-then es ms k = record {
         events = rw h (ap (λ l. e ∷ l) (k .events));
         emitted = k .emitted ∙
-            ap (λ z. z .output ++ emittedAt a t ms) stored ∙
+            ap (λ z. z .output ++ emittedAt a t ms) next ∙
             append-assoc (s .output) (byStore a s e .emitted) (emittedAt a t ms) ∙
             ap (λ f. s .output ++ (f .emitted ++ emittedAt a t ms)) (sym effect-is);
+        traced = k .traced ∙
+            ap (λ z. z .sources ++ sourcesAt a t ms) next ∙
+            append-assoc (s .sources) (fromStore a s e) (sourcesAt a t ms) ∙
+            ap (λ l. s .sources ++ (l ++ sourcesAt a t ms)) (sym sources-are);
       }
 
     -- a refused one first
@@ -70,11 +88,17 @@ module _ (a : Automaton) (t : List ℕ) (v : valid a ≡ true) (sv : Solved a t)
     unfolding within acceptedOf storeAll
     refuses-then es o h k =
         let stays = store-refuses a s e (eqb-false (refusalAt a s e) 0 h) in
-        rw (by-sets a t v sv s o e, h) (record { events = rw (h, stays) (k .events); emitted = ap (λ z. storeAll a z es .output) stays ∙ k .emitted })
+        rw (by-sets a t v sv s o e, h)
+        (record {
+          events = rw (h, stays) (k .events);
+          emitted = ap (λ z. storeAll a z es .output) stays ∙ k .emitted;
+          traced = ap (λ z. storeAll a z es .sources) stays ∙ k .traced;
+        })
 
   within-is : (es past : List ℕ) (s : Store) → Sound a s → Within s es (from past s es)
-  unfolding within acceptedOf storeAll emittedAt
-  within-is [] past s o = record { events = refl; emitted = sym (append-nil (s .output)) }
+  unfolding within acceptedOf storeAll emittedAt sourcesAt
+  within-is [] past s o =
+      record { events = refl; emitted = sym (append-nil (s .output)); traced = sym (append-nil (s .sources)) }
   within-is (e ∷ es) past s o =
       by (eqb (refusalAt a s e) 0)
       (λ h.
@@ -141,10 +165,12 @@ moments-accounted a t v sv calls =
     let b = brought-all a t v sv calls empty (initial-sound a v) in
     let es = broughtAll a t (configurationAt a empty) calls in
     let w = within-is a t v sv es [] empty (initial-sound a v) in
-    let go : moments a t (initialOf a) calls ≡ within a t [] [] (positionAt a empty) es = rw (initially a, position-at a empty) in
+    let go : moments a t (initialOf a) calls ≡ within a t [] [] (positionAt a empty) es =
+    rw (initially a) (ap (λ p. within a t [] [] p es) (position-at a empty (initial-sound a v))) in
     record {
       events = rw go (w .events ∙ sym (b .accepted));
       emitted = rw go (sym (w .emitted) ∙ ap (λ s. s .output) (sym (b .fed)) ∙ sym (each-reply a t v sv calls .all-emitted));
+      traced = rw go (sym (w .traced) ∙ ap (λ s. s .sources) (sym (b .fed)));
       history = λ before m after e. traced-at a t before m after [] [] (rw (sym go ∙ e) at (within-traced a t es [] [] (positionAt a empty)));
       leads = moments-all a t v (λ m. reached a (a .initial) (m .output) ≡ m .position .state) (λ m k. k .leads) calls;
       fed = rw go (within-fed a t v sv es [] empty (initial-sound a v) refl);

@@ -14,6 +14,7 @@ use Rattle.enforcement.specs.Claims.{acceptedEvents, Demand3, Demand3Sol
 use Rattle.enforcement.proofs.Alone.{accepted-alone}
 use Rattle.enforcement.proofs.Replies.{each-reply}
 use Rattle.enforcement.proofs.Brought.{moments-accounted}
+use Rattle.enforcement.proofs.Told.{places-told}
 use Rattle.enforcement.proofs.Staying.{winning-stays}
 use Rattle.enforcement.proofs.Strategies.{longer-strategies-lose}
 
@@ -31,6 +32,7 @@ demand3 a t v s calls =
       alone-emitted = r .all-emitted ∙ ap (λ z. z .output) f;
       alone-configuration = r .last-configuration ∙ ap (configurationAt a) f;
       accounted = moments-accounted a t v s calls;
+      places-told = places-told a t v s calls;
       once-winning = winning-stays a t v s calls;
       strategies = longer-strategies-lose a t v s calls;
     }

@@ -1,10 +1,12 @@
 pub mod Published
 pub mod Stores
 pub mod Alone
+pub mod Places
 pub mod Replies
 pub mod Moments
 pub mod History
 pub mod Brought
+pub mod Told
 pub mod Resting
 pub mod Staying
 pub mod Driven

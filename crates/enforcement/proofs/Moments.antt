@@ -12,7 +12,7 @@ use Rattle.automaton.specs.declared.Automaton.{Automaton}
 use Rattle.automaton.specs.Automaton.{reached, valid}
 use Rattle.automaton.proofs.Reached.{reached-append}
 use Rattle.solver_sets.proofs.Total.{Total, total}
-use Rattle.configuration.specs.Configuration.{Position, emptyAt, heldEvents, initialOf}
+use Rattle.configuration.specs.Configuration.{Position, emptyAt, heldEvents, placeNumbers, initialOf}
 use Rattle.monitor_rule.specs.Step.{byTable, eventRefusal}
 use Rattle.monitor_rule.proofs.Effects.{OccursAt, initial-occurs, effect-leads, advance-occurs}
 use Rattle.enforcement.specs.Calls.{Call}
@@ -74,7 +74,7 @@ module _ (a : Automaton) (t : List ℕ) where
         (λ h. rw h (within-each es past out p o l i))
 
     pub moments-each : (calls : List Call) → OccursAt a (emptyAt (a .initial)) → I (emptyAt (a .initial)) → Suffixes Q (moments a t (initialOf a) calls)
-    unfolding moments initialOf heldEvents pad reached
+    unfolding moments initialOf heldEvents placeNumbers pad reached
     moments-each calls o i = within-each _ [] [] (emptyAt (a .initial)) o refl i
 
 pub moments-all : (a : Automaton) (t : List ℕ) → valid a ≡ true → (P : Moment → Type 0) → ((m : Moment) → Met a t m → P m) → (calls : List Call)

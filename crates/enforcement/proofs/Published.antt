@@ -1,29 +1,40 @@
 -- The published function follows Definition 3.10 and the rows.
 use Prim.Native.Nat.{ℕ, suc, _+_, _<_, _≤_}
-use mathlib.Core.Path.{_≡_, refl}
-use mathlib.Core.Logic.{_⊎_, inl, inr}
+use mathlib.Core.Path.{_≡_, refl, sym, ap}
 use mathlib.Core.Bool.{false}
 use mathlib.Core.List.{List, [], _∷_, _++_}
 use native.Mathlib.Omega.{arith}
 use lib.Dec.{eqb}
-use lib.ListN.{length}
-use Rattle.base.proofs.Bools.{either, refuted}
+use lib.ListN.{length, take, drop}
+use lib.Seq.{length-take-le}
+use Rattle.base.proofs.Bools.{by, either, refuted}
 use Rattle.automaton.specs.declared.Automaton.{Automaton}
 use Rattle.automaton.specs.Automaton.{class, controllable}
 use Rattle.automaton.proofs.Classes.{class-one}
-use Rattle.monitor_rule.specs.Step.{bySets, remaining}
-use Rattle.monitor_rule.specs.Claims.{Unknown, Full, Admitted}
+use Rattle.monitor_rule.specs.Step.{bySets, release, remaining}
+use Rattle.monitor_rule.specs.Claims.{Admitted}
 use Rattle.monitor_rule.proofs.Worded.{event-rows-as-worded, releases-longest}
+use Rattle.monitor_rule.proofs.Longest.{release-le}
 use Rattle.monitor_answers.specs.Claims.{RowOfRun}
 use Rattle.monitor_answers.proofs.Worded.{room-as-worded, row-of-run}
 use Rattle.enforcement.specs.Store.{Store, stateOf, positionAt, refusalAt, added, released, store, storeAll, events, lacksRoom, feed, refusedOf}
 use Rattle.enforcement.specs.Calls.{runCall, refusalIn, expected}
-use Rattle.enforcement.specs.Published.{Releases, FollowsPublished}
+use Rattle.enforcement.specs.Published.{Releases, Refused, FollowsPublished}
 
--- the release, from any output and buffer
-moved-releases : (a : Automaton) (s : Store) → Releases a (s .output) (s .buffer) (released a s)
+-- the release, from any output and buffer with their places
+moved-releases : (a : Automaton) (s : Store) → Releases a (s .output) (s .sources) (s .buffer) (s .places) (released a s)
 unfolding released stateOf bySets
-moved-releases a s = record { front = _; put-out = refl; longest = releases-longest (bySets a) a (stateOf a s) (s .buffer) }
+moved-releases a s =
+    let k = release (bySets a) a (stateOf a s) (s .buffer) in
+    let long : k ≡ length (take k (s .buffer)) =
+    sym (length-take-le k (s .buffer) (release-le (bySets a) a (stateOf a s) (s .buffer))) in
+    record {
+      front = take k (s .buffer);
+      put-out = refl;
+      longest = releases-longest (bySets a) a (stateOf a s) (s .buffer);
+      moved = ap (λ n. s .sources ++ take n (s .places)) long;
+      left = ap (λ n. drop n (s .places)) long;
+    }
 
 module _ (a : Automaton) (s : Store) where
   abbrev held : ℕ
@@ -31,36 +42,60 @@ module _ (a : Automaton) (s : Store) where
 
   -- one event
   module _ (e : ℕ) where
-    stored : Admitted a held e → store a s e ≡ released a (added a s e)
+    abbrev Taken : Type 0
+    Taken = Admitted a held (s .accepted) e
+
+    stored : Taken → store a s e ≡ released a (added a s e)
     unfolding store
     stored h = rw (event-rows-as-worded (bySets a) a (positionAt a s) e .accepted .1 h)
 
-    passes : e < a .symbols → (class a e ≡ 1 → ⊥) → Releases a (s .output ++ e ∷ []) (s .buffer) (store a s e)
+    -- the release is from where the event was added
+    passes : (class a e ≡ 1 → ⊥) → Taken
+        → Releases a (s .output ++ e ∷ []) (s .sources ++ s .accepted ∷ []) (s .buffer) (s .places) (store a s e)
     unfolding added remaining
-    passes l c =
-        rw (stored (l, inl c), refuted (controllable a e) (λ h. c (class-one a e .0 h)))
-        (moved-releases a (record { output = s .output ++ e ∷ []; buffer = s .buffer }))
+    passes c h =
+        rw (stored h, refuted (controllable a e) (λ y. c (class-one a e .0 y)))
+        (moved-releases a (record {
+          output = s .output ++ e ∷ [];
+          sources = s .sources ++ s .accepted ∷ [];
+          buffer = s .buffer;
+          places = s .places;
+          accepted = s .accepted + 1;
+        }))
 
-    holds : e < a .symbols → class a e ≡ 1 → held < a .capacity → Releases a (s .output) (s .buffer ++ e ∷ []) (store a s e)
+    holds : class a e ≡ 1 → Taken
+        → Releases a (s .output) (s .sources) (s .buffer ++ e ∷ []) (s .places ++ s .accepted ∷ []) (store a s e)
     unfolding added
-    holds l c h =
-        rw (stored (l, inr h), class-one a e .1 c)
-        (moved-releases a (record { output = s .output; buffer = s .buffer ++ e ∷ [] }))
+    holds c h =
+        rw (stored h, class-one a e .1 c)
+        (moved-releases a (record {
+          output = s .output;
+          sources = s .sources;
+          buffer = s .buffer ++ e ∷ [];
+          places = s .places ++ s .accepted ∷ [];
+          accepted = s .accepted + 1;
+        }))
 
-    not-taken : Unknown a e ⊎ Full a held e → eqb (refusalAt a s e) 0 ≡ false
+    counts : Taken → store a s e .accepted ≡ suc (s .accepted)
+    unfolding released added
+    counts h =
+        rw (stored h) (by (controllable a e) (λ c. rw c (omega arith)) (λ c. rw c (omega arith)))
+
+    not-taken : Refused a s e → eqb (refusalAt a s e) 0 ≡ false
     not-taken h =
         let rows = event-rows-as-worded (bySets a) a (positionAt a s) e in
-        either h (λ u. rw (rows .row-14 .1 u)) (λ f. rw (rows .row-15 .1 f))
+        either h (λ u. rw (rows .row-14 .1 u))
+        (λ r. either r (λ f. rw (rows .row-15 .1 f)) (λ f. rw (rows .row-23 .1 f)))
 
-    refuses : Unknown a e ⊎ Full a held e → store a s e ≡ s
+    refuses : Refused a s e → store a s e ≡ s
     unfolding store
     refuses h = rw (not-taken h)
 
-    counted : (es : List ℕ) → Unknown a e ⊎ Full a held e → refusedOf a s (e ∷ es) ≡ suc (refusedOf a s es)
+    counted : (es : List ℕ) → Refused a s e → refusedOf a s (e ∷ es) ≡ suc (refusedOf a s es)
     unfolding refusedOf
     counted es h = rw (refuses h, not-taken h) (omega arith)
 
-    not-counted : (es : List ℕ) → Admitted a held e → refusedOf a s (e ∷ es) ≡ refusedOf a (store a s e) es
+    not-counted : (es : List ℕ) → Taken → refusedOf a s (e ∷ es) ≡ refusedOf a (store a s e) es
     unfolding refusedOf
     not-counted es h = rw (event-rows-as-worded (bySets a) a (positionAt a s) e .accepted .1 h) (omega arith)
 
@@ -83,6 +118,7 @@ unfolding expected refusalIn storeAll feed refusedOf
 follows-published a s = record {
   passes = passes a s;
   holds = holds a s;
+  counts = counts a s;
   refuses = refuses a s;
   event-fed = λ e. refl;
   none-fed = refl;

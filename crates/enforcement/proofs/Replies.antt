@@ -16,25 +16,28 @@ use Rattle.automaton.specs.Automaton.{valid}
 use Rattle.automaton.proofs.Facts.{valid-facts}
 use Rattle.solver_sets.specs.Table.{short, Solved}
 use Rattle.solver_sets.proofs.Total.{total}
+use Rattle.configuration_places.specs.Places.{inputPlace}
 use Rattle.configuration.specs.declared.Configuration.{Configuration}
 use Rattle.configuration.specs.Configuration.{Position, positionOf, configuration, consistent}
 use Rattle.configuration.proofs.Facts.{position-made, configuration-consistent, consistent-of}
 use Rattle.monitor_answers.specs.declared.Received.{Received}
-use Rattle.monitor_rule.specs.Step.{bySets, byTable, effectFrom, advance, eventRows, eventRefusal, runOf}
+use Rattle.monitor_rule.specs.Step.{Rest, bySets, byTable, effectFrom, sources, advance, eventRows, eventRefusal, runOf}
 use Rattle.monitor_answers.specs.Answers.{receiveRefusal, received, room, runRefusal, ran, ranBuffer}
-use Rattle.monitor_rule.proofs.Effects.{refusal-same, advance-occurs, effect-agrees}
+use Rattle.monitor_rule.proofs.Effects.{refusal-same, advance-occurs, effect-agrees, sources-agree, advance-agrees}
 use Rattle.monitor_rule.proofs.Runs.{run-same}
 use Rattle.monitor_answers.proofs.Refusals.{rows-pass}
 use Rattle.monitor_rule.proofs.Solved.{solved-agree}
 use Rattle.enforcement.specs.Store.{Store, empty, positionAt, refusalAt, store, storeAll, lacksRoom, feed, feedAll}
-use Rattle.enforcement.specs.Calls.{Call, receiveCall, runCall, handedBack, emittedBy, reply, replies, configurationAfter, emittedAll, fedBy, configurationAt, since, expected, expectedAll}
+use Rattle.enforcement.specs.Calls.{Call, receive, receiveCall, runCall, handedBack, emittedBy, reply, replies, configurationAfter, emittedAll}
+use Rattle.enforcement.specs.Calls.{fedBy, configurationAt, since, expected, expectedAll}
 use Rattle.enforcement.specs.Claims.{EachReply}
-use Rattle.enforcement.proofs.Stores.{Sound, initially, initial-sound, store-since, store-sound, since-grown, since-same, byStore, runStore, store-accepts, store-refuses, store-state, runs-state, store-runs}
+use Rattle.enforcement.proofs.Stores.{Sound, initially, initial-sound, since-more, sources-more, since-same, sources-same, byStore, fromStore, nextOf, runStore}
+use Rattle.enforcement.proofs.Stores.{store-accepts, store-refuses, stored, stored-position, store-runs, run-since, store-since, store-sound}
 
 -- the position that its configuration says is its own
-pub position-at : (a : Automaton) (s : Store) → positionOf (configurationAt a s) ≡ positionAt a s
+pub position-at : (a : Automaton) (s : Store) → Sound a s → positionOf (configurationAt a s) ≡ positionAt a s
 unfolding configurationAt
-position-at a s = position-made (positionAt a s)
+position-at a s o = position-made (positionAt a s) (o .placed .each-has)
 
 module _ (a : Automaton) (t : List ℕ) (v : valid a ≡ true) (sv : Solved a t) where
   pub not-short : short a t ≡ false
@@ -44,7 +47,8 @@ module _ (a : Automaton) (t : List ℕ) (v : valid a ≡ true) (sv : Solved a t)
   pub consistent-at : (s : Store) → Sound a s → consistent a (configurationAt a s) ≡ true
   unfolding configurationAt
   consistent-at s o =
-      consistent-of a (configurationAt a s) (configuration-consistent a (valid-facts a v) (positionAt a s) (o .state-below) (o .buffer))
+      consistent-of a (configurationAt a s)
+      (configuration-consistent a (valid-facts a v) (positionAt a s) (o .occurs .state-below) (o .occurs .buffer) (o .placed))
 
   module _ (s : Store) (o : Sound a s) where
     abbrev c : Configuration
@@ -58,36 +62,56 @@ module _ (a : Automaton) (t : List ℕ) (v : valid a ≡ true) (sv : Solved a t)
     unfolding receiveRefusal eventRefusal
     event-refusal e =
         rows-pass a t c v not-short (consistent-at s o) (eventRows (byTable a t) a (positionOf c) e) ∙
-        ap (λ p. first (eventRows (byTable a t) a p e)) (position-at a s) ∙
+        ap (λ p. first (eventRows (byTable a t) a p e)) (position-at a s o) ∙
         by-sets e
 
     pub run-refusal : (es out : List ℕ) → runRefusal a t c es out ≡ cond (lacksRoom s es (length out)) 16 0
     unfolding runRefusal lacksRoom configurationAt first
     run-refusal es out = rows-pass a t c v not-short (consistent-at s o) ((16, ltb (length out) (room es (c .held))) ∷ [])
 
-    pub event-effect : (e : ℕ) → refusalAt a s e ≡ 0 → effectFrom (byTable a t) a (positionOf c) e ≡ byStore a s e
+    -- one event by the table and by the sets, from the function's position
+    pub event-effect : (e : ℕ) → refusalAt a s e ≡ 0 → effectFrom (byTable a t) a (positionAt a s) e ≡ byStore a s e
     event-effect e h =
-        ap (λ p. effectFrom (byTable a t) a p e) (position-at a s) ∙
         effect-agrees (byTable a t) a (positionAt a s) e (bySets a) (solved-agree a t sv) (total a v) o (by-sets e ∙ h)
 
     run-result : (es : List ℕ) → runOf (byTable a t) a (positionOf c) es ≡ runStore a s es
     run-result es =
-        ap (λ p. runOf (byTable a t) a p es) (position-at a s) ∙
+        ap (λ p. runOf (byTable a t) a p es) (position-at a s o) ∙
         run-same (byTable a t) (bySets a) a (solved-agree a t sv) (total a v) es (positionAt a s) o
 
-    abbrev answer : ℕ → Position → List ℕ → Bool → Received
-    answer n p out b = record { refusal = n; configuration = configuration p; emitted = pad 7 out; count = length out; winning = b }
+    abbrev answer : ℕ → Position → List ℕ → List ℕ → Bool → Received
+    answer n p out from b =
+        record {
+          refusal = n;
+          configuration = configuration p;
+          emitted = pad 7 out;
+          count = length out;
+          winning = b;
+          places = map inputPlace (pad 7 from);
+        }
 
-    event-accepted : (e : ℕ) → refusalAt a s e ≡ 0
-        → let p = advance (bySets a) a (positionAt a s) e in
-        received a t c e ≡ answer 0 p (byStore a s e .emitted) (bySets a (p .buffer) (p .state))
+    -- an accepted event's, over a rest test
+    abbrev taken : Rest → Position → ℕ → Received
+    taken rest p e =
+        let next = advance rest a p e in
+        answer 0 next (effectFrom rest a p e .emitted) (sources rest a p e) (rest (next .buffer) (next .state))
+
+    taken-agrees : (e : ℕ) → refusalAt a s e ≡ 0 → taken (byTable a t) (positionAt a s) e ≡ taken (bySets a) (positionAt a s) e
+    taken-agrees e h =
+        let p = positionAt a s in
+        let next = nextOf a s e in
+        let same = event-effect e h in
+        let wins = ap (λ f. byTable a t (f .buffer) (f .state)) same ∙
+        solved-agree a t sv (next .buffer) (next .state) (advance-occurs (bySets a) a p e (total a v) o h .occurs) in
+        λ i. answer 0 (advance-agrees (byTable a t) a p e (bySets a) same i) (same i .emitted)
+        (sources-agree (byTable a t) a p e (bySets a) same i) (wins i)
+
+    pub event-accepted : (e : ℕ) → refusalAt a s e ≡ 0 → received a t c e ≡ taken (bySets a) (positionAt a s) e
     unfolding received
     event-accepted e h =
-        let p = advance (bySets a) a (positionAt a s) e in
-        let b = solved-agree a t sv (p .buffer) (p .state) (advance-occurs (bySets a) a (positionAt a s) e (total a v) o h) in
-        rw (event-refusal e ∙ h, event-effect e h, b)
+        rw (event-refusal e ∙ h) (ap (λ p. taken (byTable a t) p e) (position-at a s o) ∙ taken-agrees e h)
 
-    event-refused : (e : ℕ) → eqb (refusalAt a s e) 0 ≡ false → received a t c e ≡ answer (refusalAt a s e) (positionAt a s) [] false
+    pub event-refused : (e : ℕ) → eqb (refusalAt a s e) 0 ≡ false → received a t c e ≡ answer (refusalAt a s e) (positionAt a s) [] [] false
     unfolding received configurationAt pad
     event-refused e h = rw (event-refusal e, h)
 
@@ -95,21 +119,26 @@ module _ (a : Automaton) (t : List ℕ) (v : valid a ≡ true) (sv : Solved a t)
     unfolding reply expected configurationAt
     event-reply e =
         let n = refusalAt a s e in
-        let f = byStore a s e in
+        let put = since-more s (stored a s e) (byStore a s e .emitted) refl in
+        let from = sources-more s (stored a s e) (fromStore a s e) refl in
+        let next = stored-position a s e in
         by (eqb n 0)
         (λ h.
         let z = eqb-true n 0 h in
-        rw (event-accepted e z, store-accepts a s e z, since-grown s (f .emitted) (f .buffer), store-state a s e, z))
-        (λ h. rw (event-refused e h, store-refuses a s e (eqb-false n 0 h), since-same s, h))
+        rw (event-accepted e z, store-accepts a s e z, z)
+        (sym (λ i. receive (answer 0 (next i) (put i) (from i) (bySets a (next i .buffer) (next i .state))))))
+        (λ h. rw (event-refused e h, store-refuses a s e (eqb-false n 0 h), since-same s, sources-same s, h))
+
+    run-configuration : (es : List ℕ) → configurationAt a (storeAll a s es) ≡ configuration (runStore a s es .last)
+    unfolding configurationAt
+    run-configuration es = ap configuration (store-runs a es s .stands)
 
     run-reply : (es out : List ℕ) → reply a t c (runCall es out) ≡ expected a s (runCall es out)
-    unfolding reply expected ran ranBuffer configurationAt
+    unfolding reply expected ran ranBuffer
     run-reply es out =
-        let k = store-runs a es s in
-        let r = runStore a s es in
         by (lacksRoom s es (length out))
         (λ h. rw (run-refusal es out, h) refl)
-        (λ h. rw (run-refusal es out, h, run-result es, k .whole, since-grown s (r .emitted) (r .last .buffer), k .refused, runs-state a s es))
+        (λ h. rw (run-refusal es out, h, run-result es, run-since a es s, store-runs a es s .refused, run-configuration es))
 
     -- one call: its reply is the function's, ..
     reply-is : (x : Call) → reply a t c x ≡ expected a s x
@@ -164,6 +193,9 @@ module _ (a : Automaton) (t : List ℕ) (v : valid a ≡ true) (sv : Solved a t)
         last-configuration = ap (λ c. configurationAfter a t c xs) next ∙ k .last-configuration;
         last-sound = k .last-sound;
       }
+
+pub last-sound : (a : Automaton) (t : List ℕ) → valid a ≡ true → Solved a t → (calls : List Call) → Sound a (feedAll a empty (map fedBy calls))
+last-sound a t v sv calls = together a t v sv calls empty (initial-sound a v) .last-sound
 
 pub each-reply : EachReply
 each-reply a t v sv calls =

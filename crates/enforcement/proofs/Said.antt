@@ -9,14 +9,16 @@ use borrow.Author.Tests.{eqb-true, eqb-false, le-ltb, eq-eqb}
 use Rattle.base.proofs.Bools.{by}
 use Rattle.automaton.specs.declared.Automaton.{Automaton}
 use Rattle.solver_sets.specs.Table.{short}
+use Rattle.solver_sets.proofs.Total.{total}
 use Rattle.configuration.specs.declared.Configuration.{Configuration}
 use Rattle.configuration.specs.Configuration.{Position, positionOf, initialOf}
 use Rattle.configuration.proofs.Facts.{position-made}
 use Rattle.monitor_rule.specs.Step.{byTable, advance, eventRefusal, runOf}
-use Rattle.monitor_rule.proofs.Runs.{run-accepts, run-refuses}
+use Rattle.monitor_rule.proofs.Effects.{advance-occurs}
+use Rattle.monitor_rule.proofs.Runs.{run-accepts, run-refuses, run-occurs}
 use Rattle.monitor_answers.specs.Answers.{isWinning, status, receiveRefusal, received, runRefusal, ran}
 use Rattle.monitor_answers.proofs.Refusals.{status-clear}
-use Rattle.monitor_answers.proofs.Accepted.{receive-event}
+use Rattle.monitor_answers.proofs.Accepted.{clear-occurs, receive-clear, receive-event, run-clear}
 use Rattle.enforcement.specs.Calls.{Call, receiveCall, runCall, handedBack, reply, configurationAfter}
 use Rattle.enforcement.specs.Moments.{Moment, positionAfter, within, broughtBy, broughtAll, moments}
 use Rattle.enforcement.specs.Claims.{winningAfter, Stays}
@@ -54,10 +56,21 @@ module _ (a : Automaton) (t : List ℕ) where
       let n = receiveRefusal a t c e in
       by (eqb n 0)
       (λ z.
-      let h = eq-eqb (eventRefusal (byTable a t) a (positionOf c) e) 0 (receive-event a t c e (eqb-true n 0 z)) in
-      rw z (position-made _ ∙ sym (ends-accepts (positionOf c) e [] h)))
+      let accepted = receive-event a t c e (eqb-true n 0 z) in
+      let k = receive-clear a t c e (eqb-true n 0 z) in
+      let o = advance-occurs (byTable a t) a (positionOf c) e (total a (k .record-valid)) (clear-occurs a t c k) accepted in
+      rw z
+      (position-made (f (positionOf c) e) (o .placed .each-has) ∙
+      sym (ends-accepts (positionOf c) e [] (eq-eqb (eventRefusal (byTable a t) a (positionOf c) e) 0 accepted))))
       (λ z. rw z)
-  call-ends c (runCall es out) = by (eqb (runRefusal a t c es out) 0) (λ z. rw z (position-made _)) (λ z. rw z)
+  call-ends c (runCall es out) =
+      let n = runRefusal a t c es out in
+      by (eqb n 0)
+      (λ z.
+      let k = run-clear a t c es out (eqb-true n 0 z) in
+      let o = run-occurs (byTable a t) a (total a (k .record-valid)) es (positionOf c) (clear-occurs a t c k) in
+      rw z (position-made (ends (positionOf c) es) (o .placed .each-has)))
+      (λ z. rw z)
 
   calls-end : (xs : List Call) (c : Configuration) → positionOf (configurationAfter a t c xs) ≡ ends (positionOf c) (broughtAll a t c xs)
   unfolding configurationAfter broughtAll runOf

@@ -37,7 +37,7 @@ module _ (a : Automaton) (t : List ℕ) (v : valid a ≡ true) (sv : Solved a t)
   -- by the table's bits
   after-is : (m : Moment) → Met a t m → winningAfter a t m ≡ has (setsFor a (positionAfter a t m .buffer) .winning) (positionAfter a t m .state)
   unfolding winningAfter bySets
-  after-is m k = solved-agree a t sv (positionAfter a t m .buffer) (positionAfter a t m .state) (position-met a t (total a v) m k)
+  after-is m k = solved-agree a t sv (positionAfter a t m .buffer) (positionAfter a t m .state) (position-met a t (total a v) m k .occurs)
 
   -- what is claimed of an event
   abbrev Fine : Moment → Type 0
@@ -62,7 +62,7 @@ module _ (a : Automaton) (t : List ℕ) (v : valid a ≡ true) (sv : Solved a t)
 
   initial-wins : isWinning a t (initialOf a) ≡ true → Wins (emptyAt (a .initial))
   unfolding isWinning initialOf heldEvents pad bySets
-  initial-wins h = sym (solved-agree a t sv [] (a .initial) (initial-occurs a v)) ∙ h
+  initial-wins h = sym (solved-agree a t sv [] (a .initial) (initial-occurs a v .occurs)) ∙ h
 
   stays-initially : (calls : List Call) → isWinning a t (initialOf a) ≡ true → Stays a t (moments a t (initialOf a) calls)
   stays-initially calls h =

@@ -2,11 +2,12 @@
 -- handed back; and what the published function says of them.
 use Prim.Native.Nat.{ℕ}
 use mathlib.Core.Bool.{cond, _&&_}
-use mathlib.Core.List.{List, [], _∷_, _++_}
+use mathlib.Core.List.{List, [], _∷_, _++_, map}
 use lib.ListN.{length, take, drop}
 use lib.Dec.{eqb}
 use Rattle.base.specs.Pad.{pad}
 use Rattle.automaton.specs.declared.Automaton.{Automaton}
+use Rattle.configuration_places.specs.Places.{inputPlace}
 use Rattle.configuration.specs.declared.Configuration.{Configuration}
 use Rattle.configuration.specs.Configuration.{configuration}
 use Rattle.monitor_answers.specs.declared.Received.{Received}
@@ -69,13 +70,16 @@ fedBy (runCall es out) = events es (length out)
 unfoldable pub configurationAt : Automaton → Store → Configuration
 configurationAt a s = configuration (positionAt a s)
 
--- what it has put out since it was s
+-- what it has put out since it was s, and the places of that
 unfoldable pub since : Store → Store → List ℕ
 since s z = drop (length (s .output)) (z .output)
 
--- the reply that it gives: its refusal, what it put out then, its configuration, and, for an
--- accepted event, whether its state lies in S of its buffer; a day's bytes are its part of the
--- output, then the old ones, and its count the events refused
+unfoldable pub sourcesSince : Store → Store → List ℕ
+sourcesSince s z = drop (length (s .sources)) (z .sources)
+
+-- the reply that it gives: its refusal, what it put out then with the places, its configuration,
+-- and, for an accepted event, whether its state lies in S of its buffer; a day's bytes are its
+-- part of the output, then the old ones, and its count the events refused
 unfoldable pub expected : Automaton → Store → Call → Reply
 expected a s (receiveCall e) =
     let z = store a s e in
@@ -86,6 +90,7 @@ expected a s (receiveCall e) =
       emitted = pad 7 (since s z);
       count = length (since s z);
       winning = eqb n 0 && bySets a (z .buffer) (stateOf a z);
+      places = map inputPlace (pad 7 (sourcesSince s z));
     })
 expected a s (runCall es out) =
     let z = storeAll a s es in

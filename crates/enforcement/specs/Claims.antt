@@ -16,7 +16,8 @@ use Rattle.monitor_rule.specs.Step.{byTable, Effect, release, arrival}
 use Rattle.monitor_answers.specs.Answers.{isWinning}
 use Rattle.enforcement.specs.Store.{empty, positionAt, storeAll, feedAll, acceptedAll}
 use Rattle.enforcement.specs.Calls.{Call, replies, configurationAfter, emittedAll, fedBy, configurationAt, expectedAll}
-use Rattle.enforcement.specs.Moments.{Moment, effectAt, positionAfter, emittedAt, moments}
+use Rattle.enforcement.specs.Moments.{Moment, effectAt, positionAfter, emittedAt, sourcesAt, moments}
+use Rattle.enforcement.specs.Places.{PlacesTold}
 use Rattle.enforcement.specs.Strategy.{Strategy, Lost, lostBound}
 
 -- The replies to any list of calls over a solved table: every call's whole reply is the published
@@ -35,7 +36,8 @@ EachReply = (a : Automaton) (t : List ℕ) → valid a ≡ true → Solved a t �
 abbrev pub acceptedEvents : Automaton → List ℕ → List Call → List ℕ
 acceptedEvents a t calls = map (λ (m : Moment). m .event) (moments a t (initialOf a) calls)
 
--- Fed the accepted events alone, one by one, the function ends with the same output and buffer.
+-- Fed the accepted events alone, one by one, the function ends with the same output and buffer,
+-- the same places of both and the same count.
 abbrev pub AcceptedAlone : Type 0
 AcceptedAlone =
     (a : Automaton) (calls : List Call)
@@ -50,12 +52,14 @@ unfoldable pub outputAfter : Automaton → List ℕ → Moment → List ℕ
 outputAfter a t m = m .output ++ effectAt a t m .emitted
 
 -- The accepted events of the calls, one by one, are those that the function accepts; what they
--- emit, end to end, is all that is emitted; each of them has the events and the output of those
--- before it; the state that it meets is where that output leads; and fed the events before it, the
--- function has the output and the position that it meets.
+-- emit, end to end, is all that is emitted, and its places are the function's; each of them has
+-- the events and the output of those before it; the state that it meets is where that output
+-- leads; and fed the events before it, the function has the output and the position that it meets,
+-- places and counts included.
 pub record Accounted (a : Automaton) (t : List ℕ) (calls : List Call) : Type 0 where
   pub events : acceptedEvents a t calls ≡ acceptedAll a empty (map fedBy calls)
   pub emitted : emittedAt a t (moments a t (initialOf a) calls) ≡ emittedAll (replies a t (initialOf a) calls)
+  pub traced : sourcesAt a t (moments a t (initialOf a) calls) ≡ feedAll a empty (map fedBy calls) .sources
   pub history : (before : List Moment) (m : Moment) (after : List Moment) → moments a t (initialOf a) calls ≡ before ++ m ∷ after
       → (m .past ≡ map (λ (x : Moment). x .event) before) × (m .output ≡ emittedAt a t before)
   pub leads : AllOf (λ m. reached a (a .initial) (m .output) ≡ m .position .state) (moments a t (initialOf a) calls)
@@ -124,13 +128,14 @@ DrivenOut =
 
 -- Demand 3 as one statement: for any list of calls over a solved table, all of the above; and all
 -- that was emitted and the configuration handed back are the published function's, worked out
--- afresh from the accepted events alone.
+-- afresh from the accepted events alone; and places are what they mean.
 pub record Enforced (a : Automaton) (t : List ℕ) (calls : List Call) : Type 0 where
   pub enforces : Enforces a t calls
   pub alone-emitted : emittedAll (replies a t (initialOf a) calls) ≡ storeAll a empty (acceptedEvents a t calls) .output
   pub alone-configuration : configurationAfter a t (initialOf a) calls
       ≡ configurationAt a (storeAll a empty (acceptedEvents a t calls))
   pub accounted : Accounted a t calls
+  pub places-told : PlacesTold a t calls (acceptedEvents a t calls) (configurationAfter a t (initialOf a) calls)
   pub once-winning : OnceWinning a t calls
   pub strategies : AllOf (LongerIsLost a t) (moments a t (initialOf a) calls)
 

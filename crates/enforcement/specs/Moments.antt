@@ -6,7 +6,7 @@ use lib.Dec.{eqb}
 use Rattle.automaton.specs.declared.Automaton.{Automaton}
 use Rattle.configuration.specs.declared.Configuration.{Configuration}
 use Rattle.configuration.specs.Configuration.{Position, positionOf}
-use Rattle.monitor_rule.specs.Step.{byTable, Effect, effectFrom, advance, eventRefusal}
+use Rattle.monitor_rule.specs.Step.{byTable, Effect, effectFrom, sources, advance, eventRefusal}
 use Rattle.monitor_answers.specs.Answers.{receiveRefusal, runRefusal}
 use Rattle.enforcement.specs.Calls.{Call, receiveCall, runCall, reply, handedBack}
 
@@ -30,6 +30,11 @@ positionAfter a t m = advance (byTable a t) a (m .position) (m .event)
 unfoldable pub emittedAt : Automaton → List ℕ → List Moment → List ℕ
 emittedAt a t [] = []
 emittedAt a t (m ∷ ms) = effectAt a t m .emitted ++ emittedAt a t ms
+
+-- and the places in the input of that
+unfoldable pub sourcesAt : Automaton → List ℕ → List Moment → List ℕ
+sourcesAt a t [] = []
+sourcesAt a t (m ∷ ms) = sources (byTable a t) a (m .position) (m .event) ++ sourcesAt a t ms
 
 -- the accepted ones of a list of events, as `runOf` goes through them
 unfoldable pub within : Automaton → List ℕ → List ℕ → List ℕ → Position → List ℕ → List Moment

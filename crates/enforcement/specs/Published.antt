@@ -5,31 +5,39 @@ use Prim.Native.Nat.{ℕ, suc, _+_, _<_, _≤_}
 use mathlib.Core.Path.{_≡_}
 use mathlib.Core.Logic.{_⊎_}
 use mathlib.Core.List.{List, [], _∷_, _++_}
-use lib.ListN.{length}
+use lib.ListN.{length, take, drop}
 use Rattle.automaton.specs.declared.Automaton.{Automaton}
 use Rattle.automaton.specs.Automaton.{class, reached}
 use Rattle.solver_sets.specs.Claims.{Winning}
-use Rattle.monitor_rule.specs.Claims.{Unknown, Full, Admitted, RowsOfEvent, Longest}
+use Rattle.monitor_rule.specs.Claims.{Unknown, Full, CountEnded, Admitted, RowsOfEvent, Longest}
 use Rattle.monitor_answers.specs.Claims.{RowOfRun}
 use Rattle.enforcement.specs.Store.{Store, store, storeAll, event, events, feed, refusedOf}
 use Rattle.enforcement.specs.Calls.{receiveCall, runCall, refusalIn, expected}
 
--- From an output and a buffer the function goes on to z: of the buffer's front parts that lead the
--- state, which is where the output leads, into S of what is left, the longest moves to the
--- output's end; if there is none, nothing moves.
-pub record Releases (a : Automaton) (output buffer : List ℕ) (z : Store) : Type 0 where
+-- From an output and a buffer, with the places of both, the function goes on to z: of the buffer's
+-- front parts that lead the state, which is where the output leads, into S of what is left, the
+-- longest moves to the output's end; if there is none, nothing moves. As many places move with it.
+pub record Releases (a : Automaton) (output sources buffer places : List ℕ) (z : Store) : Type 0 where
   pub front : List ℕ
   pub put-out : z .output ≡ output ++ front
   pub longest : Longest (Winning a) a (reached a (a .initial) output) buffer front (z .buffer)
+  pub moved : z .sources ≡ sources ++ take (length front) places
+  pub left : z .places ≡ drop (length front) places
+
+-- an event that a row refuses, by what is held and how many were accepted before
+abbrev pub Refused : Automaton → Store → ℕ → Type 0
+Refused a s e = Unknown a e ⊎ Full a (length (s .buffer)) e ⊎ CountEnded a (length (s .buffer)) (s .accepted) e
 
 pub record AsPublished (a : Automaton) (s : Store) : Type 0 where
-  -- an accepted event goes to the output's end if it is not controllable, else to the buffer's
-  pub passes : (e : ℕ) → e < a .symbols → (class a e ≡ 1 → ⊥)
-      → Releases a (s .output ++ e ∷ []) (s .buffer) (store a s e)
-  pub holds : (e : ℕ) → e < a .symbols → class a e ≡ 1 → length (s .buffer) < a .capacity
-      → Releases a (s .output) (s .buffer ++ e ∷ []) (store a s e)
-  -- an event that a row refuses, by this buffer, changes nothing
-  pub refuses : (e : ℕ) → Unknown a e ⊎ Full a (length (s .buffer)) e → store a s e ≡ s
+  -- an accepted event goes to the output's end if it is not controllable, else to the buffer's,
+  -- and so does its place, which is how many were accepted before it
+  pub passes : (e : ℕ) → (class a e ≡ 1 → ⊥) → Admitted a (length (s .buffer)) (s .accepted) e
+      → Releases a (s .output ++ e ∷ []) (s .sources ++ s .accepted ∷ []) (s .buffer) (s .places) (store a s e)
+  pub holds : (e : ℕ) → class a e ≡ 1 → Admitted a (length (s .buffer)) (s .accepted) e
+      → Releases a (s .output) (s .sources) (s .buffer ++ e ∷ []) (s .places ++ s .accepted ∷ []) (store a s e)
+  pub counts : (e : ℕ) → Admitted a (length (s .buffer)) (s .accepted) e → store a s e .accepted ≡ suc (s .accepted)
+  -- one that a row refuses changes nothing
+  pub refuses : (e : ℕ) → Refused a s e → store a s e ≡ s
   -- an event is fed as it is; of a list, one after the other
   pub event-fed : (e : ℕ) → feed a s (event e) ≡ store a s e
   pub none-fed : storeAll a s [] ≡ s
@@ -39,12 +47,11 @@ pub record AsPublished (a : Automaton) (s : Store) : Type 0 where
   pub run-fed : (es : List ℕ) (size : ℕ) → length es + length (s .buffer) ≤ size → feed a s (events es size) ≡ storeAll a s es
   -- of a day's events those are counted that a row refuses
   pub none-counted : refusedOf a s [] ≡ 0
-  pub counted : (e : ℕ) (es : List ℕ) → Unknown a e ⊎ Full a (length (s .buffer)) e
-      → refusedOf a s (e ∷ es) ≡ suc (refusedOf a s es)
-  pub not-counted : (e : ℕ) (es : List ℕ) → Admitted a (length (s .buffer)) e
+  pub counted : (e : ℕ) (es : List ℕ) → Refused a s e → refusedOf a s (e ∷ es) ≡ suc (refusedOf a s es)
+  pub not-counted : (e : ℕ) (es : List ℕ) → Admitted a (length (s .buffer)) (s .accepted) e
       → refusedOf a s (e ∷ es) ≡ refusedOf a (store a s e) es
   -- its replies give the number of the row that refuses, and else 0
-  pub event-row : (e : ℕ) → RowsOfEvent a (length (s .buffer)) e (refusalIn (expected a s (receiveCall e)))
+  pub event-row : (e : ℕ) → RowsOfEvent a (length (s .buffer)) (s .accepted) e (refusalIn (expected a s (receiveCall e)))
   pub run-row : (es out : List ℕ) → RowOfRun (length out) es (length (s .buffer)) (refusalIn (expected a s (runCall es out)))
 
 -- so it is of every automaton and whatever was put out and is held

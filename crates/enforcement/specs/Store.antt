@@ -1,6 +1,7 @@
 -- The published enforcement function (source document 001, Definition 3.10; document 01's
 -- whole-day function). It knows the automaton, is fed events and the room of a day's output, and
--- keeps an output and a buffer; the sets are by striking, from no table.
+-- keeps an output and a buffer; the sets are by striking, from no table. With each symbol and each
+-- held event it keeps its place among the accepted events (document 02, Card 4), which it counts.
 use Prim.Native.Nat.{ℕ, _+_}
 use mathlib.Core.Bool.{Bool, cond}
 use mathlib.Core.List.{List, [], _∷_, _++_}
@@ -14,11 +15,14 @@ use Rattle.monitor_answers.specs.Answers.{tooShort}
 
 pub record Store : Type 0 where
   pub output : List ℕ
+  pub sources : List ℕ
   pub buffer : List ℕ
+  pub places : List ℕ
+  pub accepted : ℕ
 
--- both empty at first
+-- nothing at first
 abbrev pub empty : Store
-empty = record { output = []; buffer = [] }
+empty = record { output = []; sources = []; buffer = []; places = []; accepted = 0 }
 
 -- its state is where its output leads
 unfoldable pub stateOf : Automaton → Store → ℕ
@@ -26,23 +30,48 @@ stateOf a s = reached a (a .initial) (s .output)
 
 -- its position
 abbrev pub positionAt : Automaton → Store → Position
-positionAt a s = record { state = stateOf a s; buffer = s .buffer }
+positionAt a s =
+    record {
+      state = stateOf a s;
+      buffer = s .buffer;
+      places = s .places;
+      received = s .accepted;
+      emitted = length (s .output);
+    }
 
--- an accepted event goes to the output's end, or to the buffer's
+-- an accepted event goes to the output's end, or to the buffer's, with its place
 unfoldable pub added : Automaton → Store → ℕ → Store
 added a s e =
     cond (controllable a e)
-    (record { output = s .output; buffer = s .buffer ++ e ∷ [] })
-    (record { output = s .output ++ e ∷ []; buffer = remaining a e (s .buffer) })
+    (record {
+      output = s .output;
+      sources = s .sources;
+      buffer = s .buffer ++ e ∷ [];
+      places = s .places ++ s .accepted ∷ [];
+      accepted = s .accepted + 1;
+    })
+    (record {
+      output = s .output ++ e ∷ [];
+      sources = s .sources ++ s .accepted ∷ [];
+      buffer = remaining a e (s .buffer);
+      places = remaining a e (s .places);
+      accepted = s .accepted + 1;
+    })
 
 -- then the longest front part of the buffer that leads the state into S of what is left moves to
--- the output's end
+-- the output's end, and as many places with it
 unfoldable pub released : Automaton → Store → Store
 released a s =
     let k = release (bySets a) a (stateOf a s) (s .buffer) in
-    record { output = s .output ++ take k (s .buffer); buffer = drop k (s .buffer) }
+    record {
+      output = s .output ++ take k (s .buffer);
+      sources = s .sources ++ take k (s .places);
+      buffer = drop k (s .buffer);
+      places = drop k (s .places);
+      accepted = s .accepted;
+    }
 
--- the row that refuses an event, by this buffer and the sets
+-- the row that refuses an event, by this buffer, the sets and its own count
 abbrev pub refusalAt : Automaton → Store → ℕ → ℕ
 refusalAt a s e = eventRefusal (bySets a) a (positionAt a s) e
 

@@ -11,6 +11,7 @@ use Rattle.enforcement.specs.Calls.{Call, receiveCall, runCall, Reply, receive,
 use Rattle.enforcement.specs.Claims.{Enforced}
 use Rattle.c_layout.specs.Offsets.{configurationSize}
 use Rattle.c_layout.specs.Layout.{automatonOf, configurationOf}
+use Rattle.c_layout.specs.Claims.{Bytes}
 use Rattle.c_layout.specs.Calls.{Left, initialBytes, receivedLeft, ranLeft, receiveLeaves, runLeaves}
 
 -- a reply of the calls by value, as it lies in bytes
@@ -31,10 +32,10 @@ leavesAll record-bytes t c (x ∷ xs) =
     leaves record-bytes t c x ∷ leavesAll record-bytes t (leaves record-bytes t c x .configuration) xs
 
 -- It is that list of calls by value, laid out in bytes, over any record, table and configuration
--- ..
+-- (lent bytes are below 256, as their type has them) ..
 abbrev pub AsByValue : Type 0
 AsByValue =
-    (record-bytes t c : List ℕ) → length c ≡ configurationSize → (calls : List Call)
+    (record-bytes t c : List ℕ) → length c ≡ configurationSize → Bytes c → (calls : List Call)
     → leavesAll record-bytes t c calls ≡ map laid (replies (automatonOf record-bytes) t (configurationOf c) calls)
 
 -- .. so from what `jaxhophasi_initial` leaves in any lent bytes, over a record that row 11 lets

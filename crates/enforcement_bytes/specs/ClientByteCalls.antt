@@ -94,7 +94,9 @@ abbrev pub ClientsByValue : Type 0
 ClientsByValue =
     (record-bytes t : List ℕ) (cs : List Configuration) (calls : List LentCall) → ListByValue record-bytes t cs calls
 
--- a list made by `jaxhophasi_initial`, called for each client on the bytes that lay there
+-- A list made by `jaxhophasi_initial`, called for each client on the bytes that lay there. (That a
+-- list lent from C lies in memory as `configurationOf` reads its bytes is `repr(C)` on a machine
+-- with the low byte first; it is tested, not proved.)
 unfoldable pub initialList : List ℕ → List (List ℕ) → List Configuration
 initialList record-bytes lents = map (λ lent. configurationOf (initialBytes record-bytes lent)) lents
 

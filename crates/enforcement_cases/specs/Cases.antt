@@ -1,4 +1,5 @@
--- The marked cases of document 01, as rows of one list.
+-- The marked cases of document 01, and those of places and counts (document 02, Card 4), as rows
+-- of one list.
 use Prim.Native.Nat.{ℕ, suc}
 use mathlib.Core.Path.{_≡_}
 use mathlib.Core.Bool.{Bool, true, false}
@@ -11,10 +12,11 @@ use Rattle.automaton.specs.declared.Automaton.{Automaton}
 use Rattle.automaton.specs.Automaton.{controllables}
 use Rattle.automaton_format.specs.Reading.{parse, parsed}
 use Rattle.solver_sets.specs.Table.{table, rounds}
-use Rattle.configuration.specs.Configuration.{configuration, initialOf}
+use Rattle.configuration_places.specs.Places.{inputPlace}
+use Rattle.configuration.specs.Configuration.{Position, configuration, initialOf}
 use Rattle.solver_answers.specs.Solving.{countAnswer}
 use Rattle.monitor_answers.specs.declared.Received.{Received}
-use Rattle.monitor_answers.specs.Answers.{status}
+use Rattle.monitor_answers.specs.Answers.{status, received}
 use Rattle.enforcement.specs.Calls.{receiveCall, receive, replies}
 
 -- sheet V (0 Query, 1 Answer), and its record
@@ -57,6 +59,19 @@ automatonW =
           ++ pad 16 (3 ∷ 3 ∷ 3 ∷ 3 ∷ []));
     }
 
+-- an automaton on which two events of one kind can go out together: 1 has to wait for 0
+unfoldable pub automatonPair : Automaton
+automatonPair =
+    record {
+      states = 3;
+      symbols = 2;
+      capacity = 2;
+      initial = 0;
+      classes = pad 16 (0 ∷ 1 ∷ []);
+      accepting = pad 32 (1 ∷ 1 ∷ 0 ∷ []);
+      next = pad 512 (pad 16 (1 ∷ 2 ∷ []) ++ pad 16 (1 ∷ 1 ∷ []) ++ pad 16 (2 ∷ 2 ∷ []));
+    }
+
 -- an automaton of one state with an uncontrollable symbol and k controllable ones
 unfoldable pub sized : ℕ → ℕ → Automaton
 sized k b =
@@ -70,16 +85,22 @@ sized k b =
       next = replicate 512 0;
     }
 
--- the whole answer to an event: refusal, symbols emitted, state, held events, winning (document
--- 01's guarded)
-abbrev pub answer : ℕ → List ℕ → ℕ → List ℕ → Bool → Received
-answer row emitted q held winning =
+-- a position: state, held events, their places in the input, input count, output count
+abbrev pub at : ℕ → List ℕ → List ℕ → ℕ → ℕ → Position
+at q held places received emitted =
+    record { state = q; buffer = held; places = places; received = received; emitted = emitted }
+
+-- the whole answer to an event: refusal, symbols emitted and their places in the input, the
+-- position after it, winning (document 01's guarded)
+abbrev pub answer : ℕ → List ℕ → List ℕ → Position → Bool → Received
+answer row emitted sources p winning =
     record {
       refusal = row;
-      configuration = configuration (record { state = q; buffer = held });
+      configuration = configuration p;
       emitted = pad 7 emitted;
       count = length emitted;
       winning = winning;
+      places = map inputPlace (pad 7 sources);
     }
 
 pub data Case : Type 0 where
@@ -91,6 +112,10 @@ pub data Case : Type 0 where
   initially : Automaton → Bool → Case
   -- events over its table, from the initial configuration on, and their answers
   events : Automaton → List ℕ → List Received → Case
+  -- an event over its table at a position, and its answer
+  later : Automaton → Position → ℕ → Received → Case
+  -- an event over its table at a position, and the row that refuses it there
+  refused : Automaton → Position → ℕ → ℕ → Case
   -- a number and its bytes
   number : ℕ → List ℕ → Case
   -- bytes that are not the fewest, and their number
@@ -103,6 +128,8 @@ Holds (encoded s a) = parse s ≡ parsed a
 Holds (solved a t r) = (table a ≡ t) × (rounds a ≡ r)
 Holds (initially a w) = status a (table a) (initialOf a) ≡ record { refusal = 0; winning = w }
 Holds (events a es rs) = replies a (table a) (initialOf a) (map receiveCall es) ≡ map receive rs
+Holds (later a p e r) = received a (table a) (configuration p) e ≡ r
+Holds (refused a p e row) = received a (table a) (configuration p) e ≡ answer row [] [] p false
 Holds (number v s) = (bytes v ≡ s) × (read s 0 ≡ value v (length s))
 Holds (padded s v) = read s 0 ≡ value v (length s)
 Holds (buffers k b t) = (controllables (sized k b) ≡ k) × (countAnswer (sized k b) ≡ record { refusal = 0; count = t })
@@ -116,31 +143,52 @@ cases =
     initially automatonV false ∷
     -- Answer, Query
     events automatonV (1 ∷ 0 ∷ [])
-    (answer 0 [] 0 (1 ∷ []) true ∷
-    answer 0 (0 ∷ 1 ∷ []) 2 [] true ∷ []) ∷
+    (answer 0 [] [] (at 0 (1 ∷ []) (0 ∷ []) 1 0) true ∷
+    answer 0 (0 ∷ 1 ∷ []) (1 ∷ 0 ∷ []) (at 2 [] [] 2 2) true ∷ []) ∷
     -- Query, Answer
     events automatonV (0 ∷ 1 ∷ [])
-    (answer 0 (0 ∷ []) 1 [] false ∷
-    answer 0 (1 ∷ []) 2 [] true ∷ []) ∷
+    (answer 0 (0 ∷ []) (0 ∷ []) (at 1 [] [] 1 1) false ∷
+    answer 0 (1 ∷ []) (1 ∷ []) (at 2 [] [] 2 2) true ∷ []) ∷
     -- Page, Receipt, Sign
     events automatonW (2 ∷ 3 ∷ 0 ∷ [])
-    (answer 0 [] 0 (2 ∷ []) true ∷
-    answer 0 [] 0 (2 ∷ 3 ∷ []) true ∷
-    answer 0 (0 ∷ 2 ∷ 3 ∷ []) 1 [] true ∷ []) ∷
+    (answer 0 [] [] (at 0 (2 ∷ []) (0 ∷ []) 1 0) true ∷
+    answer 0 [] [] (at 0 (2 ∷ 3 ∷ []) (0 ∷ 1 ∷ []) 2 0) true ∷
+    answer 0 (0 ∷ 2 ∷ 3 ∷ []) (2 ∷ 0 ∷ 1 ∷ []) (at 1 [] [] 3 3) true ∷ []) ∷
     -- Sign, Page, Withdraw
     events automatonW (0 ∷ 2 ∷ 1 ∷ [])
-    (answer 0 (0 ∷ []) 1 [] true ∷
-    answer 0 [] 1 (2 ∷ []) true ∷
-    answer 0 (1 ∷ []) 0 (2 ∷ []) true ∷ []) ∷
+    (answer 0 (0 ∷ []) (0 ∷ []) (at 1 [] [] 1 1) true ∷
+    answer 0 [] [] (at 1 (2 ∷ []) (1 ∷ []) 2 1) true ∷
+    answer 0 (1 ∷ []) (2 ∷ []) (at 0 (2 ∷ []) (1 ∷ []) 3 2) true ∷ []) ∷
     -- Page three times
     events automatonW (2 ∷ 2 ∷ 2 ∷ [])
-    (answer 0 [] 0 (2 ∷ []) true ∷
-    answer 0 [] 0 (2 ∷ 2 ∷ []) true ∷
-    answer 15 [] 0 (2 ∷ 2 ∷ []) false ∷ []) ∷
+    (answer 0 [] [] (at 0 (2 ∷ []) (0 ∷ []) 1 0) true ∷
+    answer 0 [] [] (at 0 (2 ∷ 2 ∷ []) (0 ∷ 1 ∷ []) 2 0) true ∷
+    answer 15 [] [] (at 0 (2 ∷ 2 ∷ []) (0 ∷ 1 ∷ []) 2 0) false ∷ []) ∷
     -- Sign, Receipt
     events automatonW (0 ∷ 3 ∷ [])
-    (answer 0 (0 ∷ []) 1 [] true ∷
-    answer 0 (3 ∷ []) 1 [] true ∷ []) ∷
+    (answer 0 (0 ∷ []) (0 ∷ []) (at 1 [] [] 1 1) true ∷
+    answer 0 (3 ∷ []) (1 ∷ []) (at 1 [] [] 2 2) true ∷ []) ∷
+    -- two of one kind, in the order of their places
+    events automatonPair (1 ∷ 1 ∷ 0 ∷ [])
+    (answer 0 [] [] (at 0 (1 ∷ []) (0 ∷ []) 1 0) true ∷
+    answer 0 [] [] (at 0 (1 ∷ 1 ∷ []) (0 ∷ 1 ∷ []) 2 0) true ∷
+    answer 0 (0 ∷ 1 ∷ 1 ∷ []) (2 ∷ 0 ∷ 1 ∷ []) (at 1 [] [] 3 3) true ∷ []) ∷
+    -- the last event that can be accepted: Sign; then the input count is at its end
+    later automatonW (at 0 [] [] 4294967294 4294967294) 0
+    (answer 0 (0 ∷ []) (4294967294 ∷ []) (at 1 [] [] 4294967295 4294967295) true) ∷
+    -- there Sign, and Page with room, are refused by row 23, Page with the buffer full by row 15,
+    -- and what is no symbol by row 14
+    refused automatonW (at 1 [] [] 4294967295 4294967295) 0 23 ∷
+    refused automatonW (at 0 (2 ∷ []) (7 ∷ []) 4294967295 4294967294) 2 23 ∷
+    refused automatonW (at 0 (2 ∷ 2 ∷ []) (7 ∷ 8 ∷ []) 4294967295 4294967293) 2 15 ∷
+    refused automatonW (at 1 [] [] 4294967295 4294967295) 4 14 ∷
+    -- row 13: a place at the count, equal places, an unused place that is not 0, counts that do
+    -- not fit what is held, also where they would in 32 bits
+    refused automatonW (at 0 (2 ∷ []) (1 ∷ []) 1 0) 0 13 ∷
+    refused automatonW (at 0 (2 ∷ 2 ∷ []) (1 ∷ 1 ∷ []) 4 2) 0 13 ∷
+    refused automatonW (at 0 [] (1 ∷ []) 2 2) 0 13 ∷
+    refused automatonW (at 0 (2 ∷ []) (0 ∷ []) 2 0) 0 13 ∷
+    refused automatonW (at 0 (2 ∷ []) (0 ∷ []) 0 4294967295) 0 13 ∷
     number 127 (127 ∷ []) ∷
     number 128 (128 ∷ 1 ∷ []) ∷
     number 2097151 (255 ∷ 255 ∷ 127 ∷ []) ∷

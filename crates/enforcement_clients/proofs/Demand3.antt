@@ -25,11 +25,12 @@ use Rattle.enforcement.proofs.Demand3.{demand3}
 use Rattle.clients_answers.specs.Clients.{none, initialClients, Outcome, monitored, emittedOf}
 use Rattle.enforcement_clients.specs.ClientCalls.{ClientCall, leavesAll, meetings, momentsOf}
 use Rattle.enforcement_clients.specs.Functions.{Functions, unfed, fedAll, eventsTo, refusalsOf}
-use Rattle.enforcement_clients.specs.Claims.{outcomesTo, OwnEnforced, MetEnforced, ClientsDemand3, ClientsDemand3Solved}
+use Rattle.enforcement_clients.specs.Claims.{outcomesTo, OwnEnforced, MetEnforced, ClientTold, ClientsDemand3, ClientsDemand3Solved}
 use Rattle.enforcement_clients.proofs.Parts.{parted}
 use Rattle.enforcement_clients.proofs.Fed.{function-is}
 use Rattle.enforcement_clients.proofs.Replied.{Together, from-first, all-linked}
 use Rattle.enforcement_clients.proofs.Meetings.{moments-are, output-is, rows-are}
+use Rattle.enforcement_clients.proofs.Told.{client-told}
 
 -- events brought one by one feed a function as they are
 feed-each : (a : Automaton) (es : List ℕ) (s : Store) → feedAll a s (map fedBy (map receiveCall es)) ≡ storeAll a s es
@@ -128,6 +129,9 @@ module _ (a : Automaton) (t : List ℕ) (v : valid a ≡ true) (sv : Solved a t)
           strategies = e .strategies;
         })
 
+    told : ClientTold a t (leavesAll a t cs calls) g (momentsOf a t cs g calls) (ss g)
+    told = rw met-is (client-told a t alone (demand3 a t v sv alone) (leavesAll a t cs calls) g (ss g) as-alone fed-is)
+
 pub clients-demand3 : ClientsDemand3
 clients-demand3 a t v sv count calls =
     let k = from-first a t v sv count calls in
@@ -136,6 +140,7 @@ clients-demand3 a t v sv count calls =
       last-clients = all-linked a (fedAll a count unfed calls) t v sv count (leavesAll a t (initialClients a count) calls) (k .linked);
       own = own-enforced a t v sv count calls;
       met = met-enforced a t v sv count calls;
+      told = told a t v sv count calls;
     }
 
 pub clients-demand3-solved : ClientsDemand3Solved

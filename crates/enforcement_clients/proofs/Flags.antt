@@ -14,7 +14,8 @@ use Rattle.enforcement.proofs.Answers.{status-refusal, flag-is-status, flag-sta
 use Rattle.clients_answers.specs.Listed.{afterAlone}
 use Rattle.clients_answers.specs.Clients.{none, monitored, receivedFor}
 use Rattle.clients_answers.specs.Claims.{AsReceived}
-use Rattle.clients_answers.proofs.Single.{same-next, events-alone}
+use Rattle.monitor_answers.proofs.Eventwise.{same-next}
+use Rattle.clients_answers.proofs.Single.{events-alone}
 use Rattle.clients_answers.proofs.Worded.{client-rows-as-worded}
 use Rattle.enforcement_clients.specs.ClientCalls.{ownAll, leavesAll}
 use Rattle.enforcement_clients.specs.Claims.{ClientsFlagIsStatus, ClientSaysWinning, ClientsFlagStays}
@@ -22,13 +23,13 @@ use Rattle.enforcement_clients.proofs.Parts.{parted}
 
 -- an accepted event is the call on its client's configuration alone
 module _ (a : Automaton) (t : List ℕ) (cs : List Configuration) (g e : ℕ) (z : receivedFor a t cs g e .refusal ≡ 0) where
-  accepted-alone : AsReceived a t cs g e (received a t (getD cs g none) e)
+  pub accepted-alone : AsReceived a t cs g e (received a t (getD cs g none) e)
   accepted-alone =
       let worded = client-rows-as-worded a t cs in
       let k = worded .event g e .accepted .0 (sym (worded .answered g e) ∙ z) in
       events-alone a t cs (k .0) g e (k .1)
 
-  accepted : received a t (getD cs g none) e .refusal ≡ 0
+  pub accepted : received a t (getD cs g none) e .refusal ≡ 0
   accepted = sym (ap (λ r. r .refusal) (accepted-alone .answer)) ∙ z
 
 pub clients-flag-is-status : ClientsFlagIsStatus

@@ -2,7 +2,7 @@
 use Prim.Native.Nat.{ℕ, _≤_}
 use mathlib.Core.Path.{_≡_, refl, sym, _∙_, ap, ap₂}
 use mathlib.Core.Bool.{true}
-use mathlib.Core.List.{List, [], _∷_, _++_}
+use mathlib.Core.List.{List, [], _∷_, _++_, map}
 use native.Mathlib.Omega.{arith}
 use lib.ListN.{length, getD, take, drop, set}
 use lib.Dec.{eqb, ltb}
@@ -10,6 +10,7 @@ use borrow.Author.Tests.{eqb-true, eqb-false, ltb-true, ltb-false}
 use Rattle.base.proofs.Bools.{by}
 use Rattle.automaton.specs.declared.Automaton.{Automaton}
 use Rattle.solver_sets.specs.Table.{short}
+use Rattle.configuration_places.specs.Places.{inputNumber}
 use Rattle.configuration.specs.declared.Configuration.{Configuration}
 use Rattle.monitor_answers.specs.Answers.{received, tableRows}
 use Rattle.monitor_answers.specs.Turns.{turnNext}
@@ -20,7 +21,8 @@ use Rattle.clients_answers.specs.Listed.{outcome, changed, outcomes, changedBy}
 use Rattle.clients_answers.specs.Clients.{none, named, monitored, listRows, listRefusal, clientRows, receiveForRefusal, refusedFor, receivedFor, answerOf, receivedClients}
 use Rattle.clients_answers.specs.Clients.{runForRefusal, dayOutcomes, ranFor, ranClients, ranForBuffer}
 use Rattle.clients_answers.specs.Claims.{ListClear}
-use Rattle.clients_answers.proofs.Single.{same-row, same-emitted, same-next, events-alone}
+use Rattle.monitor_answers.proofs.Eventwise.{same-row, same-emitted, same-sources, same-next}
+use Rattle.clients_answers.proofs.Single.{events-alone}
 use Rattle.clients_answers.proofs.Refusals.{list-clear, clear-opened, list-stands}
 use Rattle.clients_answers.proofs.Room.{day-clear}
 use Rattle.clients_answers.proofs.Kept.{event-refused}
@@ -44,7 +46,9 @@ module _ (a : Automaton) (t u : List ℕ) (s : short a t ≡ short a u) (b : Sam
     says-same c e =
         let row = same-row a t o c e ∙ ap (λ r. r .refusal) (received-same c e) ∙ sym (same-row a u p c e) in
         let put = same-emitted a t o c e ∙ ap (λ r. take (r .count) (r .emitted)) (received-same c e) ∙ sym (same-emitted a u p c e) in
-        λ j. record { refusal = row j; emitted = put j }
+        let from =
+        same-sources a t o c e ∙ ap (λ r. take (r .count) (map inputNumber (r .places))) (received-same c e) ∙ sym (same-sources a u p c e) in
+        λ j. record { refusal = row j; emitted = put j; sources = from j }
 
     next-same : (c : Configuration) (e : ℕ) → turnNext a t c e ≡ turnNext a u c e
     next-same c e = same-next a t o c e ∙ ap (λ r. r .configuration) (received-same c e) ∙ sym (same-next a u p c e)

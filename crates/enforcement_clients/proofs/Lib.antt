@@ -7,6 +7,7 @@ pub mod Turning
 pub mod Linked
 pub mod Replied
 pub mod Meetings
+pub mod Flags
+pub mod Told
 pub mod Demand3
 pub mod Ignored
-pub mod Flags

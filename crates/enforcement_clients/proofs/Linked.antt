@@ -14,7 +14,7 @@ use Rattle.solver_sets.specs.Table.{Solved}
 use Rattle.solver_sets.proofs.Total.{total}
 use Rattle.configuration.specs.declared.Configuration.{Configuration}
 use Rattle.enforcement.specs.Store.{Store, refusalAt, store, storeAll}
-use Rattle.enforcement.specs.Calls.{configurationAt, since}
+use Rattle.enforcement.specs.Calls.{configurationAt, since, sourcesSince}
 use Rattle.enforcement.proofs.Stores.{Sound, since-same, store-sound}
 use Rattle.enforcement.proofs.Replies.{consistent-at}
 use Rattle.clients_answers.specs.Listed.{outcome, changed, outcomes, changedBy, eventsOf, afterAlone}
@@ -25,7 +25,7 @@ use Rattle.clients_answers.proofs.Room.{outcome-in, outcome-beyond}
 use Rattle.enforcement_clients.specs.Functions.{Functions, fedOwn, putOut, refusedDay}
 use Rattle.enforcement_clients.proofs.Sums.{sum-same}
 use Rattle.enforcement_clients.proofs.Fed.{fed-below, fed-above, fed-itself, day-counts, day-absent, day-none}
-use Rattle.enforcement_clients.proofs.Turning.{turn-row, turn-next, turn-put, turn-sound}
+use Rattle.enforcement_clients.proofs.Turning.{turn-row, turn-next, turn-put, turn-from, turn-sound}
 
 module _ (a : Automaton) (t : List ℕ) (v : valid a ≡ true) (sv : Solved a t) where
   -- a function's own events, one by one
@@ -42,7 +42,7 @@ module _ (a : Automaton) (t : List ℕ) (v : valid a ≡ true) (sv : Solved a t)
 
   -- what its event brings
   abbrev outcomeOf : Store → ℕ → Outcome
-  outcomeOf s e = record { refusal = refusalAt a s e; emitted = since s (store a s e) }
+  outcomeOf s e = record { refusal = refusalAt a s e; emitted = since s (store a s e); sources = sourcesSince s (store a s e) }
 
   -- a list of n clients and their functions
   pub record Linked (n : ℕ) (cs : List Configuration) (ss : Functions) : Type 0 where
@@ -74,9 +74,13 @@ module _ (a : Automaton) (t : List ℕ) (v : valid a ≡ true) (sv : Solved a t)
         let o = k .sound i l in
         outcome-in a t cs i e (omega (arith, k .count)) ∙
         ap (λ c. monitored a t .says c e) (k .at i l) ∙
-        (λ j. record { refusal = turn-row a t v sv (ss i) o e j; emitted = turn-put a t v sv (ss i) o e j })
+        (λ j. record {
+          refusal = turn-row a t v sv (ss i) o e j;
+          emitted = turn-put a t v sv (ss i) o e j;
+          sources = turn-from a t v sv (ss i) o e j;
+        })
 
-    outcome-above : (i e : ℕ) → n ≤ i → outcome (monitored a t) cs i e ≡ record { refusal = 19; emitted = [] }
+    outcome-above : (i e : ℕ) → n ≤ i → outcome (monitored a t) cs i e ≡ record { refusal = 19; emitted = []; sources = [] }
     outcome-above i e l = outcome-beyond a t cs i e (omega (arith, k .count))
 
     outcome-emits : (i e : ℕ) → outcome (monitored a t) cs i e .emitted ≡ since (ss i) (fedOwn a n ss ((i, e) ∷ []) i)

@@ -12,15 +12,15 @@ use Rattle.automaton.specs.Automaton.{valid}
 use Rattle.solver_sets.specs.Table.{Solved}
 use Rattle.configuration.specs.declared.Configuration.{Configuration}
 use Rattle.configuration.specs.Configuration.{Position, positionOf, initialOf}
-use Rattle.configuration.proofs.Facts.{position-made}
-use Rattle.monitor_rule.specs.Step.{byTable, advance, eventRefusal}
+use Rattle.monitor_rule.specs.Step.{bySets, byTable, advance, eventRefusal}
+use Rattle.monitor_rule.proofs.Effects.{advance-agrees}
 use Rattle.monitor_answers.specs.Turns.{turnEmitted}
-use Rattle.monitor_answers.proofs.Turns.{turn-consistent, turn-emits, turn-moves}
-use Rattle.enforcement.specs.Store.{Store, empty, refusalAt, store, storeAll, feed}
+use Rattle.monitor_answers.proofs.Turns.{turn-consistent, turn-emits}
+use Rattle.enforcement.specs.Store.{Store, empty, positionAt, refusalAt, store, storeAll, feed}
 use Rattle.enforcement.specs.Calls.{receiveCall, fedBy, configurationAt, since}
 use Rattle.enforcement.specs.Moments.{Moment, effectAt, within, broughtBy, broughtAll, moments}
-use Rattle.enforcement.proofs.Stores.{Sound, initially, initial-sound, store-since, store-refuses}
-use Rattle.enforcement.proofs.Replies.{consistent-at, event-refusal, reply-hands}
+use Rattle.enforcement.proofs.Stores.{Sound, initially, initial-sound, store-since, store-accepts, store-refuses, stored-position}
+use Rattle.enforcement.proofs.Replies.{position-at, consistent-at, event-refusal, event-effect, reply-hands}
 use Rattle.clients_answers.specs.Listed.{Stepping, alone}
 use Rattle.clients_answers.specs.Clients.{none, Outcome, monitored, emittedOf}
 use Rattle.enforcement_clients.specs.ClientCalls.{watching, momentsFrom}
@@ -46,8 +46,10 @@ module _ (a : Automaton) (t : List ℕ) (v : valid a ≡ true) (sv : Solved a t)
     -- accepted, the next position is the one after it
     met-next : refusalAt a s e ≡ 0 → advance (byTable a t) a p e ≡ positionOf (configurationAt a (store a s e))
     met-next h =
-        sym (position-made (advance (byTable a t) a p e)) ∙
-        ap positionOf (sym (turn-moves a t (configurationAt a s) e (turn-row a t v sv s o e ∙ h)) ∙ turn-next a t v sv s o e)
+        ap (λ x. advance (byTable a t) a x e) (position-at a s o) ∙
+        advance-agrees (byTable a t) a (positionAt a s) e (bySets a) (event-effect a t v sv s o e h) ∙
+        sym (ap (positionAt a) (store-accepts a s e h) ∙ stored-position a s e) ∙
+        sym (position-at a (store a s e) (turn-sound a t v sv s o e))
 
     met-emits : (past output : List ℕ) → refusalAt a s e ≡ 0 → turnEmitted a t (configurationAt a s) e ≡ effectAt a t (met past output) .emitted
     unfolding effectAt

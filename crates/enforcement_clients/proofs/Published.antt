@@ -1,22 +1,23 @@
 -- The functions follow document 02's words.
 use Prim.Native.Nat.{ℕ, suc, _+_, _<_, _≤_}
 use mathlib.Core.Path.{_≡_, refl, sym, _∙_, ap}
-use mathlib.Core.Logic.{_⊎_, _↔_}
-use mathlib.Core.Bool.{false}
-use mathlib.Core.List.{List, [], _∷_, _++_}
+use mathlib.Core.Logic.{_↔_}
+use mathlib.Core.List.{List, [], _∷_, _++_, map}
 use native.Mathlib.Omega.{arith}
-use lib.ListN.{length, drop, replicate}
+use lib.ListN.{length, drop}
 use lib.Dec.{eqb, leb, ltb}
 use borrow.Author.Tests.{eqb-true, eqb-false, eq-eqb, ne-eqb, ltb-true, ltb-false, lt-ltb, le-ltb, leb-true, leb-false, le-leb, lt-leb}
 use Rattle.base.specs.Pad.{pad}
 use Rattle.base.proofs.Bools.{by, either}
 use Rattle.automaton.specs.declared.Automaton.{Automaton}
+use Rattle.configuration_places.specs.Places.{inputPlace}
 use Rattle.monitor_rule.specs.Step.{bySets}
-use Rattle.monitor_rule.specs.Claims.{Unknown, Full, Admitted, RowsOfEvent}
+use Rattle.monitor_rule.specs.Claims.{Admitted, RowsOfEvent}
 use Rattle.monitor_rule.proofs.Worded.{event-number, event-rows-as-worded}
 use Rattle.enforcement.specs.Store.{stateOf, positionAt, refusalAt, store}
-use Rattle.enforcement.specs.Calls.{since}
-use Rattle.enforcement.proofs.Stores.{since-same, store-refuses}
+use Rattle.enforcement.specs.Calls.{since, sourcesSince}
+use Rattle.enforcement.specs.Published.{Refused}
+use Rattle.enforcement.proofs.Stores.{since-same, sources-same, store-refuses}
 use Rattle.clients_answers.specs.declared.ReceivedFor.{ReceivedFor}
 use Rattle.clients_answers.specs.Clients.{named}
 use Rattle.clients_answers.specs.Claims.{WrongCount, RightCount, sumBelow}
@@ -32,7 +33,7 @@ use Rattle.feed_answers.proofs.Worded.{events-in-as-worded}
 use Rattle.enforcement_clients.specs.ClientCalls.{ClientCall, receiveFor, runFor, feedFor, eventsBy, ClientReply, receive, run, feed, refusalIn}
 use Rattle.enforcement_clients.specs.Functions.{Functions, fedOwn, badCount, noRoom, refusalOf, fedIn, putOut, refusedDay}
 use Rattle.enforcement_clients.specs.Functions.{eventRefusalOf, answerIn, expectedIn}
-use Rattle.enforcement_clients.specs.Published.{EventAsPublished, EventsAsPublished, DayAsPublished, FeedAsPublished, ClientsFollowPublished}
+use Rattle.enforcement_clients.specs.Published.{silent, EventAsPublished, EventsAsPublished, DayAsPublished, FeedAsPublished, ClientsFollowPublished}
 use Rattle.enforcement_clients.proofs.Fed.{count-wrong, count-right, wrong-bad, right-good}
 use Rattle.enforcement_clients.proofs.Fed.{fed-none, fed-itself, fed-other, fed-absent, fed-first}
 use Rattle.enforcement_clients.proofs.Fed.{day-counts, day-absent, day-none, fed-passes, fed-refuses}
@@ -66,30 +67,40 @@ module _ (a : Automaton) (n : ℕ) (ss : Functions) (k i e : ℕ) where
   unfolding eventRefusalOf
   absent-19 (r, l) = rw (right-good n r, le-leb n i l)
 
-  there-own : RightCount n × (i < n) → eventRefusalOf a n ss i e ≡ own
+  pub there-own : RightCount n × (i < n) → eventRefusalOf a n ss i e ≡ own
   unfolding eventRefusalOf
   there-own (r, l) = rw (right-good n r, lt-leb n i l)
 
-  -- the event's own number is below 16
-  own-small : own < 16
-  own-small =
-      either (event-number (bySets a) a (positionAt a (ss i)) e) (λ h. omega arith) (λ f. either f (λ h. omega arith) (λ h. omega arith))
+  -- the event's own number is neither of them
+  own-other : (m : ℕ) → 15 < m → m < 23 → own ≡ m → ⊥
+  own-other m above below h =
+      either (event-number (bySets a) a (positionAt a (ss i)) e) (λ x. omega arith)
+      (λ f. either f (λ x. omega arith) (λ g. either g (λ x. omega arith) (λ x. omega arith)))
 
-  -- a number below 16 is the event's own
-  of-own : {X : Type 0} (m : ℕ) → m < 16 → (own ≡ m) ↔ X → (eventRefusalOf a n ss i e ≡ m) ↔ (RightCount n × (i < n) × X)
-  of-own m l f = (
-    λ h. cases (λ w. absurd (omega (arith, wrong-20 w))) (λ s. absurd (omega (arith, absent-19 s))) (λ p. (p .0, p .1, f .0 (sym (there-own p) ∙ h))),
+  -- any other number is the event's own
+  of-own : {X : Type 0} (m : ℕ) → (m ≡ 20 → ⊥) → (m ≡ 19 → ⊥) → (own ≡ m) ↔ X
+      → (eventRefusalOf a n ss i e ≡ m) ↔ (RightCount n × (i < n) × X)
+  of-own m no-20 no-19 f = (
+    λ h.
+        cases
+        (λ w. absurd (no-20 (sym h ∙ wrong-20 w)))
+        (λ s. absurd (no-19 (sym h ∙ absent-19 s)))
+        (λ p. (p .0, p .1, f .0 (sym (there-own p) ∙ h))),
     λ (r, b, x). there-own (r, b) ∙ f .1 x,
   )
 
-  rows : RowsOfEvent a (length (ss i .buffer)) e own
+  rows : RowsOfEvent a (length (ss i .buffer)) (ss i .accepted) e own
   rows = event-rows-as-worded (bySets a) a (positionAt a (ss i)) e
 
   given-20 : eventRefusalOf a n ss i e ≡ 20 → WrongCount n
-  given-20 h = cases (λ w. w) (λ s. absurd (omega (arith, absent-19 s))) (λ p. absurd (omega (arith, there-own p, own-small)))
+  given-20 h =
+      cases (λ w. w) (λ s. absurd (omega (arith, absent-19 s)))
+      (λ p. absurd (own-other 20 (omega arith) (omega arith) (sym (there-own p) ∙ h)))
 
   given-19 : eventRefusalOf a n ss i e ≡ 19 → RightCount n × (n ≤ i)
-  given-19 h = cases (λ w. absurd (omega (arith, wrong-20 w))) (λ s. s) (λ p. absurd (omega (arith, there-own p, own-small)))
+  given-19 h =
+      cases (λ w. absurd (omega (arith, wrong-20 w))) (λ s. s)
+      (λ p. absurd (own-other 19 (omega arith) (omega arith) (sym (there-own p) ∙ h)))
 
   -- what is fed
   fed : RightCount n → i < n → after i ≡ store a (ss i) e
@@ -118,17 +129,23 @@ module _ (a : Automaton) (n : ℕ) (ss : Functions) (k i e : ℕ) where
   unfolding fedIn refusalOf eventsBy
   as-lent = refl
 
-  answered : RightCount n → i < n → Admitted a (length (ss i .buffer)) e
+  answered : RightCount n → i < n → Admitted a (length (ss i .buffer)) (ss i .accepted) e
       → let z = store a (ss i) e in
       answer
-      ≡ receive (record { refusal = 0; emitted = pad 7 (since (ss i) z); count = length (since (ss i) z); winning = bySets a (z .buffer) (stateOf a z) })
+      ≡ receive (record {
+        refusal = 0;
+        emitted = pad 7 (since (ss i) z);
+        count = length (since (ss i) z);
+        winning = bySets a (z .buffer) (stateOf a z);
+        places = map inputPlace (pad 7 (sourcesSince (ss i) z));
+      })
   unfolding expectedIn answerIn
   answered r l h = rw (there-own (r, l), rows .accepted .1 h, as-lent, fed r l)
 
   refused : (m : ℕ) → (m ≡ 0 → ⊥) → eventRefusalOf a n ss i e ≡ m
-      → answer ≡ receive (record { refusal = m; emitted = replicate 7 0; count = 0; winning = false })
+      → answer ≡ receive (silent m)
   unfolding expectedIn answerIn pad
-  refused m z h = rw (as-lent, refused-kept (λ q. z (sym h ∙ q)), h, since-same (ss i), ne-eqb m 0 z)
+  refused m z h = rw (as-lent, refused-kept (λ q. z (sym h ∙ q)), h, since-same (ss i), sources-same (ss i), ne-eqb m 0 z)
 
   pub event-as-published : EventAsPublished a n ss k i e
   unfolding refusalIn expectedIn answerIn
@@ -136,9 +153,10 @@ module _ (a : Automaton) (n : ℕ) (ss : Functions) (k i e : ℕ) where
       record {
         row-20 = (given-20, wrong-20);
         row-19 = (given-19, absent-19);
-        row-14 = of-own 14 (omega arith) (rows .row-14);
-        row-15 = of-own 15 (omega arith) (rows .row-15);
-        accepted = of-own 0 (omega arith) (rows .accepted);
+        row-14 = of-own 14 (λ z. omega arith) (λ z. omega arith) (rows .row-14);
+        row-15 = of-own 15 (λ z. omega arith) (λ z. omega arith) (rows .row-15);
+        row-23 = of-own 23 (λ z. omega arith) (λ z. omega arith) (rows .row-23);
+        accepted = of-own 0 (λ z. omega arith) (λ z. omega arith) (rows .accepted);
         fed = fed;
         others = others;
         wrong-count = wrong-count;
@@ -168,10 +186,11 @@ module _ (a : Automaton) (n : ℕ) (ss : Functions) where
         ap (λ (z : Functions). since (ss i) (z i) ++ putOut a n z xs) same ∙ ap (λ out. out ++ putOut a n ss xs) (since-same (ss i))
 
     -- an event that its client's function refuses
-    not-taken : Unknown a e ⊎ Full a (length (ss i .buffer)) e → refusalAt a (ss i) e ≡ 0 → ⊥
+    not-taken : Refused a (ss i) e → refusalAt a (ss i) e ≡ 0 → ⊥
     not-taken f z =
         let r = event-rows-as-worded (bySets a) a (positionAt a (ss i)) e in
-        either f (λ u. omega (arith, r .row-14 .1 u)) (λ b. omega (arith, r .row-15 .1 b))
+        either f (λ u. omega (arith, r .row-14 .1 u))
+        (λ g. either g (λ b. omega (arith, r .row-15 .1 b)) (λ b. omega (arith, r .row-23 .1 b)))
 
     passed-over : i < n → (refusalAt a (ss i) e ≡ 0 → ⊥) → (g : ℕ) → next g ≡ ss g
     passed-over l z g =
@@ -179,13 +198,13 @@ module _ (a : Automaton) (n : ℕ) (ss : Functions) where
         (λ q. rw (eqb-true g i q) (fed-itself a n ss i e l ∙ store-refuses a (ss i) e z))
         (λ q. fed-other a n ss i e g (eqb-false g i q))
 
-    counted : i < n → Unknown a e ⊎ Full a (length (ss i .buffer)) e → refusedDay a n ss ((i, e) ∷ xs) ≡ suc (refusedDay a n ss xs)
+    counted : i < n → Refused a (ss i) e → refusedDay a n ss ((i, e) ∷ xs) ≡ suc (refusedDay a n ss xs)
     counted l f =
         let z = not-taken f in
         let same = ap (λ (r : Functions). refusedDay a n r xs) (kept (passed-over l z)) in
         day-counts a n ss i e xs l ∙ rw (ne-eqb (refusalAt a (ss i) e) 0 z) (omega (arith, same))
 
-    not-counted : i < n → Admitted a (length (ss i .buffer)) e → refusedDay a n ss ((i, e) ∷ xs) ≡ refusedDay a n next xs
+    not-counted : i < n → Admitted a (length (ss i .buffer)) (ss i .accepted) e → refusedDay a n ss ((i, e) ∷ xs) ≡ refusedDay a n next xs
     not-counted l f =
         let z = event-rows-as-worded (bySets a) a (positionAt a (ss i)) e .accepted .1 f in
         day-counts a n ss i e xs l ∙ rw z (omega arith)
@@ -306,8 +325,7 @@ module _ (a : Automaton) (n : ℕ) (ss : Functions) (k : ℕ) (s : List ℕ) (x 
 
   -- not let in, by row 20 or by one of its own
   abbrev turned : ℕ → ℕ → ClientReply
-  turned row place =
-      feed (record { answer = record { refusal = row; emitted = replicate 7 0; count = 0; winning = false }; place = place; expected = x; loss = 0 })
+  turned row place = feed (record { answer = silent row; place = place; expected = x; loss = 0 })
 
   feed-wrong : WrongCount n → expectedIn a n ss fed-call ≡ turned 20 0
   unfolding expectedIn refusalOf

@@ -2,7 +2,7 @@
 use Prim.Native.Nat.{ℕ, zero, suc, _+_, _<_, _≤_}
 use mathlib.Core.Path.{_≡_, refl, sym, _∙_, ap, ap₂}
 use mathlib.Core.Bool.{true, false, cond}
-use mathlib.Core.List.{List, [], _∷_, _++_}
+use mathlib.Core.List.{List, [], _∷_, _++_, map}
 use native.Mathlib.Omega.{arith}
 use lib.ListN.{length, getD, take, length-append, length-take, length-replicate, getD-replicate, List·getD-append}
 use lib.Seq.{ext-getD, getD-at}
@@ -13,18 +13,19 @@ use Rattle.base.proofs.Bools.{by}
 use Rattle.automaton.specs.declared.Automaton.{Automaton}
 use Rattle.automaton.specs.Automaton.{valid}
 use Rattle.solver_sets.specs.Table.{Solved}
+use Rattle.configuration_places.specs.Places.{inputPlace}
 use Rattle.configuration.specs.declared.Configuration.{Configuration}
 use Rattle.monitor_rule.specs.Step.{bySets}
 use Rattle.monitor_answers.specs.Turns.{turnRefusal}
-use Rattle.enforcement.specs.Store.{stateOf, store}
-use Rattle.enforcement.specs.Calls.{configurationAt, since}
+use Rattle.enforcement.specs.Store.{stateOf, refusalAt, store}
+use Rattle.enforcement.specs.Calls.{configurationAt, since, sourcesSince}
 use Rattle.enforcement.proofs.Stores.{initially, initial-sound}
 use Rattle.enforcement.proofs.Replies.{not-short}
 use Rattle.clients_answers.specs.declared.ReceivedFor.{ReceivedFor}
 use Rattle.clients_answers.specs.Listed.{changedBy}
 use Rattle.clients_answers.specs.Clients.{none, initialClients, named, monitored, listRefusal, emittedOf, refusedIn}
 use Rattle.clients_answers.specs.Clients.{receiveForRefusal, refusedFor, receivedFor, runForRefusal, dayOutcomes, ranFor, ranForBuffer}
-use Rattle.clients_answers.specs.Claims.{WrongCount, ListClear, sumBelow}
+use Rattle.clients_answers.specs.Claims.{WrongCount, RightCount, ListClear, sumBelow}
 use Rattle.clients_answers.proofs.Refusals.{list-wrong, clear-list}
 use Rattle.clients_answers.proofs.Single.{own-row}
 use Rattle.clients_answers.proofs.Worded.{client-rows-as-worded}
@@ -39,8 +40,8 @@ use Rattle.enforcement_clients.specs.Functions.{lentOf, expected, fed, e
 use Rattle.enforcement_clients.proofs.Sums.{not-lent, was-lent, lent-at}
 use Rattle.enforcement_clients.proofs.Parts.{lentAfter, leaves-is, after-count, leaves-count}
 use Rattle.enforcement_clients.proofs.Fed.{count-wrong, count-right, fed-passes, fed-refuses, fed-beyond}
-use Rattle.enforcement_clients.proofs.Published.{event-as-published, eventAnswer, feed-let-in, feed-as-published}
-use Rattle.enforcement_clients.proofs.Turning.{turn-row, turn-next, turn-put, turn-sound, turn-wins}
+use Rattle.enforcement_clients.proofs.Published.{there-own, event-as-published, eventAnswer, feed-let-in, feed-as-published}
+use Rattle.enforcement_clients.proofs.Turning.{turn-row, turn-next, turn-put, turn-from, turn-sound, turn-wins}
 use Rattle.enforcement_clients.proofs.Linked.{Linked, linked-by, held-is, bytes-are, count-is}
 
 module _ (a : Automaton) (t : List ℕ) (v : valid a ≡ true) (sv : Solved a t) where
@@ -79,19 +80,27 @@ module _ (a : Automaton) (t : List ℕ) (v : valid a ≡ true) (sv : Solved a t)
         turn-row a t v sv (ss i) (k .sound i l) e)))
 
     -- an event that its client's function accepts, and a refused one
-    accepted-answer : (i e : ℕ) → i < n → eventRefusalOf a n ss i e ≡ 0
+    accepted-answer : (i e : ℕ) → RightCount n → i < n → refusalAt a (ss i) e ≡ 0
         → let z = store a (ss i) e in
         receivedFor a t cs i e
-        ≡ record { refusal = 0; emitted = pad 7 (since (ss i) z); count = length (since (ss i) z); winning = bySets a (z .buffer) (stateOf a z) }
+        ≡ record {
+          refusal = 0;
+          emitted = pad 7 (since (ss i) z);
+          count = length (since (ss i) z);
+          winning = bySets a (z .buffer) (stateOf a z);
+          places = map inputPlace (pad 7 (sourcesSince (ss i) z));
+        }
     unfolding receivedFor
-    accepted-answer i e l h =
+    accepted-answer i e r l h =
         let o = k .sound i l in
         let z = store a (ss i) e in
         rw (
           event-row i e,
+          there-own a n ss n i e (r, l),
           h,
           k .at i l,
           turn-put a t v sv (ss i) o e,
+          turn-from a t v sv (ss i) o e,
           turn-next a t v sv (ss i) o e,
           turn-wins a t v sv z (turn-sound a t v sv (ss i) o e),
         )
@@ -109,7 +118,7 @@ module _ (a : Automaton) (t : List ℕ) (v : valid a ≡ true) (sv : Solved a t)
         (λ h.
         let z = eqb-true m 0 h in
         let (r, b, taken) = p .accepted .0 z in
-        ap receive (accepted-answer i e b z) ∙ sym (p .answer r b taken))
+        ap receive (accepted-answer i e r b (sym (there-own a n ss l i e (r, b)) ∙ z)) ∙ sym (p .answer r b taken))
         (λ h. ap receive (refused-answer i e h) ∙ sym (p .refused m (eqb-false m 0 h) refl))
 
     answer-is : (i e : ℕ) → receivedFor a t cs i e ≡ answerIn a n ss i e

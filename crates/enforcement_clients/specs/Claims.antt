@@ -1,5 +1,5 @@
--- Demand 3 over a list of clients (document 02, Cards 1 and 3), and noninterference over lists of
--- calls: events, days and records of the feed.
+-- Demand 3 over a list of clients (document 02, Cards 1, 3 and 4), and noninterference over lists
+-- of calls: events, days and records of the feed.
 use Prim.Native.Nat.{ℕ, _<_, _≤_, min}
 use mathlib.Core.Path.{_≡_}
 use mathlib.Core.Bool.{true}
@@ -10,12 +10,14 @@ use Rattle.automaton.specs.declared.Automaton.{Automaton}
 use Rattle.automaton.specs.Automaton.{valid}
 use Rattle.solver_sets.specs.Table.{short, Solved}
 use Rattle.solver_answers.specs.Solving.{solveRefusal, solvedTable}
+use Rattle.configuration_places.specs.Places.{inputNumber, outputNumber}
 use Rattle.configuration.specs.declared.Configuration.{Configuration}
-use Rattle.configuration.specs.Configuration.{initialOf, consistent}
+use Rattle.configuration.specs.Configuration.{heldEvents, placeNumbers, initialOf, consistent}
 use Rattle.monitor_answers.specs.Answers.{isWinning, status}
-use Rattle.enforcement.specs.Store.{Store, empty, storeAll}
+use Rattle.enforcement.specs.Store.{Store, empty, store, storeAll}
 use Rattle.enforcement.specs.Calls.{receiveCall, configurationAfter, configurationAt}
-use Rattle.enforcement.specs.Moments.{Moment, emittedAt, moments}
+use Rattle.enforcement.specs.Moments.{Moment, emittedAt, sourcesAt, moments}
+use Rattle.enforcement.specs.Places.{eventAt, Traced, Answered}
 use Rattle.enforcement.specs.Claims.{Enforced, winningAfter, Stays, LongerIsLost}
 use Rattle.enforcement.specs.Answers.{SaysWinning, SameBits}
 use Rattle.clients_answers.specs.Listed.{eventsOf, partOf}
@@ -84,7 +86,7 @@ unfoldable pub outcomesTo : Automaton → List ℕ → List Configuration → �
 outcomesTo a t = seenAll a t (monitored a t .says) (monitored a t .absent)
 
 -- It is what the calls answer: to an event, or to a record that brings it, the row and the symbols
--- of its answer; in a day the client's part of what the day's events bring.
+-- of its answer with their places; in a day the client's part of what the day's events bring.
 pub record OutcomesAnswered (a : Automaton) (t : List ℕ) (cs : List Configuration) (g : ℕ) : Type 0 where
   pub nothing : outcomesTo a t cs g [] ≡ []
   pub first : (x : ClientCall) (xs : List ClientCall)
@@ -102,7 +104,7 @@ OutcomesAsAnswered = (a : Automaton) (t : List ℕ) (cs : List Configuration) (g
 
 -- Two lists of calls, events, days and records mixed, over one automaton and table (of any
 -- contents), that bring a client with the same configuration the same events: each of them brings
--- the same row and emits the same, and the last configuration is the same.
+-- the same row and emits the same from the same places, and the last configuration is the same.
 abbrev pub CallsNoninterference : Type 0
 CallsNoninterference =
     (a : Automaton) (t : List ℕ) (cs ds : List Configuration) (xs ys : List ClientCall) (g h : ℕ)
@@ -159,7 +161,8 @@ pub record OwnEnforced (a : Automaton) (t : List ℕ) (count : ℕ) (calls : Lis
 -- The same said of the client's accepted events as they are met in the list, s being its function
 -- and c its configuration in the end.
 pub record MetEnforced (a : Automaton) (t : List ℕ) (ms : List Moment) (s : Store) (c : Configuration) : Type 0 where
-  -- fed the accepted events alone, the function ends with the same output and buffer
+  -- fed the accepted events alone, the function ends with the same output and buffer, the same
+  -- places of both and the same count
   pub alone : storeAll a empty (map (λ (m : Moment). m .event) ms) ≡ s
   pub emitted : emittedAt a t ms ≡ s .output
   -- once winning, winning after each later one, and the output then leads to an accepting state
@@ -173,8 +176,23 @@ pub record MetEnforced (a : Automaton) (t : List ℕ) (ms : List Moment) (s : St
   -- every strategy that emits a longer front part at one of them is lost
   pub strategies : AllOf (LongerIsLost a t) ms
 
+-- What the places mean, of a client of the list cs: they count its own accepted events, ms, and no
+-- other's; s is its function. So they do in the answer to an event of that client, and so in the
+-- answer to a record of the feed that brings it, which is the same (`FeedAnsweredAsWorded`).
+pub record ClientTold (a : Automaton) (t : List ℕ) (cs : List Configuration) (g : ℕ) (ms : List Moment) (s : Store) : Type 0 where
+  pub function : Traced (map (λ (m : Moment). m .event) ms) s
+  pub traced : sourcesAt a t ms ≡ s .sources
+  pub held : let c = getD cs g none in
+      map (eventAt (map (λ (m : Moment). m .event) ms)) (take (c .held) (placeNumbers c)) ≡ heldEvents c
+  pub received-count : inputNumber (getD cs g none .received) ≡ length ms
+  pub emitted-count : outputNumber (getD cs g none .emitted) ≡ length (emittedAt a t ms)
+  pub answered : (e : ℕ) → let r = receivedFor a t cs g e in r .refusal ≡ 0
+      → Answered (map (λ (m : Moment). m .event) ms ++ e ∷ []) s (store a s e) (r .count) (r .emitted)
+      (map inputNumber (r .places))
+
 -- Demand 3 over any list of calls on a list of clients: every call's whole reply is the published
--- functions'; the whole list is what they stand for; and each client is enforced.
+-- functions'; the whole list is what they stand for; each client is enforced; and its places are
+-- what they mean.
 pub record ClientsEnforced (a : Automaton) (t : List ℕ) (count : ℕ) (calls : List ClientCall) : Type 0 where
   pub each-reply : replies a t (initialClients a count) calls ≡ expectedAll a count unfed calls
   pub last-clients : leavesAll a t (initialClients a count) calls ≡ configurationsAt a count (fedAll a count unfed calls)
@@ -182,6 +200,9 @@ pub record ClientsEnforced (a : Automaton) (t : List ℕ) (count : ℕ) (calls :
   pub met : (g : ℕ) → g < count
       → MetEnforced a t (momentsOf a t (initialClients a count) g calls) (fedAll a count unfed calls g)
       (getD (leavesAll a t (initialClients a count) calls) g none)
+  pub told : (g : ℕ) → g < count
+      → ClientTold a t (leavesAll a t (initialClients a count) calls) g (momentsOf a t (initialClients a count) g calls)
+      (fedAll a count unfed calls g)
 
 -- for any count, also one that row 20 refuses
 abbrev pub ClientsDemand3 : Type 0

@@ -4,15 +4,16 @@
 -- that is `admission` (in words: `RecordsAsWorded` of crate `feed_record`).
 use Prim.Native.Nat.{ℕ, zero, suc, _+_, min}
 use mathlib.Core.Bool.{Bool, false, cond, _&&_, _||_}
-use mathlib.Core.List.{List, [], _∷_, _++_}
+use mathlib.Core.List.{List, [], _∷_, _++_, map}
 use lib.ListN.{length, drop, replicate}
 use lib.Dec.{eqb, leb, ltb}
 use Rattle.base.specs.Pad.{pad}
 use Rattle.automaton.specs.declared.Automaton.{Automaton}
+use Rattle.configuration_places.specs.Places.{inputPlace}
 use Rattle.configuration.specs.declared.Configuration.{Configuration}
 use Rattle.monitor_rule.specs.Step.{bySets}
 use Rattle.enforcement.specs.Store.{Store, empty, stateOf, refusalAt, store, storeAll, refusedOf}
-use Rattle.enforcement.specs.Calls.{since, configurationAt}
+use Rattle.enforcement.specs.Calls.{since, sourcesSince, configurationAt}
 use Rattle.clients_answers.specs.declared.ReceivedFor.{ReceivedFor}
 use Rattle.clients_answers.specs.Listed.{eventsOf}
 use Rattle.clients_answers.specs.Clients.{named}
@@ -70,8 +71,8 @@ refusedDay a n ss xs = sumBelow n (λ g. refusedOf a (ss g) (eventsOf g xs)) + a
 unfoldable pub eventRefusalOf : Automaton → ℕ → Functions → ℕ → ℕ → ℕ
 eventRefusalOf a n ss i e = cond (badCount n) 20 (cond (leb n i) 19 (refusalAt a (ss i) e))
 
--- what they answer to an event where n are lent: what its client's function put out then, and
--- whether its state lies in S of its buffer
+-- what they answer to an event where n are lent: what its client's function put out then with the
+-- places, and whether its state lies in S of its buffer
 unfoldable pub answerIn : Automaton → ℕ → Functions → ℕ → ℕ → ReceivedFor
 answerIn a n ss i e =
     let z = fedIn a n ss (receiveFor n i e) i in
@@ -81,6 +82,7 @@ answerIn a n ss i e =
       emitted = pad 7 (since (ss i) z);
       count = length (since (ss i) z);
       winning = eqb m 0 && bySets a (z .buffer) (stateOf a z);
+      places = map inputPlace (pad 7 (sourcesSince (ss i) z));
     }
 
 -- the reply that they give to a call that lends n: to a day, what they put out, then the old
@@ -99,7 +101,13 @@ expectedIn a n ss (feedFor l s x) =
     feed (cond (eqb row 0)
     (record { answer = answerIn a n ss (m .client) (m .symbol); place = 0; expected = m .expected; loss = m .loss })
     (record {
-      answer = record { refusal = row; emitted = replicate 7 0; count = 0; winning = false };
+      answer = record {
+        refusal = row;
+        emitted = replicate 7 0;
+        count = 0;
+        winning = false;
+        places = replicate 7 (inputPlace 0);
+      };
       place = cond (badCount n) 0 (m .place);
       expected = x;
       loss = 0;

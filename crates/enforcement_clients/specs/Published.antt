@@ -5,16 +5,18 @@
 -- feed are let in (`admission`, pinned by `RecordsAsWorded`).
 use Prim.Native.Nat.{ℕ, suc, _+_, _<_, _≤_}
 use mathlib.Core.Path.{_≡_}
-use mathlib.Core.Logic.{_⊎_, _↔_}
+use mathlib.Core.Logic.{_↔_}
 use mathlib.Core.Bool.{false}
-use mathlib.Core.List.{List, [], _∷_, _++_}
+use mathlib.Core.List.{List, [], _∷_, _++_, map}
 use lib.ListN.{length, drop, replicate}
 use Rattle.base.specs.Pad.{pad}
 use Rattle.automaton.specs.declared.Automaton.{Automaton}
+use Rattle.configuration_places.specs.Places.{inputPlace}
 use Rattle.monitor_rule.specs.Step.{bySets}
-use Rattle.monitor_rule.specs.Claims.{Unknown, Full, Admitted}
+use Rattle.monitor_rule.specs.Claims.{Unknown, Full, CountEnded, Admitted}
 use Rattle.enforcement.specs.Store.{stateOf, store}
-use Rattle.enforcement.specs.Calls.{since}
+use Rattle.enforcement.specs.Calls.{since, sourcesSince}
+use Rattle.enforcement.specs.Published.{Refused}
 use Rattle.clients_answers.specs.declared.ReceivedFor.{ReceivedFor}
 use Rattle.clients_answers.specs.Clients.{named}
 use Rattle.clients_answers.specs.Claims.{WrongCount, RightCount, sumBelow}
@@ -26,26 +28,32 @@ use Rattle.feed_record.specs.Claims.{InTime}
 use Rattle.enforcement_clients.specs.ClientCalls.{receiveFor, runFor, feedFor, receive, run, feed, refusalIn}
 use Rattle.enforcement_clients.specs.Functions.{Functions, fedOwn, fedIn, putOut, refusedDay, expectedIn}
 
+-- the answer to a refused event: the row, nothing put out, no
+abbrev pub silent : ℕ → ReceivedFor
+silent m = record { refusal = m; emitted = replicate 7 0; count = 0; winning = false; places = replicate 7 (inputPlace 0) }
+
 -- One event: k is how many the call asks to lend, n how many it lends, i the client, e the symbol.
 pub record EventAsPublished (a : Automaton) (n : ℕ) (ss : Functions) (k i e : ℕ) : Type 0 where
-  -- row 20, a list of none or over 500; row 19, a client's number not below the count; then 14 and
-  -- 15, by the client's own buffer
+  -- row 20, a list of none or over 500; row 19, a client's number not below the count; then 14, 15
+  -- and 23, by the client's own buffer and its own count
   pub row-20 : (refusalIn (expectedIn a n ss (receiveFor k i e)) ≡ 20) ↔ WrongCount n
   pub row-19 : (refusalIn (expectedIn a n ss (receiveFor k i e)) ≡ 19) ↔ (RightCount n × (n ≤ i))
   pub row-14 : (refusalIn (expectedIn a n ss (receiveFor k i e)) ≡ 14) ↔ (RightCount n × (i < n) × Unknown a e)
   pub row-15 : (refusalIn (expectedIn a n ss (receiveFor k i e)) ≡ 15)
       ↔ (RightCount n × (i < n) × Full a (length (ss i .buffer)) e)
+  pub row-23 : (refusalIn (expectedIn a n ss (receiveFor k i e)) ≡ 23)
+      ↔ (RightCount n × (i < n) × CountEnded a (length (ss i .buffer)) (ss i .accepted) e)
   pub accepted : (refusalIn (expectedIn a n ss (receiveFor k i e)) ≡ 0)
-      ↔ (RightCount n × (i < n) × Admitted a (length (ss i .buffer)) e)
+      ↔ (RightCount n × (i < n) × Admitted a (length (ss i .buffer)) (ss i .accepted) e)
   -- it is fed to its client's function and to no other; a call that 20 refuses, or 19, brings none
   -- of them an event
   pub fed : RightCount n → i < n → fedIn a n ss (receiveFor k i e) i ≡ store a (ss i) e
   pub others : (g : ℕ) → (g ≡ i → ⊥) → fedIn a n ss (receiveFor k i e) g ≡ ss g
   pub wrong-count : (g : ℕ) → WrongCount n → fedIn a n ss (receiveFor k i e) g ≡ ss g
   pub absent : (g : ℕ) → n ≤ i → fedIn a n ss (receiveFor k i e) g ≡ ss g
-  -- the answer to an accepted one: what the client's function put out then, and whether its state
-  -- lies in S of its buffer
-  pub answer : RightCount n → i < n → Admitted a (length (ss i .buffer)) e
+  -- the answer to an accepted one: what the client's function put out then with the places, and
+  -- whether its state lies in S of its buffer
+  pub answer : RightCount n → i < n → Admitted a (length (ss i .buffer)) (ss i .accepted) e
       → let z = store a (ss i) e in
       expectedIn a n ss (receiveFor k i e)
       ≡ receive (record {
@@ -53,11 +61,12 @@ pub record EventAsPublished (a : Automaton) (n : ℕ) (ss : Functions) (k i e : 
         emitted = pad 7 (since (ss i) z);
         count = length (since (ss i) z);
         winning = bySets a (z .buffer) (stateOf a z);
+        places = map inputPlace (pad 7 (sourcesSince (ss i) z));
       })
   -- and to a refused one
   pub refused : (m : ℕ) → (m ≡ 0 → ⊥) → refusalIn (expectedIn a n ss (receiveFor k i e)) ≡ m
       → expectedIn a n ss (receiveFor k i e)
-      ≡ receive (record { refusal = m; emitted = replicate 7 0; count = 0; winning = false })
+      ≡ receive (silent m)
 
 -- Events with their clients' numbers, one after the other: each is fed to its client's function
 -- and to no other, one for a client that is not there to none; what the functions put out stands
@@ -74,9 +83,9 @@ pub record EventsAsPublished (a : Automaton) (n : ℕ) (ss : Functions) : Type 0
       → putOut a n ss ((i, e) ∷ xs) ≡ since (ss i) (store a (ss i) e) ++ putOut a n (fedOwn a n ss ((i, e) ∷ [])) xs
   pub absent-put : (i e : ℕ) (xs : List (ℕ × ℕ)) → n ≤ i → putOut a n ss ((i, e) ∷ xs) ≡ putOut a n ss xs
   pub none-counted : refusedDay a n ss [] ≡ 0
-  pub counted : (i e : ℕ) (xs : List (ℕ × ℕ)) → i < n → Unknown a e ⊎ Full a (length (ss i .buffer)) e
+  pub counted : (i e : ℕ) (xs : List (ℕ × ℕ)) → i < n → Refused a (ss i) e
       → refusedDay a n ss ((i, e) ∷ xs) ≡ suc (refusedDay a n ss xs)
-  pub not-counted : (i e : ℕ) (xs : List (ℕ × ℕ)) → i < n → Admitted a (length (ss i .buffer)) e
+  pub not-counted : (i e : ℕ) (xs : List (ℕ × ℕ)) → i < n → Admitted a (length (ss i .buffer)) (ss i .accepted) e
       → refusedDay a n ss ((i, e) ∷ xs) ≡ refusedDay a n (fedOwn a n ss ((i, e) ∷ [])) xs
   pub absent-counted : (i e : ℕ) (xs : List (ℕ × ℕ)) → n ≤ i
       → refusedDay a n ss ((i, e) ∷ xs) ≡ suc (refusedDay a n ss xs)
@@ -109,7 +118,7 @@ pub record FeedAsPublished (a : Automaton) (n : ℕ) (ss : Functions) (k : ℕ) 
   pub wrong-count : WrongCount n
       → expectedIn a n ss (feedFor k s x)
       ≡ feed (record {
-        answer = record { refusal = 20; emitted = replicate 7 0; count = 0; winning = false };
+        answer = silent 20;
         place = 0;
         expected = x;
         loss = 0;
@@ -117,7 +126,7 @@ pub record FeedAsPublished (a : Automaton) (n : ℕ) (ss : Functions) (k : ℕ) 
   pub not-let-in : RightCount n → (admission s x .refusal ≡ 0 → ⊥)
       → expectedIn a n ss (feedFor k s x)
       ≡ feed (record {
-        answer = record { refusal = admission s x .refusal; emitted = replicate 7 0; count = 0; winning = false };
+        answer = silent (admission s x .refusal);
         place = admission s x .place;
         expected = x;
         loss = 0;

@@ -12,27 +12,30 @@ use Rattle.base.proofs.Ranges.{each-at}
 use Rattle.automaton.specs.Automaton.{accepts, reached}
 use Rattle.solver_sets.specs.Table.{Solved, short, index}
 use Rattle.solver_sets.proofs.Numbering.{numbered}
-use Rattle.configuration.specs.Configuration.{configuration, initialOf}
+use Rattle.configuration_places.specs.Places.{inputNumber}
+use Rattle.configuration.specs.Configuration.{heldEvents, placeNumbers, configuration, initialOf}
 use Rattle.monitor_answers.specs.Answers.{tableRows, callRows, callRefusal, isWinning, status, receiveRefusal, received}
-use Rattle.enforcement.specs.Store.{Store, empty, storeAll, feed, feedAll}
+use Rattle.enforcement.specs.Store.{Store, empty, store, storeAll, feed, feedAll}
 use Rattle.enforcement.specs.Calls.{configurationAt, receiveCall, fedBy}
-use Rattle.enforcement.specs.Moments.{Moment, effectAt}
+use Rattle.enforcement.specs.Moments.{Moment, effectAt, emittedAt}
+use Rattle.enforcement.specs.Places.{eventAt, Answered}
 use Rattle.enforcement.specs.Strategy.{Lost, lostBound}
 use Rattle.enforcement.specs.Claims.{winningAfter, outputAfter}
 use Rattle.enforcement.specs.Claims.{arrivalAt, strategyRelease, ourRelease, strategyOutput, strategyBuffer, LongerIsLost}
 use Rattle.enforcement.specs.Answers.{SaysWinning, SameBits}
-use Rattle.enforcement_cases.specs.Cases.{automatonV, automatonW}
+use Rattle.enforcement_cases.specs.Cases.{automatonV, automatonW, at}
 use Rattle.enforcement_cases.proofs.Cases.{marked-cases}
-use Rattle.enforcement_instances.specs.Statements.{filled, tableW, at}
+use Rattle.enforcement_instances.specs.Statements.{filled, tableW}
 use Rattle.enforcement_instances.specs.MonitorStatements.{storeOf, eager}
 use Rattle.enforcement_instances.proofs.Sheets.{valid-w, valid-v, solves-w, buffers-w, solved-w, solved-v}
 use Rattle.enforcement_instances.proofs.MonitorInstances.{begins-winning}
 use Rattle.clients_answers.specs.declared.ReceivedFor.{ReceivedFor}
 use Rattle.clients_answers.specs.Listed.{eventsOf, partOf}
 use Rattle.clients_answers.specs.Clients.{none, initialClients, named, listRefusal, Outcome, receivedFor, runForRefusal, dayOutcomes}
+use Rattle.clients_answers.specs.Claims.{outcomeOf}
 use Rattle.enforcement_clients.specs.ClientCalls.{ClientCall, receiveFor, lentBy, receive, reply, leaves, replies, leavesAll, ownAll, momentsOf}
 use Rattle.enforcement_clients.specs.Functions.{Functions, unfed, fedIn, expectedIn, expectedAll, fedAll, eventsTo, refusalsOf, configurationsAt}
-use Rattle.enforcement_clients.specs.Claims.{outcomesTo, ClientsEnforced}
+use Rattle.enforcement_clients.specs.Claims.{outcomesTo, ClientTold, ClientsEnforced}
 use Rattle.enforcement_clients.proofs.InTurn.{answered-in-turn, expected-in-turn}
 use Rattle.enforcement_clients.proofs.Parts.{calls-noninterference, events-brought-as-worded, outcomes-as-answered}
 use Rattle.enforcement_clients.proofs.Ignored.{clients-others-ignored}
@@ -40,10 +43,11 @@ use Rattle.enforcement_clients.proofs.Flags.{clients-flag-is-status, clients-fl
 use Rattle.enforcement_clients.proofs.Demand3.{clients-demand3, clients-demand3-solved}
 use Rattle.enforcement_clients_instances.proofs.Computing.{stepping, listing, calling, feeding}
 use Rattle.enforcement_clients_instances.proofs.ListInstances.{alone-w}
-use Rattle.enforcement_clients_instances.specs.ListStatements.{sent, broken, waiting, here, brings, answerFor}
+use Rattle.enforcement_clients_instances.specs.ListStatements.{sent, broken, waiting, waitingServed, full, here, lets, brings, answerFor}
 use Rattle.enforcement_clients_instances.specs.CallStatements.{refused, ran, tableV, callsV, answerV, queryV, LaterWinning}
 use Rattle.enforcement_clients_instances.specs.CallStatements.{crowdCalls, noneCalls, Counts, callsHere, two, callsTwo, signed, otherTable, Turns, Bringing, Beside, Reloaded}
-use Rattle.enforcement_clients_instances.specs.CallStatements.{calls, callReplies, ownEvents, page, receipt, sign, again, startW, Fields, OwnFields, MetFields}
+use Rattle.enforcement_clients_instances.specs.CallStatements.{calls, callReplies, ownEvents, page, receipt, sign, again, lastZero, lastOne, storeOne, startW, Fields, OwnFields, MetFields}
+use Rattle.enforcement_clients_instances.specs.CallStatements.{taken, lastTwo, placesThen, ToldFields}
 
 -- demand 3 of W's clients, for any count and calls
 pub enforced-w : (count : ℕ) (xs : List ClientCall) → ClientsEnforced automatonW tableW count xs
@@ -54,7 +58,7 @@ expected-w : expectedAll automatonW 2 unfed calls ≡ callReplies
 unfolding feeding
 expected-w = refl
 
-clients-w : configurationsAt automatonW 2 (fedAll automatonW 2 unfed calls) ≡ configuration (at 0 []) ∷ configuration (at 1 (2 ∷ [])) ∷ []
+clients-w : configurationsAt automatonW 2 (fedAll automatonW 2 unfed calls) ≡ lastZero ∷ lastOne ∷ []
 unfolding feeding
 clients-w = refl
 
@@ -69,10 +73,7 @@ fields =
     }
 
 -- of client 1
-abbrev lastOne : Store
-lastOne = storeOf (0 ∷ 2 ∷ 3 ∷ []) (2 ∷ [])
-
-fed-one : fedAll automatonW 2 unfed calls 1 ≡ lastOne
+fed-one : fedAll automatonW 2 unfed calls 1 ≡ storeOne
 unfolding feeding
 fed-one = refl
 
@@ -84,7 +85,7 @@ rows-one : refusalsOf automatonW empty ownEvents ≡ 0 ∷ 0 ∷ 0 ∷ 14 ∷ 0 
 unfolding feeding refusalsOf
 rows-one = refl
 
-stands-for : configurationAt automatonW lastOne ≡ configuration (at 1 (2 ∷ []))
+stands-for : configurationAt automatonW storeOne ≡ lastOne
 unfolding feeding
 stands-for = refl
 
@@ -94,7 +95,7 @@ unfolding calling
 met-one = refl
 
 -- and what the published function of document 01 makes of its events
-fed-alone : feedAll automatonW empty (map fedBy (map receiveCall ownEvents)) ≡ lastOne
+fed-alone : feedAll automatonW empty (map fedBy (map receiveCall ownEvents)) ≡ storeOne
 unfolding feeding fedBy feed feedAll
 fed-alone = refl
 
@@ -142,12 +143,11 @@ unfolding stepping arrivalAt strategyRelease strategyOutput strategyBuffer lostB
 lost-again h = h eager longer
 
 -- Receipt is accepted then
-receipt-row : received automatonW tableW (configuration (at 1 (2 ∷ []))) 3 .refusal ≡ 0
+receipt-row : received automatonW tableW lastOne 3 .refusal ≡ 0
 unfolding stepping received receiveRefusal callRefusal callRows tableRows
 receipt-row = rw valid-w refl
 
-told-last : SaysWinning automatonW tableW (configuration (at 1 (2 ∷ [])))
-    → received automatonW tableW (configuration (at 1 (2 ∷ []))) 3 .winning ≡ true
+told-last : SaysWinning automatonW tableW lastOne → received automatonW tableW lastOne 3 .winning ≡ true
 told-last s = s .flagged 3 receipt-row
 
 pub met-fields : MetFields
@@ -171,11 +171,91 @@ met-fields =
       strategies = (lost .list, lost .uncontrollable, lost .short, lost .outside);
     }
 
+-- what the places mean, of both clients
+told-one : ClientTold automatonW tableW lastTwo 1 (page ∷ receipt ∷ sign ∷ again ∷ []) storeOne
+told-one = rw (met-one, fed-one) at (enforced-w 2 calls .told 1 (omega arith))
+
+-- client 0's accepted events, and its function
+abbrev storeZero : Store
+storeZero = storeOf (0 ∷ 1 ∷ []) (0 ∷ 1 ∷ []) [] [] 2
+
+abbrev metZero : List Moment
+metZero =
+    record { past = []; output = []; position = at 0 [] [] 0 0; event = 0 } ∷
+    record { past = 0 ∷ []; output = 0 ∷ []; position = at 1 [] [] 1 1; event = 1 } ∷ []
+
+met-zero : momentsOf automatonW tableW (startW 2) 0 calls ≡ metZero
+unfolding calling
+met-zero = refl
+
+fed-zero : fedAll automatonW 2 unfed calls 0 ≡ storeZero
+unfolding feeding
+fed-zero = refl
+
+told-zero : ClientTold automatonW tableW lastTwo 0 metZero storeZero
+told-zero = rw (met-zero, fed-zero) at (enforced-w 2 calls .told 0 (omega arith))
+
+-- Receipt of client 1 then, and Sign of client 0
+receipt-then : receivedFor automatonW tableW lastTwo 1 3 ≡ answerFor (2 ∷ 3 ∷ []) (3 ∷ 4 ∷ [])
+unfolding listing
+receipt-then = rw (fields .last-clients) (rw valid-w refl)
+
+receipt-places : placesThen 2 1 3 ≡ 3 ∷ 4 ∷ []
+unfolding pad
+receipt-places = ap (λ r. take 2 (map inputNumber (r .places))) receipt-then
+
+receipt-told : Answered (taken ++ 3 ∷ []) storeOne (store automatonW storeOne 3) 2 (2 ∷ 3 ∷ 0 ∷ 0 ∷ 0 ∷ 0 ∷ 0 ∷ []) (3 ∷ 4 ∷ 0 ∷ 0 ∷ 0 ∷ 0 ∷ 0 ∷ [])
+unfolding pad
+receipt-told = rw receipt-then at (told-one .answered 3 (ap (λ r. r .refusal) receipt-then))
+
+sign-then : receivedFor automatonW tableW lastTwo 0 0 ≡ answerFor (0 ∷ []) (2 ∷ [])
+unfolding listing
+sign-then = rw (fields .last-clients) (rw valid-w refl)
+
+sign-places : placesThen 1 0 0 ≡ 2 ∷ []
+unfolding pad
+sign-places = ap (λ r. take 1 (map inputNumber (r .places))) sign-then
+
+sign-told : map (eventAt (0 ∷ 1 ∷ 0 ∷ [])) (2 ∷ []) ≡ 0 ∷ []
+unfolding pad
+sign-told = rw sign-then at (told-zero .answered 0 (ap (λ r. r .refusal) sign-then)) .found
+
+-- all that they put out
+put-one : emittedAt automatonW tableW (page ∷ receipt ∷ sign ∷ again ∷ []) ≡ 0 ∷ 2 ∷ 3 ∷ []
+put-one = met-fields .emitted
+
+put-zero : emittedAt automatonW tableW metZero ≡ 0 ∷ 1 ∷ []
+put-zero = rw met-zero at (enforced-w 2 calls .met 0 (omega arith) .emitted) ∙ ap (λ s. s .output) fed-zero
+
+held-told : map (eventAt taken) (3 ∷ []) ≡ 2 ∷ []
+unfolding heldEvents placeNumbers pad
+held-told = rw (fields .last-clients) at (told-one .held)
+
+pub told-fields : ToldFields
+told-fields =
+    record {
+      function = told-one .function;
+      put-out = told-one .function .put-out;
+      traced = told-one .traced;
+      held = held-told;
+      received-count = told-one .received-count;
+      emitted-count = told-one .emitted-count ∙ ap length put-one;
+      places = receipt-places;
+      answered = ap (map (eventAt (taken ++ 3 ∷ []))) receipt-places ∙ receipt-told .found;
+      answer-output = receipt-told .output;
+      answer-sources = receipt-told .sources ∙ ap (λ l. storeOne .sources ++ l) (sym receipt-places);
+      other-function = told-zero .function;
+      other-received = told-zero .received-count;
+      other-emitted = told-zero .emitted-count ∙ ap length put-zero;
+      other-places = sign-places;
+      other-answered = ap (map (eventAt (0 ∷ 1 ∷ 0 ∷ []))) sign-places ∙ sign-told;
+    }
+
 -- V: its table, its one client's functions and accepted events
 solved-table-v : Solved automatonV tableV
 solved-table-v = rw (marked-cases .1 .1 .0 .0) at solved-v
 
-expected-v : expectedAll automatonV 1 unfed callsV ≡ receive (answerFor []) ∷ ran 0 2 0 (0 ∷ 1 ∷ []) ∷ []
+expected-v : expectedAll automatonV 1 unfed callsV ≡ receive (answerFor [] []) ∷ ran 0 2 0 (0 ∷ 1 ∷ []) ∷ []
 unfolding feeding automatonV
 expected-v = refl
 
@@ -211,7 +291,7 @@ later-winning =
     }
 
 -- other counts
-expected-crowd : expectedAll automatonW 501 unfed crowdCalls ≡ refused 20 ∷ receive (answerFor (0 ∷ [])) ∷ refused 19 ∷ []
+expected-crowd : expectedAll automatonW 501 unfed crowdCalls ≡ refused 20 ∷ receive (answerFor (0 ∷ []) (0 ∷ [])) ∷ refused 19 ∷ []
 unfolding feeding
 expected-crowd = refl
 
@@ -254,16 +334,16 @@ leaves-two : leaves automatonW tableW two (receiveFor 2 1 0) ≡ signed
 unfolding calling
 leaves-two = refl
 
-pub answer-sign : receivedFor automatonW tableW two 1 0 ≡ answerFor (0 ∷ [])
+pub answer-sign : receivedFor automatonW tableW two 1 0 ≡ answerFor (0 ∷ []) (1 ∷ [])
 unfolding listing
 answer-sign = rw valid-w refl
 
-answer-receipt : receivedFor automatonW tableW signed 1 3 ≡ answerFor (2 ∷ 3 ∷ [])
+answer-receipt : receivedFor automatonW tableW signed 1 3 ≡ answerFor (2 ∷ 3 ∷ []) (0 ∷ 2 ∷ [])
 unfolding listing
 answer-receipt = rw valid-w refl
 
 outcomes-two : partOf 1 (named (sent 0 3 ∷ sent 1 0 ∷ sent 9 9 ∷ []))
-    (dayOutcomes automatonW tableW two (sent 0 3 ∷ sent 1 0 ∷ sent 9 9 ∷ []) (filled 6 9)) ≡ brings 0 (0 ∷ []) ∷ []
+    (dayOutcomes automatonW tableW two (sent 0 3 ∷ sent 1 0 ∷ sent 9 9 ∷ []) (filled 6 9)) ≡ lets (0 ∷ []) (1 ∷ []) ∷ []
 unfolding listing
 outcomes-two = rw valid-w refl
 
@@ -272,15 +352,15 @@ unfolding lentBy
 one-lent = omega arith
 
 -- calls one after the other
-reply-sign : reply automatonW tableW two (receiveFor 2 1 0) ≡ receive (answerFor (0 ∷ []))
+reply-sign : reply automatonW tableW two (receiveFor 2 1 0) ≡ receive (answerFor (0 ∷ []) (1 ∷ []))
 unfolding reply
 reply-sign = ap receive answer-sign
 
-reply-receipt : reply automatonW tableW signed (receiveFor 2 1 3) ≡ receive (answerFor (2 ∷ 3 ∷ []))
+reply-receipt : reply automatonW tableW signed (receiveFor 2 1 3) ≡ receive (answerFor (2 ∷ 3 ∷ []) (0 ∷ 2 ∷ []))
 unfolding reply
 reply-receipt = ap receive answer-receipt
 
-leaves-signed : leaves automatonW tableW signed (receiveFor 2 1 3) ≡ configuration (at 1 (2 ∷ 2 ∷ [])) ∷ configuration (at 1 []) ∷ []
+leaves-signed : leaves automatonW tableW signed (receiveFor 2 1 3) ≡ full ∷ waitingServed ∷ []
 unfolding calling
 leaves-signed = refl
 
@@ -288,20 +368,20 @@ leaves-signed = refl
 abbrev signPage : List ClientCall
 signPage = receiveFor 7 1 0 ∷ receiveFor 2 1 2 ∷ []
 
-expected-sign : expectedIn automatonW (min (lentBy (receiveFor 7 1 0)) 2) unfed (receiveFor 7 1 0) ≡ receive (answerFor (0 ∷ []))
+expected-sign : expectedIn automatonW (min (lentBy (receiveFor 7 1 0)) 2) unfed (receiveFor 7 1 0) ≡ receive (answerFor (0 ∷ []) (0 ∷ []))
 unfolding feeding
 expected-sign = refl
 
-fed-sign : fedIn automatonW (min (lentBy (receiveFor 7 1 0)) 2) unfed (receiveFor 7 1 0) 1 ≡ storeOf (0 ∷ []) []
+fed-sign : fedIn automatonW (min (lentBy (receiveFor 7 1 0)) 2) unfed (receiveFor 7 1 0) 1 ≡ storeOf (0 ∷ []) (0 ∷ []) [] [] 1
 unfolding feeding
 fed-sign = refl
 
 expected-later : expectedAll automatonW 2 unfed signPage ++ expectedAll automatonW 2 (fedAll automatonW 2 unfed signPage) (receiveFor 2 1 3 ∷ [])
-    ≡ receive (answerFor (0 ∷ [])) ∷ receive (answerFor []) ∷ receive (answerFor (2 ∷ 3 ∷ [])) ∷ []
+    ≡ receive (answerFor (0 ∷ []) (0 ∷ [])) ∷ receive (answerFor [] []) ∷ receive (answerFor (2 ∷ 3 ∷ []) (1 ∷ 2 ∷ [])) ∷ []
 unfolding feeding
 expected-later = refl
 
-fed-later : fedAll automatonW 2 (fedAll automatonW 2 unfed signPage) (receiveFor 2 1 3 ∷ []) 1 ≡ storeOf (0 ∷ 2 ∷ 3 ∷ []) []
+fed-later : fedAll automatonW 2 (fedAll automatonW 2 unfed signPage) (receiveFor 2 1 3 ∷ []) 1 ≡ storeOf (0 ∷ 2 ∷ 3 ∷ []) (0 ∷ 1 ∷ 2 ∷ []) [] [] 3
 unfolding feeding
 fed-later = refl
 
@@ -337,7 +417,7 @@ bringing =
     let later = events-brought-as-worded automatonW tableW signed 1 in
     let said = outcomes-as-answered automatonW tableW two 1 in
     let then = outcomes-as-answered automatonW tableW signed 1 in
-    let told : (r : ReceivedFor) → List Outcome = λ r. brings (r .refusal) (take (r .count) (r .emitted)) ∷ [] in
+    let told : (r : ReceivedFor) → List Outcome = λ r. outcomeOf r ∷ [] in
     let sign = said .event 2 0 clear-two (omega arith) ∙ ap told answer-sign in
     record {
       nothing = own .nothing;
@@ -367,16 +447,16 @@ own-two : ownAll automatonW tableW two 1 callsTwo ≡ 0 ∷ 3 ∷ []
 unfolding calling
 own-two = refl
 
-pub outcomes-here : outcomesTo automatonW tableW here 0 callsHere ≡ brings 0 (0 ∷ []) ∷ brings 0 (2 ∷ 3 ∷ []) ∷ []
+pub outcomes-here : outcomesTo automatonW tableW here 0 callsHere ≡ lets (0 ∷ []) (1 ∷ []) ∷ lets (2 ∷ 3 ∷ []) (0 ∷ 2 ∷ []) ∷ []
 unfolding calling
 outcomes-here = refl
 
 pub replies-here : replies automatonW tableW here callsHere
-    ≡ receive (answerFor (0 ∷ [])) ∷ refused 20 ∷ ran 0 3 1 (2 ∷ 3 ∷ 1 ∷ 9 ∷ 9 ∷ 9 ∷ 9 ∷ 9 ∷ 9 ∷ []) ∷ []
+    ≡ receive (answerFor (0 ∷ []) (1 ∷ [])) ∷ refused 20 ∷ ran 0 3 1 (2 ∷ 3 ∷ 1 ∷ 9 ∷ 9 ∷ 9 ∷ 9 ∷ 9 ∷ 9 ∷ []) ∷ []
 unfolding calling
 replies-here = refl
 
-pub leaves-here : leavesAll automatonW tableW here callsHere ≡ configuration (at 1 []) ∷ broken ∷ configuration (at 0 []) ∷ []
+pub leaves-here : leavesAll automatonW tableW here callsHere ≡ waitingServed ∷ broken ∷ configuration (at 0 [] [] 2 2) ∷ []
 unfolding calling
 leaves-here = refl
 
@@ -385,7 +465,7 @@ broken-own : ownAll automatonW (filled 14 9) here 1 callsHere ≡ ownAll automat
 unfolding calling
 broken-own = refl
 
-broken-outcomes-here : outcomesTo automatonW (filled 14 9) here 1 callsHere ≡ brings 13 [] ∷ []
+broken-outcomes-here : outcomesTo automatonW (filled 14 9) here 1 callsHere ≡ brings 13 ∷ []
 unfolding calling
 broken-outcomes-here = refl
 
@@ -439,7 +519,7 @@ waits-winning : status automatonW tableW waiting .winning ≡ true
 unfolding stepping status callRefusal callRows tableRows
 waits-winning = rw valid-w refl
 
-accepts-sign : receivedFor automatonW tableW here 0 0 ≡ answerFor (0 ∷ [])
+accepts-sign : receivedFor automatonW tableW here 0 0 ≡ answerFor (0 ∷ []) (1 ∷ [])
 accepts-sign = alone-w .answer
 
 sign-after : receivedFor automatonW tableW (leavesAll automatonW tableW here callsHere) 0 0 .refusal ≡ 0

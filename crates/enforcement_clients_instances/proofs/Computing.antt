@@ -9,12 +9,14 @@ use Rattle.automaton.specs.Arrays.{controllableIn}
 use Rattle.automaton.specs.Automaton.{controllable, controllables, accepts, step, reached}
 use Rattle.solver_sets.specs.Table.{index, rank, inBaseK, shorter, buffersCount, short}
 use Rattle.solver_sets.specs.Sets.{acceptingSet, admits, stays, refine, settle, settled, setsOf, emptySets, into, setsFor}
-use Rattle.configuration.specs.Configuration.{heldEvents, controllableSymbol, placeStands, bufferStands, consistentIn, initialOf}
-use Rattle.monitor_rule.specs.Step.{bySets, byTable, qualifies, qualifying, release, remaining, arrival, effect, eventRows, eventRefusal}
+use Rattle.configuration.specs.Configuration.{heldEvents, placeNumbers, controllableSymbol, placeStands, bufferStands, inputStands, inputsStand}
+use Rattle.configuration.specs.Configuration.{consistentIn, initialOf}
+use Rattle.monitor_rule.specs.Step.{bySets, byTable, qualifies, qualifying, release, remaining, arrival, effect, inLine, sources}
+use Rattle.monitor_rule.specs.Step.{eventRows, eventRefusal}
 use Rattle.monitor_answers.specs.Answers.{tableRows, configurationRows, isWinning, room}
-use Rattle.monitor_answers.specs.Turns.{turnRows, turnRefusal, turnEmitted, turnNext}
+use Rattle.monitor_answers.specs.Turns.{turnRows, turnRefusal, turnEmitted, turnSources, turnNext}
 use Rattle.enforcement.specs.Store.{stateOf, added, released, store, storeAll, refusedOf}
-use Rattle.enforcement.specs.Calls.{configurationAt, since}
+use Rattle.enforcement.specs.Calls.{configurationAt, since, sourcesSince}
 use Rattle.enforcement_cases.specs.Cases.{automatonW}
 use Rattle.enforcement_instances.proofs.Sheets.{computing}
 use Rattle.clients_answers.specs.Listed.{outcome, changed, outcomes, changedBy, eventsOf, partOf, alone, afterAlone}
@@ -36,9 +38,9 @@ unfoldable pub stepping : ℕ
 unfolding
     each count those lastOr first pad has mask controllable controllables controllableIn step reached
     index rank inBaseK shorter buffersCount short
-    heldEvents controllableSymbol placeStands bufferStands consistentIn initialOf
-    byTable qualifies qualifying release remaining arrival effect eventRows eventRefusal
-    configurationRows isWinning turnRows turnRefusal turnEmitted turnNext automatonW
+    heldEvents placeNumbers controllableSymbol placeStands bufferStands inputStands inputsStand consistentIn initialOf
+    byTable qualifies qualifying release remaining arrival effect inLine sources eventRows eventRefusal
+    configurationRows isWinning turnRows turnRefusal turnEmitted turnSources turnNext automatonW
     outcome changed outcomes changedBy eventsOf partOf alone afterAlone
     initialClients clientOf symbolOf named emittedOf refusedIn heldIn heldInAll sumBelow
 stepping = 0
@@ -68,7 +70,7 @@ calling = 0
 unfoldable pub storing : ℕ
 unfolding
     stepping accepts acceptingSet admits stays refine settle settled setsOf emptySets into setsFor bySets
-    stateOf added released store storeAll refusedOf configurationAt since
+    stateOf added released store storeAll refusedOf configurationAt since sourcesSince
 storing = 0
 
 -- all of them

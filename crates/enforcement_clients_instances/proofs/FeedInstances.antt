@@ -10,16 +10,15 @@ use Rattle.base.proofs.Bools.{either}
 use Rattle.varint.specs.Varint.{encode, bytes, encoded}
 use Rattle.solver_sets.specs.Table.{table}
 use Rattle.configuration.specs.declared.Configuration.{Configuration}
-use Rattle.configuration.specs.Configuration.{configuration}
 use Rattle.enforcement.specs.Store.{empty}
 use Rattle.enforcement_cases.specs.Cases.{automatonV, automatonW}
-use Rattle.enforcement_instances.specs.Statements.{filled, tableW, at}
+use Rattle.enforcement_instances.specs.Statements.{filled, tableW}
 use Rattle.enforcement_instances.specs.MonitorStatements.{storeOf, wideV}
 use Rattle.enforcement_instances.proofs.Sheets.{valid-w}
-use Rattle.enforcement_instances.proofs.MonitorInstances.{invalid-wide}
+use Rattle.enforcement_instances.proofs.MonitorInstances.{sign-fits, invalid-wide}
 use Rattle.clients_answers.specs.declared.ReceivedFor.{ReceivedFor}
 use Rattle.clients_answers.specs.Clients.{none, Outcome, refusedFor, receivedClients}
-use Rattle.clients_answers.specs.Claims.{ListClear}
+use Rattle.clients_answers.specs.Claims.{ListClear, outcomeOf}
 use Rattle.feed_record.specs.declared.Expected.{Expected}
 use Rattle.feed_record.specs.declared.Expected.the-variants.{Any, Serial}
 use Rattle.feed_record.specs.Records.{admission}
@@ -34,11 +33,11 @@ use Rattle.enforcement_clients.specs.Functions.{unfed, fedAll, eventsTo, refusa
 use Rattle.enforcement_clients.proofs.Parts.{calls-noninterference, events-brought-as-worded, outcomes-as-answered}
 use Rattle.enforcement_clients.proofs.Ignored.{clients-others-ignored}
 use Rattle.enforcement_clients_instances.proofs.Computing.{admitting, listing, calling, feeding}
-use Rattle.enforcement_clients_instances.proofs.ListInstances.{short-13, long-w, broken-fails, held-stands, crowd-length, clear-w}
+use Rattle.enforcement_clients_instances.proofs.ListInstances.{short-13, long-w, broken-fails, held-stands, waiting-stands, end-stands, crowd-length, clear-w}
 use Rattle.enforcement_clients_instances.proofs.CallInstances.{enforced-w, clear-two, none-20, answer-sign, own-here, outcomes-here, leaves-here}
 use Rattle.enforcement_clients_instances.proofs.CallInstances.{both-long, same-bits}
 use Rattle.enforcement_clients_instances.proofs.RecordInstances.{turn-in, gap-in, record-fields}
-use Rattle.enforcement_clients_instances.specs.ListStatements.{broken, here, there, beside, brings, answerFor, crowd, pair}
+use Rattle.enforcement_clients_instances.specs.ListStatements.{broken, waitingSigned, here, there, beside, answerFor, crowd, pair, endPair}
 use Rattle.enforcement_clients_instances.specs.CallStatements.{startW, callsHere, two, signed, otherTable}
 use Rattle.enforcement_clients_instances.specs.RecordStatements.{serialZero, afterGap, repeated, oneMore, tooLarge, inTurn}
 use Rattle.enforcement_clients_instances.specs.FeedStatements.{fedAs, keptAs, feedCalls, feedReplies, feedClients, FeedCallFields, feedRow}
@@ -53,7 +52,7 @@ unfolding calling
 leaves-fed = refl
 
 -- the functions' side, computed
-fed-one : fedAll automatonW 3 unfed feedCalls 1 ≡ storeOf (0 ∷ 2 ∷ 3 ∷ []) []
+fed-one : fedAll automatonW 3 unfed feedCalls 1 ≡ storeOf (0 ∷ 2 ∷ 3 ∷ []) (1 ∷ 0 ∷ 2 ∷ []) [] [] 3
 unfolding feeding
 fed-one = refl
 
@@ -120,6 +119,9 @@ said = feed-rows-as-worded automatonW tableW
 clear-pair : ListClear automatonW tableW (length pair)
 clear-pair = clear-w pair (omega arith, omega arith)
 
+clear-end : ListClear automatonW tableW (length endPair)
+clear-end = clear-w endPair (omega arith, omega arith)
+
 pub feed-row-fields : FeedRowFields
 unfolding automatonW pad admitting
 feed-row-fields =
@@ -139,9 +141,13 @@ feed-row-fields =
       row-15 =
           said pair (inTurn 1 3) (Serial 7) .event .row-15 .1
           ((clear-pair, refl), omega arith, held-stands, (omega arith, refl, omega arith));
+      row-23 = said endPair (inTurn 0 0) (Serial 7) .event .row-23 .1 ((clear-end, refl), omega arith, end-stands, (sign-fits _, refl));
+      row-0-beside =
+          said endPair (inTurn 1 0) (Serial 7) .event .accepted .1
+          ((clear-end, refl), omega arith, waiting-stands, (sign-fits _, λ z. omega arith));
       row-0 =
           said pair (inTurn 1 1) (Serial 7) .event .accepted .1
-          ((clear-pair, refl), omega arith, held-stands, (omega arith, inl λ c. omega arith));
+          ((clear-pair, refl), omega arith, held-stands, ((omega arith, inl λ c. omega arith), λ z. omega arith));
       answered =
           said pair repeated (Serial 7) .answered ∙
           said pair repeated (Serial 7) .own 22 (inr (inr (inr refl))) .1 (clear-pair, refl);
@@ -153,8 +159,9 @@ feed-row-fields =
       only-13 = λ c h. said (broken ∷ c ∷ []) (inTurn 1 0) (Serial 7) .event .row-13 .0 h .2;
       only-14 = λ cs s x h. said cs s x .event .row-14 .0 h .3;
       only-15 = λ c h. said (broken ∷ c ∷ []) (inTurn 1 3) (Serial 7) .event .row-15 .0 h .3 .2;
+      only-23 = λ c h. said (broken ∷ c ∷ []) (inTurn 1 3) (Serial 7) .event .row-23 .0 h .3 .1;
       only-0 = λ c h.
-          either (said (broken ∷ c ∷ []) (inTurn 1 3) (Serial 7) .event .accepted .0 h .3 .1) (λ k. absurd (k refl)) (λ l. l);
+          either (said (broken ∷ c ∷ []) (inTurn 1 3) (Serial 7) .event .accepted .0 h .3 .0 .1) (λ k. absurd (k refl)) (λ l. l);
     }
 
 -- Sign of client 1 and of client 0, let in
@@ -180,7 +187,7 @@ list-sign : receivedClients automatonW tableW two 1 0 ≡ signed
 unfolding listing
 list-sign = rw valid-w refl
 
-fed-sign : fedFor automatonW tableW two (inTurn 1 0) (Serial 2) ≡ fedAs (answerFor (0 ∷ [])) 8 5
+fed-sign : fedFor automatonW tableW two (inTurn 1 0) (Serial 2) ≡ fedAs (answerFor (0 ∷ []) (1 ∷ [])) 8 5
 unfolding admitting
 fed-sign = answered two (inTurn 1 0) (Serial 2) .let-in clear-list-two 7 1 0 sign-in .0 ∙ ap (λ r. fedAs r 8 5) answer-sign
 
@@ -224,16 +231,17 @@ feed-answer-fields =
       emitted-count = emitted .0;
       emitted-length = emitted .1 .0;
       padded = emitted .1 .1 1 (omega (arith, ap (λ f. f .answer .count) fed-sign));
+      places-padded = emitted .2 .1 1 (omega (arith, ap (λ f. f .answer .count) fed-sign));
       kept = feed-keeps-others automatonW tableW two serialZero (Serial 0) 1 (λ e h. let k = ap client-of (sym own-zero ∙ h) in omega arith);
       repeat-kept = feed-keeps-others automatonW tableW there repeated (Serial 7) 2 (λ e h. let k = ap length (sym no-repeat ∙ h) in omega arith);
     }
 
 -- noninterference: what the client has here, and the broken one
-answer-here : fedFor automatonW tableW here serialZero (Serial 0) .answer ≡ answerFor (0 ∷ [])
+answer-here : fedFor automatonW tableW here serialZero (Serial 0) .answer ≡ answerFor (0 ∷ []) (1 ∷ [])
 unfolding listing
 answer-here = rw valid-w refl
 
-last-here : getD (fedClients automatonW tableW here serialZero (Serial 0)) 0 none ≡ configuration (at 1 (2 ∷ []))
+last-here : getD (fedClients automatonW tableW here serialZero (Serial 0)) 0 none ≡ waitingSigned
 unfolding listing
 last-here = rw valid-w refl
 
@@ -278,7 +286,7 @@ pub feed-bringing : FeedBringing
 unfolding pad
 feed-bringing =
     let own = events-brought-as-worded automatonW tableW two 1 in
-    let told : (r : ReceivedFor) → List Outcome = λ r. brings (r .refusal) (take (r .count) (r .emitted)) ∷ [] in
+    let told : (r : ReceivedFor) → List Outcome = λ r. outcomeOf r ∷ [] in
     record {
       own-record = own .own-record 2 (inTurn 1 0) (Serial 2) 7 0 clear-two (omega arith) sign-in;
       other-record = own .other-record 2 serialZero (Serial 0) 0 0 0 (λ h. omega arith) zero-in;

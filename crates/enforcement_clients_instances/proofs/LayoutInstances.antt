@@ -5,9 +5,8 @@ use mathlib.Core.List.{List, [], _∷_, map}
 use native.Mathlib.Omega.{arith}
 use Rattle.base.specs.Pad.{pad}
 use Rattle.automaton.specs.declared.Automaton.{Automaton}
-use Rattle.configuration.specs.Configuration.{configuration}
 use Rattle.enforcement_cases.specs.Cases.{automatonW}
-use Rattle.enforcement_instances.specs.Statements.{filled, tableW, at}
+use Rattle.enforcement_instances.specs.Statements.{filled, tableW}
 use Rattle.enforcement_instances.proofs.Sheets.{valid-w, solved-w}
 use Rattle.enforcement_instances.specs.LayoutStatements.{recordW, anyBytes}
 use Rattle.enforcement_instances.proofs.LayoutInstances.{kept-w}
@@ -29,7 +28,7 @@ use Rattle.enforcement_clients_instances.specs.ListStatements.{sent, her
 use Rattle.enforcement_clients_instances.specs.CallStatements.{two, signed}
 use Rattle.enforcement_clients_instances.specs.RecordStatements.{afterGap, repeated, inTurn}
 use Rattle.enforcement_clients_instances.specs.FeedStatements.{fedAs, feedCalls, feedReplies}
-use Rattle.enforcement_clients_instances.specs.LayoutStatements.{lentHere, lentCalls, ClientLayouts, longLoss, atFourth, lentFeedCalls, serialsLeft, FeedLayouts}
+use Rattle.enforcement_clients_instances.specs.LayoutStatements.{lateAnswer, lentHere, lentCalls, ClientLayouts, longLoss, atFourth, lentFeedCalls, serialsLeft, FeedLayouts}
 
 -- what the calls by value say of W and the list of two
 module _ (a : Automaton) (own : a ≡ automatonW) where
@@ -37,7 +36,7 @@ module _ (a : Automaton) (own : a ≡ automatonW) where
   unfolding listing
   sign-row = rw own (rw valid-w refl)
 
-  sign-list : receivedClients a tableW two 1 0 ≡ configuration (at 1 (2 ∷ 2 ∷ [])) ∷ configuration (at 1 (2 ∷ [])) ∷ []
+  sign-list : receivedClients a tableW two 1 0 ≡ signed
   unfolding listing
   sign-list = rw own (rw valid-w refl)
 
@@ -53,7 +52,7 @@ module _ (a : Automaton) (own : a ≡ automatonW) where
   unfolding listing
   day-row = rw own (rw valid-w refl)
 
-  day-list : ranClients a tableW two (sent 1 0 ∷ []) (filled 4 9) ≡ configuration (at 1 (2 ∷ 2 ∷ [])) ∷ configuration (at 1 (2 ∷ [])) ∷ []
+  day-list : ranClients a tableW two (sent 1 0 ∷ []) (filled 4 9) ≡ signed
   unfolding listing
   day-list = rw own (rw valid-w refl)
 
@@ -74,7 +73,7 @@ unfolding pad callOf laidFor laidAll
 client-layouts =
     let a = automatonOf recordW in
     let left = clients-left-as-answered recordW tableW two in
-    let r = offsets-hold .received-for (answerFor (2 ∷ 3 ∷ [])) two refl in
+    let r = offsets-hold .received-for lateAnswer two refl refl in
     let d = offsets-hold .ran-for (record { refusal = 0; length = 300; refused = 2 }) two [] in
     let enforced = client-bytes-enforced recordW tableW (rw kept-w valid-w) (rw kept-w solved-w) (anyBytes ∷ anyBytes ∷ []) lentCalls in
     record {
@@ -82,6 +81,8 @@ client-layouts =
       emitted = r .emitted 1 (omega arith);
       count = r .count;
       winning = r .winning .0 refl;
+      input-place = r .places 1 (omega arith) .value (omega arith);
+      input-place-low-first = r .places 0 (omega arith) .low-first 1 (omega arith);
       ran-size = d .size;
       written = d .written .value (omega arith);
       events-refused = d .refused .value (omega arith);
@@ -125,7 +126,7 @@ module _ (a : Automaton) (own : a ≡ automatonW) where
   unfolding expectedOf part numberOf
   fed-list = rw own (feed-answer-fields .let-in .1)
 
-  fed-is : fedFor a tableW two (inTurn 1 0) (expectedOf (1 ∷ 2 ∷ 0 ∷ [])) ≡ fedAs (answerFor (0 ∷ [])) 8 5
+  fed-is : fedFor a tableW two (inTurn 1 0) (expectedOf (1 ∷ 2 ∷ 0 ∷ [])) ≡ fedAs (answerFor (0 ∷ []) (1 ∷ [])) 8 5
   unfolding expectedOf part numberOf
   fed-is = rw own (feed-answer-fields .let-in .0)
 
@@ -160,7 +161,7 @@ unfolding pad following laidFor laidAll
 feed-layouts =
     let a = automatonOf recordW in
     let lent : List ℕ = 1 ∷ 7 ∷ 0 ∷ [] in
-    let r = offsets-hold .fed longLoss two lent refl in
+    let r = offsets-hold .fed longLoss two lent refl refl in
     let sign = feed-left-as-answered recordW tableW two (inTurn 1 0) (1 ∷ 2 ∷ 0 ∷ []) refl in
     let gap = feed-left-as-answered recordW tableW two afterGap (1 ∷ 1 ∷ 0 ∷ []) refl in
     let again = feed-left-as-answered recordW tableW two repeated (9 ∷ 7 ∷ 0 ∷ []) refl in
@@ -171,9 +172,10 @@ feed-layouts =
       emitted = r .emitted 1 (omega arith);
       count = r .count;
       winning = r .winning .0 refl;
+      input-place = r .places 1 (omega arith) .value (omega arith);
       loss = r .loss .value (omega arith);
       low-first = r .loss .low-first 1 (omega arith);
-      place = offsets-hold .fed atFourth two lent refl .place .value (omega arith);
+      place = offsets-hold .fed atFourth two lent refl refl .place .value (omega arith);
       unknown = offsets-hold .expected (0 ∷ 9 ∷ 9 ∷ []) refl .unknown refl;
       known = offsets-hold .expected (9 ∷ 1 ∷ 2 ∷ []) refl .known (λ z. omega arith);
       any-kept = expected-kept (9 ∷ 1 ∷ 2 ∷ []) .none;

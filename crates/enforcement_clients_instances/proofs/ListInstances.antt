@@ -10,20 +10,21 @@ use Rattle.base.specs.Pad.{pad}
 use Rattle.base.proofs.Bools.{either}
 use Rattle.solver_sets.specs.Table.{short, table}
 use Rattle.solver_sets.proofs.Tables.{short-as-worded}
+use Rattle.configuration_places.specs.Places.{inputNumber}
 use Rattle.configuration.specs.declared.Configuration.{Configuration}
 use Rattle.configuration.specs.Configuration.{configuration, consistent, initialOf}
 use Rattle.monitor_answers.specs.Answers.{tableRows, callRows, receiveRefusal, refusedEvent, received}
-use Rattle.enforcement_cases.specs.Cases.{automatonV, automatonW, answer}
-use Rattle.enforcement_instances.specs.Statements.{filled, tableW, at}
+use Rattle.enforcement_cases.specs.Cases.{automatonV, automatonW, at, answer}
+use Rattle.enforcement_instances.specs.Statements.{filled, tableW}
 use Rattle.enforcement_instances.specs.MonitorStatements.{wideV}
 use Rattle.enforcement_instances.proofs.Sheets.{valid-w, buffers-w}
-use Rattle.enforcement_instances.proofs.MonitorInstances.{invalid-wide}
+use Rattle.enforcement_instances.proofs.MonitorInstances.{sign-fits, invalid-wide}
 use Rattle.clients_answers.specs.Listed.{eventsOf, partOf, alone, afterAlone, outcome, outcomes, changedBy}
 use Rattle.clients_answers.specs.Clients.{none, named, Outcome, initialClients, monitored, emittedOf, heldIn, heldInAll}
 use Rattle.clients_answers.specs.declared.RanFor.{RanFor}
 use Rattle.clients_answers.specs.Clients.{receiveForRefusal, refusedFor, receivedFor, answerOf, receivedClients}
 use Rattle.clients_answers.specs.Clients.{runForRefusal, dayOutcomes, ranFor, ranClients, ranForBuffer, refusedRunFor}
-use Rattle.clients_answers.specs.Claims.{ListClear, RightCount, holds}
+use Rattle.clients_answers.specs.Claims.{ListClear, RightCount, holds, outcomeOf}
 use Rattle.clients_answers.proofs.Isolation.{isolation, own-events-as-worded}
 use Rattle.clients_answers.proofs.Parting.{noninterference, event-noninterference}
 use Rattle.clients_answers.proofs.Worded.{client-rows-as-worded}
@@ -33,9 +34,9 @@ use Rattle.clients_answers.proofs.Single.{events-alone, clients-emitted-padded}
 use Rattle.clients_answers.proofs.Eventwise.{days-as-events}
 use Rattle.clients_answers.proofs.Days.{bytes-placed}
 use Rattle.enforcement_clients_instances.proofs.Computing.{stepping, listing}
-use Rattle.enforcement_clients_instances.specs.ListStatements.{sent, broken, waiting, here, there, dayHere, dayThere, beside, dayBeside}
-use Rattle.enforcement_clients_instances.specs.ListStatements.{brings, ownOutcomes, answerFor, Isolating, adding, added, AnyStep}
-use Rattle.enforcement_clients_instances.specs.ListStatements.{crowd, pair, Rows, DayRows}
+use Rattle.enforcement_clients_instances.specs.ListStatements.{sent, broken, waiting, waitingSigned, full, here, there, dayHere, dayThere, beside, dayBeside}
+use Rattle.enforcement_clients_instances.specs.ListStatements.{brings, ownOutcomes, afterDay, answerFor, Isolating, adding, added, AnyStep}
+use Rattle.enforcement_clients_instances.specs.ListStatements.{crowd, pair, atEnd, endPair, Rows, DayRows}
 use Rattle.enforcement_clients_instances.specs.ListStatements.{OneDay, Refusals, Keeping, Alone, numbers, Numbering}
 
 -- a day that is accepted is not one that 16 refuses, nor is one that 12 refuses
@@ -59,7 +60,7 @@ part-here : partOf 0 (named dayHere) (dayOutcomes automatonW tableW here dayHere
 unfolding listing
 part-here = rw valid-w refl
 
-last-here : getD (ranClients automatonW tableW here dayHere (filled 10 9)) 0 none ≡ configuration (at 1 (2 ∷ 2 ∷ []))
+last-here : getD (ranClients automatonW tableW here dayHere (filled 10 9)) 0 none ≡ afterDay
 unfolding listing
 last-here = rw valid-w refl
 
@@ -76,7 +77,7 @@ nines-beside : runForRefusal automatonW (filled 14 9) beside dayBeside (filled 5
 unfolding listing
 nines-beside = rw valid-w refl
 
-broken-here : partOf 1 (named dayHere) (dayOutcomes automatonW (filled 14 9) here dayHere (filled 10 9)) ≡ brings 13 [] ∷ []
+broken-here : partOf 1 (named dayHere) (dayOutcomes automatonW (filled 14 9) here dayHere (filled 10 9)) ≡ brings 13 ∷ []
 unfolding listing
 broken-here = rw valid-w refl
 
@@ -102,11 +103,11 @@ unfolding listing
 no-room-there = rw valid-w refl
 
 -- one event here
-event-here : receivedFor automatonW tableW here 0 0 ≡ answerFor (0 ∷ [])
+event-here : receivedFor automatonW tableW here 0 0 ≡ answerFor (0 ∷ []) (1 ∷ [])
 unfolding listing
 event-here = rw valid-w refl
 
-event-last-here : getD (receivedClients automatonW tableW here 0 0) 0 none ≡ configuration (at 1 (2 ∷ []))
+event-last-here : getD (receivedClients automatonW tableW here 0 0) 0 none ≡ waitingSigned
 unfolding listing
 event-last-here = rw valid-w refl
 
@@ -198,13 +199,17 @@ pub broken-fails : consistent automatonW broken ≡ false
 unfolding listing
 broken-fails = refl
 
-pub held-stands : consistent automatonW (configuration (at 1 (2 ∷ 2 ∷ []))) ≡ true
+pub held-stands : consistent automatonW full ≡ true
 unfolding listing
 held-stands = refl
 
-waiting-stands : consistent automatonW waiting ≡ true
+pub waiting-stands : consistent automatonW waiting ≡ true
 unfolding listing
 waiting-stands = refl
+
+pub end-stands : consistent automatonW atEnd ≡ true
+unfolding listing
+end-stands = refl
 
 pub crowd-length : (n : ℕ) → length (crowd n) ≡ n
 unfolding initialClients
@@ -221,6 +226,10 @@ one-stands n i h = ap (consistent automatonW) (one-of n i h)
 one-holds : (n i : ℕ) → i < n → getD (crowd n) i none .held ≡ 0
 unfolding initialOf
 one-holds n i h = ap (λ (c : Configuration). c .held) (one-of n i h)
+
+one-counts : (n i : ℕ) → i < n → inputNumber (getD (crowd n) i none .received) ≡ 0
+unfolding initialOf
+one-counts n i h = ap (λ (c : Configuration). inputNumber (c .received)) (one-of n i h)
 
 pub clear-w : (cs : List Configuration) → RightCount (length cs) → ListClear automatonW tableW (length cs)
 clear-w cs h = record { record-valid = valid-w; table-long = long-w; count-right = h }
@@ -246,28 +255,35 @@ unfolding automatonW pad
 rows =
     let said = client-rows-as-worded automatonW tableW in
     let two = clear-w pair (omega arith, omega arith) in
+    let ends = clear-w endPair (omega arith, omega arith) in
     record {
       row-11 = client-rows-as-worded wideV (table automatonV) [] .event-first 0 0 .row-11 .1 invalid-wide;
       row-12 = client-rows-as-worded automatonW (filled 13 9) [] .event-first 0 0 .row-12 .1 (valid-w, short-13);
       none-lent = λ i e. said [] .event-first i e .row-20 .1 (valid-w, long-w, inl refl);
       too-many = λ i e. said (crowd 501) .event-first i e .row-20 .1 (valid-w, long-w, inr (omega (arith, crowd-length 501)));
       one-lent =
-          said (crowd 1) .event 0 0 .accepted .1
-          (clear-crowd 1 (omega arith, omega arith), omega (arith, crowd-length 1), one-stands 1 0 (omega arith), (omega arith, inl λ c. omega arith));
+          said (crowd 1) .event 0 0 .accepted .1 (
+            clear-crowd 1 (omega arith, omega arith),
+            omega (arith, crowd-length 1),
+            one-stands 1 0 (omega arith),
+            (sign-fits _, λ z. omega (arith, one-counts 1 0 (omega arith))),
+          );
       past-one = said (crowd 1) .event 1 0 .row-19 .1 (clear-crowd 1 (omega arith, omega arith), omega (arith, crowd-length 1));
       last-of-500 =
           said (crowd 500) .event 499 2 .accepted .1 (
             clear-crowd 500 (omega arith, omega arith),
             omega (arith, crowd-length 500),
             one-stands 500 499 (omega arith),
-            (omega arith, inr (omega (arith, one-holds 500 499 (omega arith)))),
+            ((omega arith, inr (omega (arith, one-holds 500 499 (omega arith)))), λ z. omega (arith, one-counts 500 499 (omega arith))),
           );
       past-500 = said (crowd 500) .event 500 2 .row-19 .1 (clear-crowd 500 (omega arith, omega arith), omega (arith, crowd-length 500));
       no-client = said pair .event 2 9 .row-19 .1 (two, omega arith);
       row-13 = said pair .event 0 9 .row-13 .1 (two, omega arith, broken-fails);
       row-14 = said pair .event 1 4 .row-14 .1 (two, omega arith, held-stands, omega arith);
       row-15 = said pair .event 1 3 .row-15 .1 (two, omega arith, held-stands, (omega arith, refl, omega arith));
-      row-0 = said pair .event 1 1 .accepted .1 (two, omega arith, held-stands, (omega arith, inl λ c. omega arith));
+      row-23 = said endPair .event 0 0 .row-23 .1 (ends, omega arith, end-stands, (sign-fits _, refl));
+      row-0-beside = said endPair .event 1 0 .accepted .1 (ends, omega arith, waiting-stands, (sign-fits _, λ z. omega arith));
+      row-0 = said pair .event 1 1 .accepted .1 (two, omega arith, held-stands, ((omega arith, inl λ c. omega arith), λ z. omega arith));
       answered =
           said (crowd 500) .answered 500 2 ∙
           said (crowd 500) .event 500 2 .row-19 .1 (clear-crowd 500 (omega arith, omega arith), omega (arith, crowd-length 500));
@@ -280,7 +296,8 @@ rows =
       only-13 = λ c e h. said (broken ∷ c ∷ []) .event 1 e .row-13 .0 h .2;
       only-14 = λ cs i e h. said cs .event i e .row-14 .0 h .3;
       only-15 = λ cs i e h. said cs .event i e .row-15 .0 h .3 .2;
-      only-0 = λ c h. either (said (broken ∷ c ∷ []) .event 1 2 .accepted .0 h .3 .1) (λ k. absurd (k refl)) (λ l. l);
+      only-23 = λ cs i e h. said cs .event i e .row-23 .0 h .3 .1;
+      only-0 = λ c h. either (said (broken ∷ c ∷ []) .event 1 2 .accepted .0 h .3 .0 .1) (λ k. absurd (k refl)) (λ l. l);
     }
 
 pub day-rows : DayRows
@@ -312,10 +329,13 @@ day-rows =
       inside-13 = said pair .inside valid-w 0 9 .row-13 .1 (tt, omega arith, broken-fails);
       inside-14 = said pair .inside valid-w 1 4 .row-14 .1 (tt, omega arith, held-stands, omega arith);
       inside-15 = said pair .inside valid-w 1 3 .row-15 .1 (tt, omega arith, held-stands, (omega arith, refl, omega arith));
-      inside-0 = said pair .inside valid-w 1 1 .accepted .1 (tt, omega arith, held-stands, (omega arith, inl λ c. omega arith));
+      inside-23 = said endPair .inside valid-w 0 0 .row-23 .1 (tt, omega arith, end-stands, (sign-fits _, refl));
+      inside-0 =
+          said pair .inside valid-w 1 1 .accepted .1 (tt, omega arith, held-stands, ((omega arith, inl λ c. omega arith), λ z. omega arith));
       inside-only-19 = λ cs i e h. said cs .inside valid-w i e .row-19 .0 h .1;
       inside-only-14 = λ cs i e h. said cs .inside valid-w i e .row-14 .0 h .3;
       inside-only-15 = λ cs i e h. said cs .inside valid-w i e .row-15 .0 h .3 .2;
+      inside-only-23 = λ cs i e h. said cs .inside valid-w i e .row-23 .0 h .3 .1;
       inside-only-0 = λ cs i e h. said cs .inside valid-w i e .accepted .0 h .2;
       inside-only-13 = λ c e h. said (broken ∷ c ∷ []) .inside valid-w 1 e .row-13 .0 h .2;
     }
@@ -335,7 +355,7 @@ unfolding listing
 output-here = rw valid-w refl
 
 clients-here : ranClients automatonW tableW here dayHere (filled 10 9)
-    ≡ configuration (at 1 (2 ∷ 2 ∷ [])) ∷ broken ∷ configuration (at 1 []) ∷ []
+    ≡ afterDay ∷ broken ∷ configuration (at 1 [] [] 2 2) ∷ []
 unfolding listing
 clients-here = rw valid-w refl
 
@@ -465,7 +485,7 @@ keeping =
     }
 
 -- what the calls on their configurations alone answer
-sign-alone : received automatonW tableW waiting 0 ≡ answer 0 (0 ∷ []) 1 (2 ∷ []) true
+sign-alone : received automatonW tableW waiting 0 ≡ answer 0 (0 ∷ []) (1 ∷ []) (at 1 (2 ∷ []) (0 ∷ []) 2 1) true
 unfolding stepping tableRows callRows receiveRefusal received
 sign-alone = rw valid-w refl
 
@@ -483,8 +503,9 @@ alone-w =
     record {
       answer = sign .answer ∙ ap answerOf sign-alone;
       next = sign .next ∙ ap (λ r. r .configuration) sign-alone;
-      inside = sign .inside ∙ ap (λ r. brings (r .refusal) (take (r .count) (r .emitted))) sign-alone;
+      inside = sign .inside ∙ ap (λ r. outcomeOf (answerOf r)) sign-alone;
       padded = clients-emitted-padded automatonW tableW here 0 0 .1 .1 1 few;
+      places-padded = clients-emitted-padded automatonW tableW here 0 0 .2 .1 1 few;
       broken-answer = page .answer ∙ ap answerOf broken-alone;
       broken-next = page .next ∙ ap (λ r. r .configuration) broken-alone;
     }

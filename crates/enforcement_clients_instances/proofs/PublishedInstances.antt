@@ -12,6 +12,7 @@ use Rattle.enforcement.specs.Calls.{since}
 use Rattle.enforcement_cases.specs.Cases.{automatonW}
 use Rattle.enforcement_instances.specs.Statements.{filled}
 use Rattle.enforcement_instances.specs.MonitorStatements.{storeOf, twoHeld}
+use Rattle.enforcement_instances.proofs.MonitorInstances.{sign-fits}
 use Rattle.clients_answers.specs.Clients.{named, refusedFor}
 use Rattle.clients_answers.specs.Claims.{RightCount, sumBelow}
 use Rattle.feed_record.specs.declared.Expected.{Expected}
@@ -27,19 +28,22 @@ use Rattle.enforcement_clients_instances.proofs.RecordInstances.{turn-i
 use Rattle.enforcement_clients_instances.specs.ListStatements.{sent, answerFor}
 use Rattle.enforcement_clients_instances.specs.RecordStatements.{repeated, oneMore, inTurn}
 use Rattle.enforcement_clients_instances.specs.FeedStatements.{keptAs}
-use Rattle.enforcement_clients_instances.specs.PublishedStatements.{family, EventFields, xs, EventsFields, DayFields, FeedFields}
+use Rattle.enforcement_clients_instances.specs.PublishedStatements.{signedStore, pagedStore, family, ending, EventFields, xs, EventsFields, DayFields, FeedFields}
 
 -- what the claim says of W's functions
 said : (n : ℕ) (ss : Functions) → ClientsAsPublished automatonW n ss
 said n ss = clients-follow-published automatonW n ss
 
 -- what a function that put out Sign makes of Page, and of Receipt
-page-held : store automatonW (storeOf (0 ∷ []) []) 2 ≡ storeOf (0 ∷ []) (2 ∷ [])
+page-held : store automatonW signedStore 2 ≡ pagedStore
 unfolding storing
 page-held = refl
 
 -- and of Receipt behind the Page
-both-go : store automatonW (storeOf (0 ∷ []) (2 ∷ [])) 3 ≡ storeOf (0 ∷ 2 ∷ 3 ∷ []) []
+abbrev servedStore : Store
+servedStore = storeOf (0 ∷ 2 ∷ 3 ∷ []) (0 ∷ 1 ∷ 2 ∷ []) [] [] 3
+
+both-go : store automatonW pagedStore 3 ≡ servedStore
 unfolding storing
 both-go = refl
 
@@ -47,9 +51,13 @@ both-go = refl
 event : (n i e : ℕ) → EventAsPublished automatonW n family n i e
 event n i e = said n family .event n i e
 
-receipt-answered : expectedIn automatonW 2 family (receiveFor 2 1 3) ≡ receive (answerFor (3 ∷ []))
+at-end : (n i e : ℕ) → EventAsPublished automatonW n ending n i e
+at-end n i e = said n ending .event n i e
+
+receipt-answered : expectedIn automatonW 2 family (receiveFor 2 1 3) ≡ receive (answerFor (3 ∷ []) (1 ∷ []))
 unfolding storing
-receipt-answered = event 2 1 3 .answer (omega arith, omega arith) (omega arith) (omega arith, inr (omega arith))
+receipt-answered =
+    event 2 1 3 .answer (omega arith, omega arith) (omega arith) ((omega arith, inr (omega arith)), λ z. omega arith)
 
 pub event-fields : EventFields
 unfolding automatonW pad
@@ -61,13 +69,18 @@ event-fields =
       row-19 = event 2 2 9 .row-19 .1 ((omega arith, omega arith), omega arith);
       row-14 = event 2 0 4 .row-14 .1 ((omega arith, omega arith), omega arith, omega arith);
       row-15 = full;
-      accepted = event 2 1 3 .accepted .1 ((omega arith, omega arith), omega arith, (omega arith, inr (omega arith)));
-      last-of-500 = event 500 499 2 .accepted .1 ((omega arith, omega arith), omega arith, (omega arith, inr (omega arith)));
+      row-23 = at-end 2 0 0 .row-23 .1 ((omega arith, omega arith), omega arith, (sign-fits _, refl));
+      accepted-beside = at-end 2 1 0 .accepted .1 ((omega arith, omega arith), omega arith, (sign-fits _, λ z. omega arith));
+      accepted =
+          event 2 1 3 .accepted .1 ((omega arith, omega arith), omega arith, ((omega arith, inr (omega arith)), λ z. omega arith));
+      last-of-500 =
+          event 500 499 2 .accepted .1 ((omega arith, omega arith), omega arith, ((omega arith, inr (omega arith)), λ z. omega arith));
       only-20 = λ n i e h. event n i e .row-20 .0 h;
       only-19 = λ n i e h. event n i e .row-19 .0 h .1;
       only-14 = λ n i e h. event n i e .row-14 .0 h .2;
       only-15 = λ n i e h. event n i e .row-15 .0 h .2 .2;
-      only-0 = λ n i h. either (event n i 2 .accepted .0 h .2 .1) (λ k. absurd (k refl)) (λ l. l);
+      only-23 = λ n i e h. at-end n i e .row-23 .0 h .2 .1;
+      only-0 = λ n i h. either (event n i 2 .accepted .0 h .2 .0 .1) (λ k. absurd (k refl)) (λ l. l);
       fed = event 2 1 2 .fed (omega arith, omega arith) (omega arith) ∙ page-held;
       others = event 2 1 2 .others 0 (λ h. omega arith);
       wrong-count = event 501 1 2 .wrong-count 1 (inr (omega arith));
@@ -84,7 +97,7 @@ events ss = said 2 ss .events
 abbrev paged : Functions
 paged = fedOwn automatonW 2 family ((1, 2) ∷ [])
 
-paged-one : paged 1 ≡ storeOf (0 ∷ []) (2 ∷ [])
+paged-one : paged 1 ≡ pagedStore
 paged-one = events family .own-fed 1 2 (omega arith) ∙ page-held
 
 -- and after its Receipt
@@ -94,7 +107,7 @@ received = fedOwn automatonW 2 paged ((1, 3) ∷ [])
 received-zero : received 0 ≡ twoHeld
 received-zero = events paged .other-kept 1 3 0 (λ h. omega arith) ∙ events family .other-kept 1 2 0 (λ h. omega arith)
 
-received-one : received 1 ≡ storeOf (0 ∷ 2 ∷ 3 ∷ []) []
+received-one : received 1 ≡ servedStore
 received-one = events paged .own-fed 1 3 (omega arith) ∙ ap (λ s. store automatonW s 3) paged-one ∙ both-go
 
 -- a third Page, and a kind that there is not, change nothing
@@ -102,7 +115,7 @@ full-kept : store automatonW twoHeld 2 ≡ twoHeld
 unfolding storing
 full-kept = refl
 
-unknown-kept : store automatonW (storeOf (0 ∷ 2 ∷ 3 ∷ []) []) 4 ≡ storeOf (0 ∷ 2 ∷ 3 ∷ []) []
+unknown-kept : store automatonW servedStore 4 ≡ servedStore
 unfolding storing
 unknown-kept = refl
 
@@ -117,7 +130,7 @@ put-own ss i e ys s z l h k =
 abbrev filledUp : Functions
 filledUp = fedOwn automatonW 2 received ((0, 2) ∷ [])
 
-filled-one : filledUp 1 ≡ storeOf (0 ∷ 2 ∷ 3 ∷ []) []
+filled-one : filledUp 1 ≡ servedStore
 filled-one = events received .other-kept 0 2 1 (λ h. omega arith) ∙ received-one
 
 put-xs : putOut automatonW 2 family xs ≡ 2 ∷ 3 ∷ []
@@ -136,11 +149,12 @@ unfolding automatonW pad
 count-xs =
     let one : length (paged 1 .buffer) ≡ 1 = ap (λ s. length (s .buffer)) paged-one in
     let zero : length (received 0 .buffer) ≡ 2 = ap (λ s. length (s .buffer)) received-zero in
-    events family .not-counted 1 2 _ (omega arith) (omega arith, inr (omega arith)) ∙
+    let count : paged 1 .accepted ≡ 2 = ap (λ s. s .accepted) paged-one in
+    events family .not-counted 1 2 _ (omega arith) ((omega arith, inr (omega arith)), λ z. omega arith) ∙
     events paged .absent-counted 5 0 _ (omega arith) ∙
     ap suc
-    (events paged .not-counted 1 3 _ (omega arith) (omega arith, inr (omega (arith, one))) ∙
-    events received .counted 0 2 _ (omega arith) (inr (omega arith, refl, omega (arith, zero))) ∙
+    (events paged .not-counted 1 3 _ (omega arith) ((omega arith, inr (omega (arith, one))), λ z. omega (arith, count)) ∙
+    events received .counted 0 2 _ (omega arith) (inr (inl (omega arith, refl, omega (arith, zero)))) ∙
     ap suc (events received .counted 1 4 _ (omega arith) (inl (omega arith)) ∙ ap suc (events received .none-counted)))
 
 -- Page of client 0, Sign of a client 5
@@ -157,6 +171,12 @@ absent-kept g = events afterFull .absent-kept 5 0 g (omega arith)
 one-by-one : (g : ℕ) → fedOwn automatonW 2 family ((0, 2) ∷ (5, 0) ∷ (1, 2) ∷ []) g ≡ fedOwn automatonW 2 afterAbsent ((1, 2) ∷ []) g
 one-by-one g = events family .first-fed (0, 2) _ g ∙ events afterFull .first-fed (5, 0) _ g
 
+-- of the family whose first has its count at the end: its Sign is counted, and the other's is not
+count-end : refusedDay automatonW 2 ending ((0, 0) ∷ (1, 0) ∷ []) ≡ 1
+count-end =
+    events ending .counted 0 0 _ (omega arith) (inr (inr (sign-fits _, refl))) ∙
+    ap suc (events ending .not-counted 1 0 _ (omega arith) (sign-fits _, λ z. omega arith) ∙ events _ .none-counted)
+
 pub events-fields : EventsFields
 events-fields =
     let unchanged = absent-kept 1 ∙ events family .other-kept 0 2 1 (λ h. omega arith) in
@@ -169,6 +189,7 @@ events-fields =
           events family .own-fed 0 2 (omega arith) ∙ full-kept;
       put = put-xs;
       counted = count-xs;
+      end-counted = count-end;
     }
 
 -- a day
@@ -192,8 +213,9 @@ both-counted : refusedDay automatonW 2 family ((1, 2) ∷ (1, 3) ∷ []) ≡ 0
 unfolding automatonW pad
 both-counted =
     let one : length (paged 1 .buffer) ≡ 1 = ap (λ s. length (s .buffer)) paged-one in
-    events family .not-counted 1 2 _ (omega arith) (omega arith, inr (omega arith)) ∙
-    events paged .not-counted 1 3 _ (omega arith) (omega arith, inr (omega (arith, one))) ∙
+    let count : paged 1 .accepted ≡ 2 = ap (λ s. s .accepted) paged-one in
+    events family .not-counted 1 2 _ (omega arith) ((omega arith, inr (omega arith)), λ z. omega arith) ∙
+    events paged .not-counted 1 3 _ (omega arith) ((omega arith, inr (omega (arith, one))), λ z. omega (arith, count)) ∙
     events _ .none-counted
 
 held-two : sumBelow 2 (λ g. length (family g .buffer)) ≡ 2
@@ -248,7 +270,7 @@ feed-fields =
       others = record-of 2 (inTurn 1 2) (Serial 2) .let-in-fed 0 7 1 2 page ∙ event-fields .others;
       let-in =
           record-of 2 (inTurn 1 3) (Serial 2) .let-in (right 2 (omega arith) (omega arith)) 7 1 3 (turn-in 1 3 (omega arith) (omega arith))
-          (answerFor (3 ∷ [])) (event-fields .answer);
+          (answerFor (3 ∷ []) (1 ∷ [])) (event-fields .answer);
       let-in-refused =
           record-of 2 (inTurn 0 3) (Serial 2) .let-in (right 2 (omega arith) (omega arith)) 7 0 3 (turn-in 0 3 (omega arith) (omega arith))
           (refusedFor 15) (event-fields .answer-refused);

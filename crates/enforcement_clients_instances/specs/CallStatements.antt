@@ -2,28 +2,31 @@
 use Prim.Native.Nat.{ℕ, _≤_}
 use mathlib.Core.Path.{_≡_}
 use mathlib.Core.Bool.{true, false}
-use mathlib.Core.List.{List, [], _∷_, map}
-use lib.ListN.{length, getD}
+use mathlib.Core.List.{List, [], _∷_, _++_, map}
+use lib.ListN.{length, getD, take}
 use Rattle.automaton.specs.Automaton.{accepts, reached}
 use Rattle.solver_sets.specs.Definition6.{AllUncontrollable}
+use Rattle.configuration_places.specs.Places.{inputNumber, outputNumber}
 use Rattle.configuration.specs.declared.Configuration.{Configuration}
 use Rattle.configuration.specs.Configuration.{configuration, consistent, initialOf}
 use Rattle.solver_answers.specs.Solving.{solvedTable}
 use Rattle.monitor_answers.specs.Answers.{isWinning, status}
-use Rattle.enforcement.specs.Store.{empty, storeAll}
+use Rattle.enforcement.specs.Store.{Store, empty, store, storeAll}
 use Rattle.enforcement.specs.Calls.{receiveCall, configurationAfter, emittedAll}
-use Rattle.enforcement.specs.Moments.{Moment, emittedAt, moments}
+use Rattle.enforcement.specs.Moments.{Moment, emittedAt, sourcesAt, moments}
+use Rattle.enforcement.specs.Places.{eventAt, Traced}
 use Rattle.enforcement.specs.Strategy.{play}
 use Rattle.enforcement.specs.Claims.{winningAfter}
-use Rattle.enforcement_cases.specs.Cases.{automatonV, automatonW}
-use Rattle.enforcement_instances.specs.Statements.{filled, tableW, at}
+use Rattle.enforcement_cases.specs.Cases.{automatonV, automatonW, at}
+use Rattle.enforcement_instances.specs.Statements.{filled, tableW}
 use Rattle.enforcement_instances.specs.MonitorStatements.{storeOf, eager}
 use Rattle.clients_answers.specs.Clients.{none, initialClients, Outcome, emittedOf, refusedFor, receivedFor, receivedClients}
 use Rattle.enforcement_clients.specs.ClientCalls.{ClientCall, receiveFor, runFor, ClientReply, receive, run}
 use Rattle.enforcement_clients.specs.ClientCalls.{replies, leavesAll, ownAll, momentsOf}
 use Rattle.enforcement_clients.specs.Functions.{unfed, expectedAll, fedAll, eventsTo, configurationsAt}
 use Rattle.enforcement_clients.specs.Claims.{outcomesTo, ClientsEnforced}
-use Rattle.enforcement_clients_instances.specs.ListStatements.{sent, broken, waiting, here, brings, answerFor}
+use Rattle.enforcement_clients_instances.specs.ListStatements.{sent, broken, waiting, waitingSigned, waitingServed}
+use Rattle.enforcement_clients_instances.specs.ListStatements.{full, here, lets, brings, answerFor}
 
 -- the reply to a refused event, and to a day
 abbrev pub refused : ℕ → ClientReply
@@ -46,31 +49,41 @@ calls =
     receiveFor 2 0 1 ∷ []
 
 -- what they answer: 20; the Page is held; 16; 19; client 1's Sign lets Page and Receipt go, and
--- two events are refused, by 19 and 14
+-- two events are refused, by 19 and 14; client 0's Withdraw is the second of its own events
 abbrev pub callReplies : List ClientReply
 callReplies =
     refused 20 ∷
-    receive (answerFor []) ∷
+    receive (answerFor [] []) ∷
     ran 16 0 0 (9 ∷ []) ∷
     refused 19 ∷
     ran 0 4 2 (0 ∷ 0 ∷ 2 ∷ 3 ∷ 9 ∷ 9 ∷ 9 ∷ 9 ∷ []) ∷
-    receive (answerFor (1 ∷ [])) ∷ []
+    receive (answerFor (1 ∷ []) (1 ∷ [])) ∷ []
 
 -- the events that they bring client 1, and the accepted ones among them, as they are met
 abbrev pub ownEvents : List ℕ
 ownEvents = 2 ∷ 3 ∷ 0 ∷ 7 ∷ 2 ∷ []
 
 abbrev pub page : Moment
-page = record { past = []; output = []; position = at 0 []; event = 2 }
+page = record { past = []; output = []; position = at 0 [] [] 0 0; event = 2 }
 
 abbrev pub receipt : Moment
-receipt = record { past = 2 ∷ []; output = []; position = at 0 (2 ∷ []); event = 3 }
+receipt = record { past = 2 ∷ []; output = []; position = at 0 (2 ∷ []) (0 ∷ []) 1 0; event = 3 }
 
 abbrev pub sign : Moment
-sign = record { past = 2 ∷ 3 ∷ []; output = []; position = at 0 (2 ∷ 3 ∷ []); event = 0 }
+sign = record { past = 2 ∷ 3 ∷ []; output = []; position = at 0 (2 ∷ 3 ∷ []) (0 ∷ 1 ∷ []) 2 0; event = 0 }
 
 abbrev pub again : Moment
-again = record { past = 2 ∷ 3 ∷ 0 ∷ []; output = 0 ∷ 2 ∷ 3 ∷ []; position = at 1 []; event = 2 }
+again = record { past = 2 ∷ 3 ∷ 0 ∷ []; output = 0 ∷ 2 ∷ 3 ∷ []; position = at 1 [] [] 3 3; event = 2 }
+
+-- each client in the end, and client 1's function
+abbrev pub lastZero : Configuration
+lastZero = configuration (at 0 [] [] 2 2)
+
+abbrev pub lastOne : Configuration
+lastOne = configuration (at 1 (2 ∷ []) (3 ∷ []) 4 3)
+
+abbrev pub storeOne : Store
+storeOne = storeOf (0 ∷ 2 ∷ 3 ∷ []) (2 ∷ 0 ∷ 1 ∷ []) (2 ∷ []) (3 ∷ []) 4
 
 -- W's clients at their start
 abbrev pub startW : ℕ → List Configuration
@@ -80,22 +93,20 @@ startW count = initialClients automatonW count
 pub record Fields : Type 0 where
   pub expected : expectedAll automatonW 2 unfed calls ≡ callReplies
   pub each-reply : replies automatonW tableW (startW 2) calls ≡ callReplies
-  pub clients : configurationsAt automatonW 2 (fedAll automatonW 2 unfed calls)
-      ≡ configuration (at 0 []) ∷ configuration (at 1 (2 ∷ [])) ∷ []
-  pub last-clients : leavesAll automatonW tableW (startW 2) calls ≡ configuration (at 0 []) ∷ configuration (at 1 (2 ∷ [])) ∷ []
+  pub clients : configurationsAt automatonW 2 (fedAll automatonW 2 unfed calls) ≡ lastZero ∷ lastOne ∷ []
+  pub last-clients : leavesAll automatonW tableW (startW 2) calls ≡ lastZero ∷ lastOne ∷ []
 
 -- of client 1
 pub record OwnFields : Type 0 where
-  pub fed : fedAll automatonW 2 unfed calls 1 ≡ storeOf (0 ∷ 2 ∷ 3 ∷ []) (2 ∷ [])
+  pub fed : fedAll automatonW 2 unfed calls 1 ≡ storeOne
   pub events : eventsTo automatonW 2 unfed 1 calls ≡ ownEvents
-  pub function : storeAll automatonW empty ownEvents ≡ storeOf (0 ∷ 2 ∷ 3 ∷ []) (2 ∷ [])
+  pub function : storeAll automatonW empty ownEvents ≡ storeOne
   pub brought : ownAll automatonW tableW (startW 2) 1 calls ≡ ownEvents
   pub rows : map (λ (x : Outcome). x .refusal) (outcomesTo automatonW tableW (startW 2) 1 calls) ≡ 0 ∷ 0 ∷ 0 ∷ 14 ∷ 0 ∷ []
   pub received : emittedOf (outcomesTo automatonW tableW (startW 2) 1 calls) ≡ 0 ∷ 2 ∷ 3 ∷ []
-  pub last : getD (leavesAll automatonW tableW (startW 2) calls) 1 none ≡ configuration (at 1 (2 ∷ []))
+  pub last : getD (leavesAll automatonW tableW (startW 2) calls) 1 none ≡ lastOne
   -- a monitor of its own, with its events
-  pub as-alone : configurationAfter automatonW tableW (initialOf automatonW) (map receiveCall ownEvents)
-      ≡ configuration (at 1 (2 ∷ []))
+  pub as-alone : configurationAfter automatonW tableW (initialOf automatonW) (map receiveCall ownEvents) ≡ lastOne
   pub last-consistent : consistent automatonW (getD (leavesAll automatonW tableW (startW 2) calls) 1 none) ≡ true
   pub met : moments automatonW tableW (initialOf automatonW) (map receiveCall ownEvents) ≡ page ∷ receipt ∷ sign ∷ again ∷ []
   pub enforced :
@@ -105,24 +116,54 @@ pub record OwnFields : Type 0 where
 -- and of its accepted events, as they are met in the list
 pub record MetFields : Type 0 where
   pub moments : momentsOf automatonW tableW (startW 2) 1 calls ≡ page ∷ receipt ∷ sign ∷ again ∷ []
-  pub alone : storeAll automatonW empty (2 ∷ 3 ∷ 0 ∷ 2 ∷ []) ≡ storeOf (0 ∷ 2 ∷ 3 ∷ []) (2 ∷ [])
+  pub alone : storeAll automatonW empty (2 ∷ 3 ∷ 0 ∷ 2 ∷ []) ≡ storeOne
   pub emitted : emittedAt automatonW tableW (page ∷ receipt ∷ sign ∷ again ∷ []) ≡ 0 ∷ 2 ∷ 3 ∷ []
   -- after the last Page it is winning, and its output leads to an accepting state: since it was so
   -- at first, and after Sign
   pub initially : (winningAfter automatonW tableW again ≡ true)
       × (accepts automatonW (reached automatonW 0 (0 ∷ 2 ∷ 3 ∷ [])) ≡ true)
   pub later : (winningAfter automatonW tableW again ≡ true) × (accepts automatonW (reached automatonW 0 (0 ∷ 2 ∷ 3 ∷ [])) ≡ true)
-  pub said-initially : status automatonW tableW (configuration (at 1 (2 ∷ []))) .winning ≡ true
+  pub said-initially : status automatonW tableW lastOne .winning ≡ true
   -- .. and so does the answer to Receipt, which is accepted then
-  pub flagged-initially :
-      Rattle.monitor_answers.specs.Answers.received automatonW tableW (configuration (at 1 (2 ∷ []))) 3 .winning ≡ true
-  pub said : status automatonW tableW (configuration (at 1 (2 ∷ []))) .winning ≡ true
-  pub flagged : Rattle.monitor_answers.specs.Answers.received automatonW tableW (configuration (at 1 (2 ∷ []))) 3 .winning ≡ true
+  pub flagged-initially : Rattle.monitor_answers.specs.Answers.received automatonW tableW lastOne 3 .winning ≡ true
+  pub said : status automatonW tableW lastOne .winning ≡ true
+  pub flagged : Rattle.monitor_answers.specs.Answers.received automatonW tableW lastOne 3 .winning ≡ true
   -- whoever lets the last Page go, inside the day, is driven out by at most two events
   pub strategies : (us : List ℕ)
       × AllUncontrollable automatonW us
       × (length us ≤ 2)
       × (accepts automatonW (reached automatonW 0 (play automatonW eager (2 ∷ 3 ∷ 0 ∷ 2 ∷ []) (0 ∷ 2 ∷ 3 ∷ 2 ∷ []) [] us)) ≡ false)
+
+-- client 1's accepted events
+abbrev pub taken : List ℕ
+taken = 2 ∷ 3 ∷ 0 ∷ 2 ∷ []
+
+-- both clients in the end, and the places in the answer to an event of one of them then
+abbrev pub lastTwo : List Configuration
+lastTwo = leavesAll automatonW tableW (startW 2) calls
+
+abbrev pub placesThen : ℕ → ℕ → ℕ → List ℕ
+placesThen count g e = take count (map inputNumber (receivedFor automatonW tableW lastTwo g e .places))
+
+-- and what its places mean: they count its own events
+pub record ToldFields : Type 0 where
+  pub function : Traced taken storeOne
+  pub put-out : map (eventAt taken) (2 ∷ 0 ∷ 1 ∷ []) ≡ 0 ∷ 2 ∷ 3 ∷ []
+  pub traced : sourcesAt automatonW tableW (page ∷ receipt ∷ sign ∷ again ∷ []) ≡ 2 ∷ 0 ∷ 1 ∷ []
+  pub held : map (eventAt taken) (3 ∷ []) ≡ 2 ∷ []
+  pub received-count : inputNumber (getD lastTwo 1 none .received) ≡ 4
+  pub emitted-count : outputNumber (getD lastTwo 1 none .emitted) ≡ 3
+  -- Receipt then lets the Page and itself go
+  pub places : placesThen 2 1 3 ≡ 3 ∷ 4 ∷ []
+  pub answered : map (eventAt (taken ++ 3 ∷ [])) (placesThen 2 1 3) ≡ 2 ∷ 3 ∷ []
+  pub answer-output : store automatonW storeOne 3 .output ≡ storeOne .output ++ 2 ∷ 3 ∷ []
+  pub answer-sources : store automatonW storeOne 3 .sources ≡ storeOne .sources ++ placesThen 2 1 3
+  -- client 0 had Sign and Withdraw; its next Sign has place 2
+  pub other-function : Traced (0 ∷ 1 ∷ []) (storeOf (0 ∷ 1 ∷ []) (0 ∷ 1 ∷ []) [] [] 2)
+  pub other-received : inputNumber (getD lastTwo 0 none .received) ≡ 2
+  pub other-emitted : outputNumber (getD lastTwo 0 none .emitted) ≡ 2
+  pub other-places : placesThen 1 0 0 ≡ 2 ∷ []
+  pub other-answered : map (eventAt (0 ∷ 1 ∷ 0 ∷ [])) (placesThen 1 0 0) ≡ 0 ∷ []
 
 -- V's table, and a client over it: Answer, and a day of Query
 abbrev pub tableV : List ℕ
@@ -132,16 +173,16 @@ abbrev pub callsV : List ClientCall
 callsV = receiveFor 1 0 1 ∷ runFor 1 (0 ∷ []) (filled 2 9) ∷ []
 
 abbrev pub answerV : Moment
-answerV = record { past = []; output = []; position = at 0 []; event = 1 }
+answerV = record { past = []; output = []; position = at 0 [] [] 0 0; event = 1 }
 
 abbrev pub queryV : Moment
-queryV = record { past = 1 ∷ []; output = []; position = at 0 (1 ∷ []); event = 0 }
+queryV = record { past = 1 ∷ []; output = []; position = at 0 (1 ∷ []) (0 ∷ []) 1 0; event = 0 }
 
 -- V is not winning at first; Answer leaves it so, and so it stays
 pub record LaterWinning : Type 0 where
   pub not-initially : isWinning automatonV tableV (initialOf automatonV) ≡ false
   pub each-reply : replies automatonV tableV (initialClients automatonV 1) callsV
-      ≡ receive (answerFor []) ∷ ran 0 2 0 (0 ∷ 1 ∷ []) ∷ []
+      ≡ receive (answerFor [] []) ∷ ran 0 2 0 (0 ∷ 1 ∷ []) ∷ []
   pub later : (winningAfter automatonV tableV queryV ≡ true) × (accepts automatonV (reached automatonV 0 (0 ∷ 1 ∷ [])) ≡ true)
   pub said : status automatonV tableV (getD (leavesAll automatonV tableV (initialClients automatonV 1) callsV) 0 none) .winning
       ≡ true
@@ -154,7 +195,8 @@ abbrev pub noneCalls : List ClientCall
 noneCalls = receiveFor 3 0 0 ∷ runFor 1 (0 ∷ []) (filled 2 9) ∷ []
 
 pub record Counts : Type 0 where
-  pub crowd : replies automatonW tableW (startW 501) crowdCalls ≡ refused 20 ∷ receive (answerFor (0 ∷ [])) ∷ refused 19 ∷ []
+  pub crowd : replies automatonW tableW (startW 501) crowdCalls
+      ≡ refused 20 ∷ receive (answerFor (0 ∷ []) (0 ∷ [])) ∷ refused 19 ∷ []
   pub none : replies automatonW tableW (startW 0) noneCalls ≡ refused 20 ∷ ran 20 0 0 (9 ∷ 9 ∷ []) ∷ []
   -- over what the solver leaves
   pub solved : replies automatonW (solvedTable automatonW (filled 16 9)) (startW 2) calls ≡ callReplies
@@ -169,7 +211,7 @@ callsHere =
 
 -- .. and in a list of two it is client 1, and the first day has no room
 abbrev pub two : List Configuration
-two = configuration (at 1 (2 ∷ 2 ∷ [])) ∷ waiting ∷ []
+two = full ∷ waiting ∷ []
 
 abbrev pub callsTwo : List ClientCall
 callsTwo =
@@ -184,27 +226,27 @@ otherTable = 19 ∷ 5 ∷ 35 ∷ 8 ∷ 3 ∷ 0 ∷ 67 ∷ 1 ∷ 3 ∷ 9 ∷ 51 �
 
 -- the list of two after Sign of client 1
 abbrev pub signed : List Configuration
-signed = configuration (at 1 (2 ∷ 2 ∷ [])) ∷ configuration (at 1 (2 ∷ [])) ∷ []
+signed = full ∷ waitingSigned ∷ []
 
 -- Calls one after the other: Sign and Receipt of client 1 on the list of two; and to the functions
 -- of two clients its Sign, for which more than two are to be lent, Page and Receipt.
 pub record Turns : Type 0 where
   pub none-answered : replies automatonW tableW two [] ≡ []
-  pub one-answered : replies automatonW tableW two (receiveFor 2 1 0 ∷ []) ≡ receive (answerFor (0 ∷ [])) ∷ []
+  pub one-answered : replies automatonW tableW two (receiveFor 2 1 0 ∷ []) ≡ receive (answerFor (0 ∷ []) (1 ∷ [])) ∷ []
   pub more-answered : replies automatonW tableW two (receiveFor 2 1 0 ∷ receiveFor 2 1 3 ∷ [])
-      ≡ receive (answerFor (0 ∷ [])) ∷ receive (answerFor (2 ∷ 3 ∷ [])) ∷ []
+      ≡ receive (answerFor (0 ∷ []) (1 ∷ [])) ∷ receive (answerFor (2 ∷ 3 ∷ []) (0 ∷ 2 ∷ [])) ∷ []
   pub none-left : leavesAll automatonW tableW two [] ≡ two
   pub one-left : leavesAll automatonW tableW two (receiveFor 2 1 0 ∷ []) ≡ signed
   pub more-left : leavesAll automatonW tableW two (receiveFor 2 1 0 ∷ receiveFor 2 1 3 ∷ [])
-      ≡ configuration (at 1 (2 ∷ 2 ∷ [])) ∷ configuration (at 1 []) ∷ []
+      ≡ full ∷ waitingServed ∷ []
   pub none-expected : expectedAll automatonW 2 unfed [] ≡ []
-  pub one-expected : expectedAll automatonW 2 unfed (receiveFor 7 1 0 ∷ []) ≡ receive (answerFor (0 ∷ [])) ∷ []
+  pub one-expected : expectedAll automatonW 2 unfed (receiveFor 7 1 0 ∷ []) ≡ receive (answerFor (0 ∷ []) (0 ∷ [])) ∷ []
   pub more-expected : expectedAll automatonW 2 unfed (receiveFor 7 1 0 ∷ receiveFor 2 1 2 ∷ receiveFor 2 1 3 ∷ [])
-      ≡ receive (answerFor (0 ∷ [])) ∷ receive (answerFor []) ∷ receive (answerFor (2 ∷ 3 ∷ [])) ∷ []
-  pub none-fed : fedAll automatonW 2 unfed [] 1 ≡ storeOf [] []
-  pub one-fed : fedAll automatonW 2 unfed (receiveFor 7 1 0 ∷ []) 1 ≡ storeOf (0 ∷ []) []
+      ≡ receive (answerFor (0 ∷ []) (0 ∷ [])) ∷ receive (answerFor [] []) ∷ receive (answerFor (2 ∷ 3 ∷ []) (1 ∷ 2 ∷ [])) ∷ []
+  pub none-fed : fedAll automatonW 2 unfed [] 1 ≡ storeOf [] [] [] [] 0
+  pub one-fed : fedAll automatonW 2 unfed (receiveFor 7 1 0 ∷ []) 1 ≡ storeOf (0 ∷ []) (0 ∷ []) [] [] 1
   pub more-fed : fedAll automatonW 2 unfed (receiveFor 7 1 0 ∷ receiveFor 2 1 2 ∷ receiveFor 2 1 3 ∷ []) 1
-      ≡ storeOf (0 ∷ 2 ∷ 3 ∷ []) []
+      ≡ storeOf (0 ∷ 2 ∷ 3 ∷ []) (0 ∷ 1 ∷ 2 ∷ []) [] [] 3
 
 -- what calls on the list of two bring client 1, each by itself: an event of its own and another's,
 -- a day; an event with none lent, a day without room, an event that lends client 0 alone
@@ -219,25 +261,25 @@ pub record Bringing : Type 0 where
   -- one after the other, and what they bring: Sign goes out, and Receipt lets the Page go with it
   pub first : ownAll automatonW tableW two 1 (receiveFor 2 1 0 ∷ receiveFor 2 1 3 ∷ []) ≡ 0 ∷ 3 ∷ []
   pub outcomes-nothing : outcomesTo automatonW tableW two 1 [] ≡ []
-  pub outcomes-event : outcomesTo automatonW tableW two 1 (receiveFor 2 1 0 ∷ []) ≡ brings 0 (0 ∷ []) ∷ []
+  pub outcomes-event : outcomesTo automatonW tableW two 1 (receiveFor 2 1 0 ∷ []) ≡ lets (0 ∷ []) (1 ∷ []) ∷ []
   pub outcomes-day : outcomesTo automatonW tableW two 1 (runFor 2 (sent 0 3 ∷ sent 1 0 ∷ sent 9 9 ∷ []) (filled 6 9) ∷ [])
-      ≡ brings 0 (0 ∷ []) ∷ []
+      ≡ lets (0 ∷ []) (1 ∷ []) ∷ []
   pub outcomes-first : outcomesTo automatonW tableW two 1 (receiveFor 2 1 0 ∷ receiveFor 2 1 3 ∷ [])
-      ≡ brings 0 (0 ∷ []) ∷ brings 0 (2 ∷ 3 ∷ []) ∷ []
+      ≡ lets (0 ∷ []) (1 ∷ []) ∷ lets (2 ∷ 3 ∷ []) (0 ∷ 2 ∷ []) ∷ []
 
 pub record Beside : Type 0 where
   -- calls over other lists bring the client the same
   pub own : ownAll automatonW tableW two 1 callsTwo ≡ 0 ∷ 3 ∷ []
-  pub outcomes : outcomesTo automatonW tableW two 1 callsTwo ≡ brings 0 (0 ∷ []) ∷ brings 0 (2 ∷ 3 ∷ []) ∷ []
-  pub last : getD (leavesAll automatonW tableW two callsTwo) 1 none ≡ configuration (at 1 [])
+  pub outcomes : outcomesTo automatonW tableW two 1 callsTwo ≡ lets (0 ∷ []) (1 ∷ []) ∷ lets (2 ∷ 3 ∷ []) (0 ∷ 2 ∷ []) ∷ []
+  pub last : getD (leavesAll automatonW tableW two callsTwo) 1 none ≡ waitingServed
   -- the broken one, over a table that nobody solved
-  pub broken-outcomes : outcomesTo automatonW (filled 14 9) (broken ∷ []) 0 (receiveFor 1 0 2 ∷ []) ≡ brings 13 [] ∷ []
+  pub broken-outcomes : outcomesTo automatonW (filled 14 9) (broken ∷ []) 0 (receiveFor 1 0 2 ∷ []) ≡ brings 13 ∷ []
   pub broken-last : getD (leavesAll automatonW (filled 14 9) (broken ∷ []) (receiveFor 1 0 2 ∷ [])) 0 none ≡ broken
   -- the calls here over the other table
   pub replies-other : replies automatonW otherTable here callsHere
-      ≡ receive (answerFor (0 ∷ [])) ∷ refused 20 ∷ ran 0 3 1 (2 ∷ 3 ∷ 1 ∷ 9 ∷ 9 ∷ 9 ∷ 9 ∷ 9 ∷ 9 ∷ []) ∷ []
+      ≡ receive (answerFor (0 ∷ []) (1 ∷ [])) ∷ refused 20 ∷ ran 0 3 1 (2 ∷ 3 ∷ 1 ∷ 9 ∷ 9 ∷ 9 ∷ 9 ∷ 9 ∷ 9 ∷ []) ∷ []
   pub clients-other : leavesAll automatonW otherTable here callsHere
-      ≡ configuration (at 1 []) ∷ broken ∷ configuration (at 0 []) ∷ []
+      ≡ waitingServed ∷ broken ∷ configuration (at 0 [] [] 2 2) ∷ []
 
 -- The list here as somebody stored it: its client 0 is winning, and so it is after the calls here;
 -- Sign of it, before them and after them, says so too.

@@ -3,14 +3,15 @@ use Prim.Native.Nat.{ℕ, _<_, _≤_}
 use mathlib.Core.Path.{_≡_}
 use mathlib.Core.Bool.{true, false}
 use mathlib.Core.List.{List, [], _∷_, map}
-use lib.ListN.{length, getD, replicate}
+use lib.ListN.{length, getD}
 use Rattle.automaton.specs.declared.Automaton.{Automaton}
 use Rattle.automaton.specs.Automaton.{valid}
 use Rattle.solver_sets.specs.Table.{short, table}
+use Rattle.configuration_places.specs.Places.{inputNumber}
 use Rattle.configuration.specs.declared.Configuration.{Configuration}
-use Rattle.configuration.specs.Configuration.{configuration, consistent}
+use Rattle.configuration.specs.Configuration.{consistent}
 use Rattle.enforcement_cases.specs.Cases.{automatonV, automatonW}
-use Rattle.enforcement_instances.specs.Statements.{filled, tableW, at}
+use Rattle.enforcement_instances.specs.Statements.{filled, tableW}
 use Rattle.enforcement_instances.specs.MonitorStatements.{storeOf, wideV}
 use Rattle.clients_answers.specs.declared.ReceivedFor.{ReceivedFor}
 use Rattle.clients_answers.specs.Clients.{none, Outcome, refusedFor, emittedOf}
@@ -24,8 +25,9 @@ use Rattle.enforcement_clients.specs.ClientCalls.{ClientCall, receiveFor, runFo
 use Rattle.enforcement_clients.specs.ClientCalls.{replies, leavesAll, ownAll}
 use Rattle.enforcement_clients.specs.Functions.{unfed, expectedAll, fedAll, eventsTo, configurationsAt}
 use Rattle.enforcement_clients.specs.Claims.{outcomesTo}
-use Rattle.enforcement_clients_instances.specs.ListStatements.{sent, broken, waiting, here, there, beside}
-use Rattle.enforcement_clients_instances.specs.ListStatements.{brings, answerFor, crowd, pair}
+use Rattle.enforcement_clients_instances.specs.ListStatements.{sent, broken, waiting, waitingSigned, waitingServed}
+use Rattle.enforcement_clients_instances.specs.ListStatements.{signedOnce, here, there, beside}
+use Rattle.enforcement_clients_instances.specs.ListStatements.{lets, answerFor, crowd, pair, endPair}
 use Rattle.enforcement_clients_instances.specs.CallStatements.{ran, startW, two, signed, otherTable}
 use Rattle.enforcement_clients_instances.specs.RecordStatements.{lastSerial, serialZero, afterGap, repeated}
 use Rattle.enforcement_clients_instances.specs.RecordStatements.{oneMore, tooLarge, noClient, inTurn}
@@ -37,12 +39,7 @@ fedAs answer next loss = record { answer = answer; place = 0; expected = Serial 
 -- not let in: the row and its place, zeros, and the expected serial as it was given
 abbrev pub keptAs : ℕ → ℕ → ℕ → Fed
 keptAs x row place =
-    record {
-      answer = record { refusal = row; emitted = replicate 7 0; count = 0; winning = false };
-      place = place;
-      expected = Serial x;
-      loss = 0;
-    }
+    record { answer = refusedFor row; place = place; expected = Serial x; loss = 0 }
 
 -- Of three clients: a Page of client 1; its Sign, with the last serial, where none is expected;
 -- Sign of client 0 with the next serial, 0; of client 1, with five lost before it, a kind that
@@ -65,9 +62,9 @@ feedCalls =
 -- each record of the feed is given the serial that the one before it answered
 abbrev pub feedReplies : List ClientReply
 feedReplies =
-    receive (answerFor []) ∷
-    feed (fedAs (answerFor (0 ∷ [])) 0 0) ∷
-    feed (fedAs (answerFor (0 ∷ [])) 1 0) ∷
+    receive (answerFor [] []) ∷
+    feed (fedAs (answerFor (0 ∷ []) (1 ∷ [])) 0 0) ∷
+    feed (fedAs (answerFor (0 ∷ []) (0 ∷ [])) 1 0) ∷
     feed (fedAs (refusedFor 14) 7 5) ∷
     feed (keptAs 7 22 0) ∷
     ran 0 2 0 (2 ∷ 3 ∷ 9 ∷ 9 ∷ []) ∷
@@ -77,7 +74,7 @@ feedReplies =
     feed (keptAs 8 20 0) ∷ []
 
 abbrev pub feedClients : List Configuration
-feedClients = configuration (at 1 []) ∷ configuration (at 1 []) ∷ configuration (at 0 (2 ∷ [])) ∷ []
+feedClients = signedOnce ∷ waitingServed ∷ waiting ∷ []
 
 pub record FeedCallFields : Type 0 where
   pub each-reply : replies automatonW tableW (startW 3) feedCalls ≡ feedReplies
@@ -91,10 +88,10 @@ pub record FeedCallFields : Type 0 where
   pub brought-1 : ownAll automatonW tableW (startW 3) 1 feedCalls ≡ 2 ∷ 0 ∷ 7 ∷ 3 ∷ []
   pub brought-2 : ownAll automatonW tableW (startW 3) 2 feedCalls ≡ 2 ∷ []
   pub events : eventsTo automatonW 3 unfed 1 feedCalls ≡ 2 ∷ 0 ∷ 7 ∷ 3 ∷ []
-  pub function : fedAll automatonW 3 unfed feedCalls 1 ≡ storeOf (0 ∷ 2 ∷ 3 ∷ []) []
+  pub function : fedAll automatonW 3 unfed feedCalls 1 ≡ storeOf (0 ∷ 2 ∷ 3 ∷ []) (1 ∷ 0 ∷ 2 ∷ []) [] [] 3
   pub rows : map (λ (x : Outcome). x .refusal) (outcomesTo automatonW tableW (startW 3) 1 feedCalls) ≡ 0 ∷ 0 ∷ 14 ∷ 0 ∷ []
   pub received : emittedOf (outcomesTo automatonW tableW (startW 3) 1 feedCalls) ≡ 0 ∷ 2 ∷ 3 ∷ []
-  pub last : getD (leavesAll automatonW tableW (startW 3) feedCalls) 1 none ≡ configuration (at 1 [])
+  pub last : getD (leavesAll automatonW tableW (startW 3) feedCalls) 1 none ≡ waitingServed
   -- over a table with the same bits
   pub replies-other : replies automatonW otherTable (startW 3) feedCalls ≡ feedReplies
   pub clients-other : leavesAll automatonW otherTable (startW 3) feedCalls ≡ feedClients
@@ -110,10 +107,10 @@ unthreaded =
 
 abbrev pub unthreadedReplies : List ClientReply
 unthreadedReplies =
-    feed (fedAs (answerFor (0 ∷ [])) 0 0) ∷
-    feed (fedAs (answerFor (0 ∷ [])) 1 0) ∷
-    feed (fedAs (answerFor (0 ∷ [])) 0 535) ∷
-    feed (fedAs (answerFor []) 8 0) ∷ []
+    feed (fedAs (answerFor (0 ∷ []) (0 ∷ [])) 0 0) ∷
+    feed (fedAs (answerFor (0 ∷ []) (0 ∷ [])) 1 0) ∷
+    feed (fedAs (answerFor (0 ∷ []) (1 ∷ [])) 0 535) ∷
+    feed (fedAs (answerFor [] []) 8 0) ∷ []
 
 pub record UnthreadedFields : Type 0 where
   pub each-reply : replies automatonW tableW (startW 3) unthreaded ≡ unthreadedReplies
@@ -143,6 +140,9 @@ pub record FeedRowFields : Type 0 where
   pub row-13 : feedRow pair (inTurn 0 9) (Serial 7) ≡ 13
   pub row-14 : feedRow pair (inTurn 1 4) (Serial 7) ≡ 14
   pub row-15 : feedRow pair (inTurn 1 3) (Serial 7) ≡ 15
+  -- 23 by its client's own count
+  pub row-23 : feedRow endPair (inTurn 0 0) (Serial 7) ≡ 23
+  pub row-0-beside : feedRow endPair (inTurn 1 0) (Serial 7) ≡ 0
   pub row-0 : feedRow pair (inTurn 1 1) (Serial 7) ≡ 0
   pub answered : fedFor automatonW tableW pair repeated (Serial 7) .answer .refusal ≡ 22
   -- and the other way
@@ -155,6 +155,8 @@ pub record FeedRowFields : Type 0 where
       → consistent automatonW c ≡ false
   pub only-14 : (cs : List Configuration) (s : List ℕ) (x : Expected) → feedRow cs s x ≡ 14 → 4 ≤ admission s x .symbol
   pub only-15 : (c : Configuration) → feedRow (broken ∷ c ∷ []) (inTurn 1 3) (Serial 7) ≡ 15 → 2 ≤ c .held
+  pub only-23 : (c : Configuration) → feedRow (broken ∷ c ∷ []) (inTurn 1 3) (Serial 7) ≡ 23
+      → inputNumber (c .received) ≡ 4294967295
   pub only-0 : (c : Configuration) → feedRow (broken ∷ c ∷ []) (inTurn 1 3) (Serial 7) ≡ 0 → c .held < 2
 
 -- whole answers, and the list then
@@ -164,7 +166,7 @@ pub record FeedAnswerFields : Type 0 where
   pub by-record : (fedFor automatonW tableW two oneMore (Serial 7) ≡ keptAs 7 10 3)
       × (fedClients automatonW tableW two oneMore (Serial 7) ≡ two)
   -- Sign of client 1, with five lost before it ..
-  pub let-in : (fedFor automatonW tableW two (inTurn 1 0) (Serial 2) ≡ fedAs (answerFor (0 ∷ [])) 8 5)
+  pub let-in : (fedFor automatonW tableW two (inTurn 1 0) (Serial 2) ≡ fedAs (answerFor (0 ∷ []) (1 ∷ [])) 8 5)
       × (fedClients automatonW tableW two (inTurn 1 0) (Serial 2) ≡ signed)
   -- .. and a kind that there is not
   pub refused : (fedClients automatonW tableW two afterGap (Serial 1) ≡ two)
@@ -175,10 +177,11 @@ pub record FeedAnswerFields : Type 0 where
   -- the events that they bring
   pub own : eventIn afterGap (Serial 1) ≡ (1, 7) ∷ []
   pub no-event : eventIn repeated (Serial 7) ≡ []
-  -- Sign is emitted, and the other places hold 0
+  -- Sign is emitted, and the other places hold 0, of the places in the input too
   pub emitted-count : fedFor automatonW tableW two (inTurn 1 0) (Serial 2) .answer .count ≤ 7
   pub emitted-length : length (fedFor automatonW tableW two (inTurn 1 0) (Serial 2) .answer .emitted) ≡ 7
   pub padded : getD (fedFor automatonW tableW two (inTurn 1 0) (Serial 2) .answer .emitted) 1 0 ≡ 0
+  pub places-padded : getD (map inputNumber (fedFor automatonW tableW two (inTurn 1 0) (Serial 2) .answer .places)) 1 0 ≡ 0
   -- a record of client 0 changes nothing of client 1, and a repeat nothing of its own client
   pub kept : getD (fedClients automatonW tableW two serialZero (Serial 0)) 1 none ≡ waiting
   pub repeat-kept : getD (fedClients automatonW tableW there repeated (Serial 7)) 2 none ≡ waiting
@@ -186,8 +189,8 @@ pub record FeedAnswerFields : Type 0 where
 -- Noninterference: Sign of a client that waits, which is client 0 here and client 2 there, with
 -- other serials; and a Page of the broken one over a table that nobody solved.
 pub record FeedIsolating : Type 0 where
-  pub answer : fedFor automatonW tableW there repeated (Serial 1) .answer ≡ answerFor (0 ∷ [])
-  pub last : getD (fedClients automatonW tableW there repeated (Serial 1)) 2 none ≡ configuration (at 1 (2 ∷ []))
+  pub answer : fedFor automatonW tableW there repeated (Serial 1) .answer ≡ answerFor (0 ∷ []) (1 ∷ [])
+  pub last : getD (fedClients automatonW tableW there repeated (Serial 1)) 2 none ≡ waitingSigned
   pub broken-answer : fedFor automatonW (filled 14 9) beside (inTurn 0 2) (Serial 7) .answer ≡ refusedFor 13
   pub broken-last : getD (fedClients automatonW (filled 14 9) beside (inTurn 0 2) (Serial 7)) 0 none ≡ broken
 
@@ -196,7 +199,7 @@ pub record FeedBringing : Type 0 where
   pub own-record : ownAll automatonW tableW two 1 (feedFor 2 (inTurn 1 0) (Serial 2) ∷ []) ≡ 0 ∷ []
   pub other-record : ownAll automatonW tableW two 1 (feedFor 2 serialZero (Serial 0) ∷ []) ≡ []
   pub refused-record : ownAll automatonW tableW two 1 (feedFor 2 (inTurn 1 0) (Serial 8) ∷ []) ≡ []
-  pub outcomes : outcomesTo automatonW tableW two 1 (feedFor 2 (inTurn 1 0) (Serial 2) ∷ []) ≡ brings 0 (0 ∷ []) ∷ []
+  pub outcomes : outcomesTo automatonW tableW two 1 (feedFor 2 (inTurn 1 0) (Serial 2) ∷ []) ≡ lets (0 ∷ []) (1 ∷ []) ∷ []
 
 -- Sign and Receipt of the client that waits, here by an event and a day (`callsHere`), there by
 -- records, with one of client 0 and a repeat between them
@@ -209,5 +212,5 @@ feedThere =
 
 pub record FeedBeside : Type 0 where
   pub own : ownAll automatonW tableW there 2 feedThere ≡ 0 ∷ 3 ∷ []
-  pub outcomes : outcomesTo automatonW tableW there 2 feedThere ≡ brings 0 (0 ∷ []) ∷ brings 0 (2 ∷ 3 ∷ []) ∷ []
-  pub last : getD (leavesAll automatonW tableW there feedThere) 2 none ≡ configuration (at 1 [])
+  pub outcomes : outcomesTo automatonW tableW there 2 feedThere ≡ lets (0 ∷ []) (1 ∷ []) ∷ lets (2 ∷ 3 ∷ []) (0 ∷ 2 ∷ []) ∷ []
+  pub last : getD (leavesAll automatonW tableW there feedThere) 2 none ≡ waitingServed

@@ -8,10 +8,11 @@ use Rattle.base.specs.Pad.{pad}
 use Rattle.automaton.specs.declared.Automaton.{Automaton}
 use Rattle.automaton.specs.Automaton.{valid}
 use Rattle.solver_sets.specs.Table.{short, table}
+use Rattle.configuration_places.specs.Places.{inputPlace, inputNumber, outputPlace}
 use Rattle.configuration.specs.declared.Configuration.{Configuration}
 use Rattle.configuration.specs.Configuration.{configuration, consistent}
-use Rattle.enforcement_cases.specs.Cases.{automatonV, automatonW}
-use Rattle.enforcement_instances.specs.Statements.{filled, tableW, at}
+use Rattle.enforcement_cases.specs.Cases.{automatonV, automatonW, at}
+use Rattle.enforcement_instances.specs.Statements.{filled, tableW}
 use Rattle.enforcement_instances.specs.MonitorStatements.{wideV}
 use Rattle.clients_answers.specs.declared.ReceivedFor.{ReceivedFor}
 use Rattle.clients_answers.specs.Listed.{Stepping, outcome, changed, outcomes, changedBy, eventsOf, partOf}
@@ -24,21 +25,43 @@ use Rattle.clients_answers.specs.Claims.{WrongCount, answers, clientsAfter, out
 abbrev pub sent : ℕ → ℕ → ℕ
 sent g e = g * 65536 + e
 
--- a configuration that row 13 refuses: no such state, and a count of 200
+-- a configuration that row 13 refuses: no such state, 200 held, and counts of any value
 abbrev pub broken : Configuration
-broken = record { state = 9; held = 200; buffer = replicate 6 7 }
+broken =
+    record {
+      state = 9;
+      held = 200;
+      buffer = replicate 6 7;
+      places = replicate 6 (inputPlace 7);
+      received = inputPlace 0;
+      emitted = outputPlace 4294967295;
+    }
 
--- a client that asked for a Page before it signed
+-- a client that asked for a Page before it signed; that client when it has signed, and when a
+-- Receipt has then let the Page go
 abbrev pub waiting : Configuration
-waiting = configuration (at 0 (2 ∷ []))
+waiting = configuration (at 0 (2 ∷ []) (0 ∷ []) 1 0)
+
+abbrev pub waitingSigned : Configuration
+waitingSigned = configuration (at 1 (2 ∷ []) (0 ∷ []) 2 1)
+
+abbrev pub waitingServed : Configuration
+waitingServed = configuration (at 1 [] [] 3 3)
+
+-- a client that signed, and one that then asked for two Pages
+abbrev pub signedOnce : Configuration
+signedOnce = configuration (at 1 [] [] 1 1)
+
+abbrev pub full : Configuration
+full = configuration (at 1 (2 ∷ 2 ∷ []) (1 ∷ 2 ∷ []) 3 1)
 
 -- it is client 0 here, beside a broken one and one that signed
 abbrev pub here : List Configuration
-here = waiting ∷ broken ∷ configuration (at 1 []) ∷ []
+here = waiting ∷ broken ∷ signedOnce ∷ []
 
 -- and client 2 there, beside one with two Pages held and one at its start
 abbrev pub there : List Configuration
-there = configuration (at 1 (2 ∷ 2 ∷ [])) ∷ configuration (at 0 []) ∷ waiting ∷ []
+there = full ∷ configuration (at 0 [] [] 0 0) ∷ waiting ∷ []
 
 -- Its events: Sign, Receipt, three Pages and a kind that there is not. Between them here: a Page
 -- of the broken one, a Receipt of client 2, and Sign of a client 3, which is not there.
@@ -58,31 +81,47 @@ beside = broken ∷ waiting ∷ waiting ∷ []
 abbrev pub dayBeside : List ℕ
 dayBeside = sent 2 1 ∷ sent 0 2 ∷ sent 1 0 ∷ []
 
--- what an event brings
-abbrev pub brings : ℕ → List ℕ → Outcome
-brings row emitted = record { refusal = row; emitted = emitted }
+-- what an event brings that goes out or lets others go: the symbols, and their places; one that is
+-- held; and a refused one
+abbrev pub lets : List ℕ → List ℕ → Outcome
+lets emitted sources = record { refusal = 0; emitted = emitted; sources = sources }
+
+abbrev pub brings : ℕ → Outcome
+brings row = record { refusal = row; emitted = []; sources = [] }
 
 -- Sign goes out, Receipt lets the Page and itself go, two Pages are held, the third finds the
 -- buffer full, and the last is no kind
 abbrev pub ownOutcomes : List Outcome
 ownOutcomes =
-    brings 0 (0 ∷ []) ∷ brings 0 (2 ∷ 3 ∷ []) ∷ brings 0 [] ∷ brings 0 [] ∷ brings 15 [] ∷ brings 14 [] ∷ []
+    lets (0 ∷ []) (1 ∷ []) ∷ lets (2 ∷ 3 ∷ []) (0 ∷ 2 ∷ []) ∷ brings 0 ∷ brings 0 ∷ brings 15 ∷ brings 14 ∷ []
 
--- the answer to an accepted event that leaves its client winning
-abbrev pub answerFor : List ℕ → ReceivedFor
-answerFor emitted = record { refusal = 0; emitted = pad 7 emitted; count = length emitted; winning = true }
+-- the client then: of its events Sign had place 1, Receipt 2, and the Pages 3 and 4
+abbrev pub afterDay : Configuration
+afterDay = configuration (at 1 (2 ∷ 2 ∷ []) (3 ∷ 4 ∷ []) 5 3)
+
+-- the answer to an accepted event that leaves its client winning: what is emitted, and its places
+-- in the input
+abbrev pub answerFor : List ℕ → List ℕ → ReceivedFor
+answerFor emitted sources =
+    record {
+      refusal = 0;
+      emitted = pad 7 emitted;
+      count = length emitted;
+      winning = true;
+      places = map inputPlace (pad 7 sources);
+    }
 
 -- noninterference at W: what the client received here, and by the claim there
 pub record Isolating : Type 0 where
   pub part-here : partOf 0 (named dayHere) (dayOutcomes automatonW tableW here dayHere (filled 10 9)) ≡ ownOutcomes
-  pub last-here : getD (ranClients automatonW tableW here dayHere (filled 10 9)) 0 none ≡ configuration (at 1 (2 ∷ 2 ∷ []))
+  pub last-here : getD (ranClients automatonW tableW here dayHere (filled 10 9)) 0 none ≡ afterDay
   pub refusal : runForRefusal automatonW tableW there dayThere (filled 13 9) ≡ 0
   pub part : partOf 2 (named dayThere) (dayOutcomes automatonW tableW there dayThere (filled 13 9)) ≡ ownOutcomes
-  pub last : getD (ranClients automatonW tableW there dayThere (filled 13 9)) 2 none ≡ configuration (at 1 (2 ∷ 2 ∷ []))
+  pub last : getD (ranClients automatonW tableW there dayThere (filled 13 9)) 2 none ≡ afterDay
   -- the broken one itself, over a table that nobody solved: its Page is refused alike
-  pub broken-here : partOf 1 (named dayHere) (dayOutcomes automatonW (filled 14 9) here dayHere (filled 10 9)) ≡ brings 13 [] ∷ []
+  pub broken-here : partOf 1 (named dayHere) (dayOutcomes automatonW (filled 14 9) here dayHere (filled 10 9)) ≡ brings 13 ∷ []
   pub broken-part : partOf 0 (named dayBeside) (dayOutcomes automatonW (filled 14 9) beside dayBeside (filled 5 9))
-      ≡ brings 13 [] ∷ []
+      ≡ brings 13 ∷ []
   pub broken-last : getD (ranClients automatonW (filled 14 9) beside dayBeside (filled 5 9)) 0 none ≡ broken
   -- days that row 12 refuses, with no room either
   pub short : runForRefusal automatonW [] there dayThere [] ≡ 12
@@ -90,8 +129,8 @@ pub record Isolating : Type 0 where
   -- with one place less than its events and what is held, the day there is one that 16 refuses
   pub no-room : runForRefusal automatonW tableW there dayThere (filled 12 9) ≡ 16
   -- one event: Sign of the client, and a Page of the broken one
-  pub event : receivedFor automatonW tableW there 2 0 ≡ answerFor (0 ∷ [])
-  pub event-last : getD (receivedClients automatonW tableW there 2 0) 2 none ≡ configuration (at 1 (2 ∷ []))
+  pub event : receivedFor automatonW tableW there 2 0 ≡ answerFor (0 ∷ []) (1 ∷ [])
+  pub event-last : getD (receivedClients automatonW tableW there 2 0) 2 none ≡ waitingSigned
   pub broken-event : receivedFor automatonW (filled 14 9) beside 0 2 .refusal ≡ 13
   pub broken-event-last : getD (receivedClients automatonW (filled 14 9) beside 0 2) 0 none ≡ broken
 
@@ -125,7 +164,14 @@ dayRow = runForRefusal automatonW tableW
 
 -- a broken one, and one with two Pages held
 abbrev pub pair : List Configuration
-pair = broken ∷ configuration (at 1 (2 ∷ 2 ∷ [])) ∷ []
+pair = broken ∷ full ∷ []
+
+-- one whose count is at its end, and one that waits
+abbrev pub atEnd : Configuration
+atEnd = configuration (at 1 [] [] 4294967295 4294967295)
+
+abbrev pub endPair : List Configuration
+endPair = atEnd ∷ waiting ∷ []
 
 -- the row of an event inside a day
 abbrev pub inside : List Configuration → ℕ → ℕ → ℕ
@@ -148,6 +194,9 @@ pub record Rows : Type 0 where
   pub row-13 : row pair 0 9 ≡ 13
   pub row-14 : row pair 1 4 ≡ 14
   pub row-15 : row pair 1 3 ≡ 15
+  -- 23 by the client's own count: Sign of the other is accepted
+  pub row-23 : row endPair 0 0 ≡ 23
+  pub row-0-beside : row endPair 1 0 ≡ 0
   pub row-0 : row pair 1 1 ≡ 0
   pub answered : receivedFor automatonW tableW (crowd 500) 500 2 .refusal ≡ 19
   -- and the other way
@@ -158,6 +207,7 @@ pub record Rows : Type 0 where
   pub only-13 : (c : Configuration) (e : ℕ) → row (broken ∷ c ∷ []) 1 e ≡ 13 → consistent automatonW c ≡ false
   pub only-14 : (cs : List Configuration) (i e : ℕ) → row cs i e ≡ 14 → 4 ≤ e
   pub only-15 : (cs : List Configuration) (i e : ℕ) → row cs i e ≡ 15 → 2 ≤ getD cs i none .held
+  pub only-23 : (cs : List Configuration) (i e : ℕ) → row cs i e ≡ 23 → inputNumber (getD cs i none .received) ≡ 4294967295
   pub only-0 : (c : Configuration) → row (broken ∷ c ∷ []) 1 2 ≡ 0 → c .held < 2
 
 pub record DayRows : Type 0 where
@@ -186,10 +236,13 @@ pub record DayRows : Type 0 where
   pub inside-13 : inside pair 0 9 ≡ 13
   pub inside-14 : inside pair 1 4 ≡ 14
   pub inside-15 : inside pair 1 3 ≡ 15
+  pub inside-23 : inside endPair 0 0 ≡ 23
   pub inside-0 : inside pair 1 1 ≡ 0
   pub inside-only-19 : (cs : List Configuration) (i e : ℕ) → inside cs i e ≡ 19 → length cs ≤ i
   pub inside-only-14 : (cs : List Configuration) (i e : ℕ) → inside cs i e ≡ 14 → 4 ≤ e
   pub inside-only-15 : (cs : List Configuration) (i e : ℕ) → inside cs i e ≡ 15 → 2 ≤ getD cs i none .held
+  pub inside-only-23 : (cs : List Configuration) (i e : ℕ) → inside cs i e ≡ 23
+      → inputNumber (getD cs i none .received) ≡ 4294967295
   pub inside-only-0 : (cs : List Configuration) (i e : ℕ) → inside cs i e ≡ 0 → consistent automatonW (getD cs i none) ≡ true
   pub inside-only-13 : (c : Configuration) (e : ℕ) → inside (broken ∷ c ∷ []) 1 e ≡ 13 → consistent automatonW c ≡ false
 
@@ -200,10 +253,10 @@ pub record OneDay : Type 0 where
   pub ran : ranFor automatonW tableW here dayHere (filled 10 9) ≡ record { refusal = 0; length = 4; refused = 4 }
   pub output : ranForBuffer automatonW tableW here dayHere (filled 10 9) ≡ 0 ∷ 2 ∷ 3 ∷ 3 ∷ 9 ∷ 9 ∷ 9 ∷ 9 ∷ 9 ∷ 9 ∷ []
   pub clients : ranClients automatonW tableW here dayHere (filled 10 9)
-      ≡ configuration (at 1 (2 ∷ 2 ∷ [])) ∷ broken ∷ configuration (at 1 []) ∷ []
+      ≡ afterDay ∷ broken ∷ configuration (at 1 [] [] 2 2) ∷ []
   -- the same of its events, each by a call of its own
   pub events-clients : clientsAfter automatonW tableW here (named dayHere)
-      ≡ configuration (at 1 (2 ∷ 2 ∷ [])) ∷ broken ∷ configuration (at 1 []) ∷ []
+      ≡ afterDay ∷ broken ∷ configuration (at 1 [] [] 2 2) ∷ []
   pub events-rows : map (λ (x : Outcome). x .refusal) (map outcomeOf (answers automatonW tableW here (named dayHere)))
       ≡ 0 ∷ 13 ∷ 0 ∷ 0 ∷ 0 ∷ 0 ∷ 19 ∷ 15 ∷ 14 ∷ []
   pub events-written : length (allEmitted (answers automatonW tableW here (named dayHere))) ≡ 4
@@ -240,7 +293,7 @@ pub record Refusals : Type 0 where
 pub record Keeping : Type 0 where
   -- Sign of client 0: the broken one, and client 2
   pub others : getD (receivedClients automatonW tableW here 0 0) 1 none ≡ broken
-  pub other-end : getD (receivedClients automatonW tableW here 0 0) 2 none ≡ configuration (at 1 [])
+  pub other-end : getD (receivedClients automatonW tableW here 0 0) 2 none ≡ signedOnce
   -- a refused event: by 13, and by 19
   pub refused-13 : receivedClients automatonW tableW here 1 2 ≡ here
   pub refused-19 : receivedClients automatonW tableW here 3 0 ≡ here
@@ -251,17 +304,18 @@ pub record Keeping : Type 0 where
   pub refused-output : ranForBuffer automatonW tableW here dayHere (filled 9 9) ≡ filled 9 9
   pub refused-answer : receivedFor automatonW tableW here 3 0 ≡ refusedFor 19
   pub refused-ran : ranFor automatonW tableW here dayHere (filled 9 9) ≡ refusedRunFor 16
-  pub without : getD (ranClients automatonW tableW here (sent 0 0 ∷ sent 1 2 ∷ []) (filled 3 9)) 2 none ≡ configuration (at 1 [])
+  pub without : getD (ranClients automatonW tableW here (sent 0 0 ∷ sent 1 2 ∷ []) (filled 3 9)) 2 none ≡ signedOnce
   pub count-event : length (receivedClients automatonW tableW here 0 0) ≡ 3
   pub count-day : length (ranClients automatonW tableW here dayHere (filled 10 9)) ≡ 3
 
 -- one event for a client as a call on its configuration alone: Sign of client 0 here
 pub record Alone : Type 0 where
-  pub answer : receivedFor automatonW tableW here 0 0 ≡ answerFor (0 ∷ [])
-  pub next : getD (receivedClients automatonW tableW here 0 0) 0 none ≡ configuration (at 1 (2 ∷ []))
-  pub inside : outcome (monitored automatonW tableW) here 0 0 ≡ brings 0 (0 ∷ [])
-  -- Sign is emitted, and the other places hold 0
+  pub answer : receivedFor automatonW tableW here 0 0 ≡ answerFor (0 ∷ []) (1 ∷ [])
+  pub next : getD (receivedClients automatonW tableW here 0 0) 0 none ≡ waitingSigned
+  pub inside : outcome (monitored automatonW tableW) here 0 0 ≡ lets (0 ∷ []) (1 ∷ [])
+  -- Sign is emitted, and the other places hold 0, of the places in the input too
   pub padded : getD (receivedFor automatonW tableW here 0 0 .emitted) 1 0 ≡ 0
+  pub places-padded : getD (map inputNumber (receivedFor automatonW tableW here 0 0 .places)) 1 0 ≡ 0
   -- a Page of the broken one
   pub broken-answer : receivedFor automatonW tableW here 1 2 ≡ refusedFor 13
   pub broken-next : getD (receivedClients automatonW tableW here 1 2) 1 none ≡ broken

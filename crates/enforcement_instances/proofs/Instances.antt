@@ -30,7 +30,7 @@ use Rattle.enforcement_cases.specs.Cases.{bytesV, automatonV, automatonW}
 use Rattle.game.specs.Game.{tooLargeIn, gameRefusal}
 use Rattle.game.proofs.Worded.{as-worded}
 use Rattle.game.proofs.Agreement.{agrees, verdict-agrees}
-use Rattle.configuration.specs.Configuration.{heldEvents, controllableSymbol, placeStands, bufferStands, consistentIn}
+use Rattle.configuration.specs.Configuration.{heldEvents, placeNumbers, controllableSymbol, placeStands, bufferStands, inputStands, inputsStand, consistentIn}
 use Rattle.text.specs.Decimal.{ascii}
 use Rattle.notation.proofs.Laws.{never-longer, room-in-text, read-small, cases-read}
 use Rattle.notation_unpack.proofs.Trips.{line-reads-back, packs-shortest, line-bounded, packed-reads-back, cases-unpacked}
@@ -123,7 +123,9 @@ solving =
     }
 
 allowed : gameRefusal automatonW onePage ≡ 0
-unfolding gameRefusal first tooLargeIn heldEvents controllableSymbol placeStands bufferStands consistentIn each count automatonW pad
+unfolding
+    gameRefusal first tooLargeIn heldEvents placeNumbers controllableSymbol placeStands bufferStands inputStands inputsStand consistentIn
+    each count automatonW pad
 allowed = rw valid-w refl
 
 pub judging : Judging

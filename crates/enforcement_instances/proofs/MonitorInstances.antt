@@ -23,7 +23,7 @@ use Rattle.configuration.specs.Configuration.{heldEvents, consistent, configura
 use Rattle.monitor_rule.specs.Step.{bySets, byTable, qualifying, release}
 use Rattle.automaton_symbols.specs.Symbols.{ranksTo, rankingOf}
 use Rattle.monitor_rule.specs.Fronts.{indexIn, restIn, foundIn}
-use Rattle.monitor_rule.specs.Claims.{Full, Among, ListsQualifying, Longest}
+use Rattle.monitor_rule.specs.Claims.{Full, Fits, Admitted, Among, ListsQualifying, Longest}
 use Rattle.monitor_rule.proofs.Worded.{event-rows-as-worded, search-as-worded, releases-longest, only-longest}
 use Rattle.monitor_rule.proofs.Solved.{search-of-solved}
 use Rattle.monitor_answers.specs.Answers.{isWinning, status, received}
@@ -33,7 +33,7 @@ use Rattle.monitor_answers.proofs.Accepted.{emitted-padded}
 use Rattle.monitor_answers.proofs.Worded.{status-rows-as-worded, receive-rows-as-worded, run-rows-as-worded, room-as-worded}
 use Rattle.enforcement.specs.Store.{Store, empty, stateOf, added, released, store, storeAll, lacksRoom, feed, feedAll, refusedOf}
 use Rattle.enforcement.specs.Store.{acceptedOf, acceptedBy, acceptedAll}
-use Rattle.enforcement.specs.Calls.{Call, handedBack, reply, fedBy, configurationAt, since, expected, expectedAll}
+use Rattle.enforcement.specs.Calls.{Call, handedBack, reply, fedBy, configurationAt, since, sourcesSince, expected, expectedAll}
 use Rattle.enforcement.specs.Moments.{Moment, effectAt, within, broughtBy, broughtAll, moments}
 use Rattle.enforcement.specs.Strategy.{Lost, lostBound}
 use Rattle.enforcement.specs.Claims.{Enforced, winningAfter, outputAfter}
@@ -47,14 +47,14 @@ use Rattle.enforcement.proofs.Driven.{driven-out}
 use Rattle.enforcement.proofs.Alone.{accepted-alone}
 use Rattle.enforcement.proofs.Said.{once-winning-said}
 use Rattle.enforcement.proofs.Answers.{flag-is-status, flag-stays, others-ignored}
-use Rattle.enforcement_cases.specs.Cases.{automatonV, automatonW}
-use Rattle.enforcement_instances.specs.Statements.{filled, tableW, at}
-use Rattle.enforcement_instances.specs.MonitorStatements.{wideV, startV, Rows, automatonLoops, foundW, SearchFinds, storeOf, twoHeld, Releasing}
-use Rattle.enforcement_instances.specs.MonitorStatements.{calls, page, sign, withdraw, eager, answers, Fields}
-use Rattle.enforcement_instances.specs.MonitorStatements.{longCalls, longAnswers, Day, Enforcing}
+use Rattle.enforcement_cases.specs.Cases.{automatonV, automatonW, at}
+use Rattle.enforcement_instances.specs.Statements.{filled, tableW}
+use Rattle.enforcement_instances.specs.MonitorStatements.{wideV, startV, twoPages, bothHeld, atEnd, Rows, automatonLoops, foundW, SearchFinds, storeOf, twoHeld, ended, Releasing}
+use Rattle.enforcement_instances.specs.MonitorStatements.{calls, page, sign, withdraw, withdrawn, eager, answers, Fields}
+use Rattle.enforcement_instances.specs.MonitorStatements.{longCalls, longLast, longAnswers, longStore, Day, Enforcing}
 use Rattle.enforcement_instances.proofs.Sheets.{valid-w, valid-v, solves-w, buffers-w, solved-w, solved-v, computing}
 
--- V's start, with its table; and W with two Pages held
+-- V's start, with its table; and W with two Pages held, and at the count's end
 clear-v : Clear automatonV (table automatonV) startV
 unfolding computing automatonV
 clear-v =
@@ -64,9 +64,18 @@ clear-v =
       configuration-consistent = refl;
     }
 
-clear-w : Clear automatonW tableW (configuration (at 0 (2 ∷ 2 ∷ [])))
+clear-w : Clear automatonW tableW (configuration twoPages)
 unfolding computing
 clear-w = record { record-valid = valid-w; table-long = refl; configuration-consistent = refl }
+
+clear-end : Clear automatonW tableW (configuration atEnd)
+unfolding computing
+clear-end = record { record-valid = valid-w; table-long = refl; configuration-consistent = refl }
+
+-- Sign has room whatever is held
+pub sign-fits : (held : ℕ) → Fits automatonW held 0
+unfolding automatonW pad
+sign-fits held = (omega arith, inl λ c. omega arith)
 
 -- what rows 11, 12 and 13 refuse
 pub invalid-wide : valid wideV ≡ false
@@ -77,7 +86,7 @@ short-three : short automatonV (filled 3 0) ≡ true
 unfolding computing automatonV
 short-three = refl
 
-inconsistent-three : consistent automatonV (configuration (at 3 [])) ≡ false
+inconsistent-three : consistent automatonV (configuration (at 3 [] [] 0 0)) ≡ false
 unfolding computing automatonV
 inconsistent-three = refl
 
@@ -92,21 +101,27 @@ rows =
       class-one = class-one automatonW 2 .1 refl;
       row-11 = status-rows-as-worded wideV t startV .first-rows .row-11 .1 invalid-wide;
       row-12 = status-rows-as-worded automatonV (filled 3 0) startV .first-rows .row-12 .1 (valid-v, short-three);
-      row-13 = status-rows (configuration (at 3 [])) .first-rows .row-13 .1 (valid-v, clear-v .table-long, inconsistent-three);
+      row-13 = status-rows (configuration (at 3 [] [] 0 0)) .first-rows .row-13 .1 (valid-v, clear-v .table-long, inconsistent-three);
       passed = status-rows startV .accepted .1 clear-v;
       row-14 = receive-rows-as-worded automatonV t startV 2 .row-14 .1 (clear-v, omega arith);
-      row-15 =
-          receive-rows-as-worded automatonW tableW (configuration (at 0 (2 ∷ 2 ∷ []))) 2 .row-15 .1
-          (clear-w, (omega arith, refl, omega arith));
+      row-15 = receive-rows-as-worded automatonW tableW (configuration twoPages) 2 .row-15 .1 (clear-w, (omega arith, refl, omega arith));
+      row-23 = receive-rows-as-worded automatonW tableW (configuration atEnd) 0 .row-23 .1 (clear-end, (sign-fits 0, refl));
       row-16 = run-rows (9 ∷ []) .row-16 .1 (clear-v, omega arith);
       only-14 = λ p e. event-rows-as-worded over-w automatonW p e .row-14 .0;
       only-15 = λ p h. event-rows-as-worded over-w automatonW p 2 .row-15 .0 h .2;
-      only-0 = λ p h. either (event-rows-as-worded over-w automatonW p 2 .accepted .0 h .1) (λ c. absurd (c refl)) (λ l. l);
+      only-23 = λ p e h. event-rows-as-worded over-w automatonW p e .row-23 .0 h .1;
+      only-0 = λ p h.
+          let k = event-rows-as-worded over-w automatonW p 2 .accepted .0 h in
+          (either (k .0 .1) (λ c. absurd (c refl)) (λ l. l), k .1);
       event-14 = λ p. event-rows-as-worded over-w automatonW p 4 .row-14 .1 (omega arith);
-      event-0 = event-rows-as-worded over-w automatonW (at 0 []) 2 .accepted .1 (omega arith, inr (omega arith));
+      event-23 = λ p h. event-rows-as-worded over-w automatonW p 0 .row-23 .1 (sign-fits (length (p .buffer)), h);
+      event-15 = event-rows-as-worded over-w automatonW _ 2 .row-15 .1 (omega arith, refl, omega arith);
+      event-0 = event-rows-as-worded over-w automatonW (at 0 [] [] 0 0) 2 .accepted .1 ((omega arith, inr (omega arith)), λ z. omega arith);
       receive-11 = receive-rows-as-worded wideV t startV 0 .first-rows .row-11 .1 invalid-wide;
-      receive-0 = receive-rows-as-worded automatonV t startV 1 .accepted .1 (clear-v, (omega arith, inr (omega arith)));
-      receive-only-0 = λ e h. receive-rows-as-worded automatonW tableW (configuration (at 0 (2 ∷ 2 ∷ []))) e .accepted .0 h .1;
+      receive-0 =
+          receive-rows-as-worded automatonV t startV 1 .accepted .1 (clear-v, ((omega arith, inr (omega arith)), λ z. omega arith));
+      receive-only-0 = λ e h. receive-rows-as-worded automatonW tableW (configuration twoPages) e .accepted .0 h .1;
+      receive-only-23 = λ e h. receive-rows-as-worded automatonW tableW (configuration atEnd) e .row-23 .0 h .1;
       run-11 = run-rows-as-worded wideV t startV (0 ∷ 1 ∷ []) (9 ∷ []) .first-rows .row-11 .1 invalid-wide;
       run-0 = run-rows (9 ∷ 9 ∷ []) .accepted .1 (clear-v, omega arith);
       run-only-0 = λ out h. run-rows out .accepted .0 h .1;
@@ -114,22 +129,22 @@ rows =
       enough = λ size h. room-as-worded size (0 ∷ 1 ∷ []) 0 .enough .0 h;
       valid-words = λ h. valid-as-worded wideV .0 h .states-high;
       short-words = λ l h. let k = short-as-worded automatonW l .0 h in omega (arith, buffers-w);
-      consistent-words = λ c l h. consistent-as-worded automatonV c valid-v l .0 h .state-below;
+      consistent-words = λ c l m h. consistent-as-worded automatonV c valid-v l m .0 h .state-below;
       flag-one = flag-one automatonV 2 .1 refl;
       only-16 = λ out h. run-rows out .row-16 .0 h .1;
     }
 
 -- what computes calls over W's table, and their accepted events
-unfoldable calling : ℕ
+unfoldable pub calling : ℕ
 unfolding computing handedBack reply effectAt within broughtBy broughtAll moments winningAfter
 calling = 0
 
 -- what computes the published function
-unfoldable publishing : ℕ
+unfoldable pub publishing : ℕ
 unfolding
     computing acceptingSet admits stays refine settle settled setsOf emptySets into setsFor accepts bySets
     stateOf added released store storeAll lacksRoom feed feedAll refusedOf acceptedOf acceptedBy acceptedAll
-    fedBy configurationAt since expected expectedAll
+    fedBy configurationAt since sourcesSince expected expectedAll
 publishing = 0
 
 -- what W's search finds with Page and Receipt held, signed, over its table, and in state 3 with
@@ -225,40 +240,60 @@ signed : leads-w (0 ∷ []) ≡ 1
 unfolding computing
 signed = refl
 
--- the function after a release is settled by what the longest one is
-settles : (output w v r : List ℕ) (z : Store)
-    → Releases automatonW output w z → Longest (Winning automatonW) automatonW (leads-w output) w v r → z ≡ storeOf (output ++ v) r
-settles output w v r z g l =
+-- the function after a release is settled by what the longest one is, and how many it has accepted
+settles : (output sources w places v r : List ℕ) (n : ℕ) (z : Store)
+    → Releases automatonW output sources w places z → Longest (Winning automatonW) automatonW (leads-w output) w v r → z .accepted ≡ n
+    → z ≡ storeOf (output ++ v) (sources ++ take (length v) places) r (drop (length v) places) n
+settles output sources w places v r n z g l count =
     let o = only-longest (Winning automatonW) automatonW (leads-w output) w (g .front) (z .buffer) v r (g .longest) l in
-    λ i. record { output = (g .put-out ∙ ap (λ x. output ++ x) (o .0)) i; buffer = o .1 i }
+    λ i. record {
+      output = (g .put-out ∙ ap (λ x. output ++ x) (o .0)) i;
+      sources = (g .moved ∙ ap (λ x. sources ++ take (length x) places) (o .0)) i;
+      buffer = o .1 i;
+      places = (g .left ∙ ap (λ x. drop (length x) places) (o .0)) i;
+      accepted = count i;
+    }
 
 pub releasing : Releasing
 unfolding automatonW pad storeAll refusedOf
 releasing =
     let go = rw both-go at (longest-w 1 (2 ∷ 3 ∷ [])) in
     let stay = rw page-stays at (longest-w 1 (2 ∷ [])) in
-    let ready = follows-published automatonW (storeOf [] (2 ∷ 3 ∷ [])) in
-    let after-sign = follows-published automatonW (storeOf (0 ∷ []) []) in
+    let ready = follows-published automatonW (storeOf [] [] (2 ∷ 3 ∷ []) (0 ∷ 1 ∷ []) 2) in
+    let after-sign = follows-published automatonW (storeOf (0 ∷ []) (0 ∷ []) [] [] 1) in
     let full = follows-published automatonW twoHeld in
+    let end = follows-published automatonW ended in
     let third : Full automatonW 2 2 = (omega arith, refl, omega arith) in
+    let passed : Admitted automatonW 2 2 0 = (sign-fits 2, λ z. omega arith) in
+    let held : Admitted automatonW 0 1 2 = ((omega arith, inr (omega arith)), λ z. omega arith) in
+    let room : Fits automatonW 0 2 = (omega arith, inr (omega arith)) in
     record {
       released = go;
       only = λ v r l. only-longest (Winning automatonW) automatonW 1 (2 ∷ 3 ∷ []) v r (2 ∷ 3 ∷ []) [] l go;
       none = rw none-goes at (longest-w 3 (2 ∷ []));
-      passes = settles (0 ∷ []) (2 ∷ 3 ∷ []) (2 ∷ 3 ∷ []) [] _ (ready .passes 0 (omega arith) (λ c. omega arith)) (rw signed go);
-      holds = settles (0 ∷ []) (2 ∷ []) [] (2 ∷ []) _ (after-sign .holds 2 (omega arith) refl (omega arith)) (rw signed stay);
-      full = full .refuses 2 (inr third);
+      passes =
+          settles (0 ∷ []) (2 ∷ []) (2 ∷ 3 ∷ []) (0 ∷ 1 ∷ []) (2 ∷ 3 ∷ []) [] 3 _ (ready .passes 0 (λ c. omega arith) passed) (rw signed go)
+          (ready .counts 0 passed);
+      holds =
+          settles (0 ∷ []) (0 ∷ []) (2 ∷ []) (1 ∷ []) [] (2 ∷ []) 2 _ (after-sign .holds 2 refl held) (rw signed stay)
+          (after-sign .counts 2 held);
+      full = full .refuses 2 (inr (inl third));
       unknown = full .refuses 4 (inl (omega arith));
+      at-end = end .refuses 0 (inr (inr (sign-fits 0, refl)));
       run-short = full .run-short (0 ∷ []) 2 (omega arith);
       run-fed = full .run-fed (0 ∷ []) 3 (omega arith);
       event-fed = full .event-fed 0;
       one-by-one = full .first-fed 4 (0 ∷ []) ∙ follows-published automatonW _ .first-fed 0 [] ∙ follows-published automatonW _ .none-fed;
       run-accepted = full .run-row (0 ∷ []) (9 ∷ 9 ∷ 9 ∷ []) .accepted .1 (omega arith);
       counts =
-          full .counted 2 (4 ∷ 1 ∷ []) (inr third) ∙
+          full .counted 2 (4 ∷ 1 ∷ []) (inr (inl third)) ∙
           ap suc (full .counted 4 (1 ∷ []) (inl (omega arith))) ∙
-          ap (λ n. suc (suc n)) (full .not-counted 1 [] (omega arith, inl λ c. omega arith));
+          ap (λ n. suc (suc n)) (full .not-counted 1 [] ((omega arith, inl λ c. omega arith), λ z. omega arith));
+      end-counts =
+          end .counted 0 (2 ∷ []) (inr (inr (sign-fits 0, refl))) ∙ ap suc (end .counted 2 [] (inr (inr (room, refl)))) ∙
+          ap (λ n. suc (suc n)) (end .none-counted);
       event-row = full .event-row 2 .row-15 .1 third;
+      end-row = end .event-row 0 .row-23 .1 (sign-fits 0, refl);
       run-row = full .run-row (0 ∷ []) (9 ∷ 9 ∷ []) .row-16 .1 (omega arith);
     }
 
@@ -294,7 +329,7 @@ lost-w h = h eager longer
 
 -- the published function: its answers, what it is after the calls, and after what it accepts alone
 abbrev last : Store
-last = storeOf (0 ∷ 1 ∷ []) (2 ∷ [])
+last = storeOf (0 ∷ 1 ∷ []) (1 ∷ 2 ∷ []) (2 ∷ []) (0 ∷ []) 3
 
 expected-w : expectedAll automatonW empty calls ≡ answers
 unfolding publishing
@@ -312,12 +347,12 @@ alone-w : storeAll automatonW empty (2 ∷ 0 ∷ 1 ∷ []) ≡ last
 unfolding publishing
 alone-w = refl
 
-last-w : configurationAt automatonW last ≡ configuration (at 0 (2 ∷ []))
+last-w : configurationAt automatonW last ≡ configuration withdrawn
 unfolding publishing
 last-w = refl
 
 -- demand 3 at W
-enforced : (xs : List Call) → Enforced automatonW tableW xs
+pub enforced : (xs : List Call) → Enforced automatonW tableW xs
 enforced = demand3 automatonW tableW valid-w solved-w
 
 pub fields : Fields
@@ -339,6 +374,7 @@ fields =
       alone-configuration = whole .alone-configuration ∙ ap (configurationAt automatonW) afresh ∙ last-w;
       events = accepted;
       emitted = rw met at (account .emitted) ∙ put-out;
+      traced = rw met at (account .traced) ∙ ap (λ s. s .sources) fed-w;
       history = account .history (page ∷ sign ∷ []) withdraw [] met;
       leads = rw met at (account .leads) .1 .1 .0;
       fed = rw met at (account .fed) .1 .1 .0;
@@ -348,18 +384,15 @@ fields =
     }
 
 -- the same of the long day
-abbrev lastLong : Store
-lastLong = storeOf (0 ∷ 2 ∷ 3 ∷ 1 ∷ 1 ∷ 0 ∷ []) (2 ∷ 2 ∷ [])
-
 expected-long : expectedAll automatonW empty longCalls ≡ longAnswers
 unfolding publishing
 expected-long = refl
 
-fed-long : feedAll automatonW empty (map fedBy longCalls) ≡ lastLong
+pub fed-long : feedAll automatonW empty (map fedBy longCalls) ≡ longStore
 unfolding publishing
 fed-long = refl
 
-last-long : configurationAt automatonW lastLong ≡ configuration (at 1 (2 ∷ 2 ∷ []))
+last-long : configurationAt automatonW longStore ≡ configuration longLast
 unfolding publishing
 last-long = refl
 
@@ -399,7 +432,7 @@ both-long : short automatonW tableW ≡ short automatonW (tableW ++ 9 ∷ [])
 unfolding short
 both-long = rw buffers-w refl
 
-few-emitted : received automatonW tableW (configuration (at 0 (2 ∷ 3 ∷ []))) 0 .count ≤ 3
+few-emitted : received automatonW tableW (configuration bothHeld) 0 .count ≤ 3
 unfolding calling
 few-emitted = omega arith
 
@@ -407,6 +440,7 @@ pub enforcing : Enforcing
 unfolding automatonW
 enforcing =
     let start = initialOf automatonW in
+    let padded = emitted-padded automatonW tableW (configuration bothHeld) 0 in
     record {
       demand3 = demand3 automatonV (table automatonV) valid-v solved-v;
       table-exists = table-exists automatonW valid-w;
@@ -419,6 +453,7 @@ enforcing =
       flag-stays = flag-stays automatonW tableW solved-w start says-winning;
       once-winning-said =
           once-winning-said automatonW tableW valid-w solved-w calls [] page (sign ∷ withdraw ∷ []) met stays-winning;
-      emitted-padded = emitted-padded automatonW tableW (configuration (at 0 (2 ∷ 3 ∷ []))) 0 .1 .1 3 few-emitted;
+      emitted-padded = padded .1 .1 3 few-emitted;
+      places-padded = padded .2 .1 3 few-emitted;
       others-ignored = others-ignored automatonW tableW (tableW ++ 9 ∷ []) both-long same-w start;
     }

@@ -17,9 +17,10 @@ use Rattle.solver_sets.specs.Table.{index, rank, inBaseK, shorter, buffersCount
 use Rattle.solver_sets.proofs.Tables.{table-is-solved}
 use Rattle.solver_answers.specs.Solving.{solveRefusal, solvedTable}
 use Rattle.solver_answers.proofs.Answers.{leaves-solved}
-use Rattle.configuration.specs.Configuration.{heldEvents, controllableSymbol, placeStands, bufferStands, consistentIn, initialOf}
+use Rattle.configuration.specs.Configuration.{heldEvents, placeNumbers, controllableSymbol, placeStands, bufferStands, inputStands, inputsStand}
+use Rattle.configuration.specs.Configuration.{consistentIn, initialOf}
 use Rattle.monitor_rule.specs.Step.{byTable, qualifies, qualifying, release, remaining, arrival, effect}
-use Rattle.monitor_rule.specs.Step.{eventRows, eventRefusal, runOf}
+use Rattle.monitor_rule.specs.Step.{inLine, sources, eventRows, eventRefusal, runOf}
 use Rattle.monitor_answers.specs.Answers.{tableRows, configurationRows, callRows, isWinning, callRefusal, status, receiveRefusal, received, room, runRefusal, ran}
 use Rattle.enforcement_cases.specs.Cases.{bytesW, automatonV, automatonW}
 use Rattle.enforcement_cases.proofs.Cases.{marked-cases}
@@ -63,8 +64,8 @@ unfoldable pub computing : ℕ
 unfolding
     each count those lastOr first pad has mask step reached controllable controllables controllableIn
     stands placesStand shaped ranged classesStand flagsStand nextStand valid
-    heldEvents controllableSymbol placeStands bufferStands consistentIn initialOf
+    heldEvents placeNumbers controllableSymbol placeStands bufferStands inputStands inputsStand consistentIn initialOf
     shorter rank inBaseK index buffersCount short
-    byTable qualifies qualifying release remaining arrival effect eventRows eventRefusal
+    byTable qualifies qualifying release remaining arrival effect inLine sources eventRows eventRefusal
     tableRows configurationRows callRows callRefusal isWinning status receiveRefusal received room runRefusal runOf ran automatonW
 computing = 0

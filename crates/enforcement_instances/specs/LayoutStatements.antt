@@ -5,7 +5,7 @@ use mathlib.Core.Path.{_≡_}
 use mathlib.Core.Bool.{true, false}
 use mathlib.Core.List.{List, [], _∷_, map}
 use lib.ListN.{length}
-use Rattle.base.specs.Pad.{pad}
+use Rattle.configuration.specs.declared.Configuration.{Configuration}
 use Rattle.configuration.specs.Configuration.{configuration, initialOf}
 use Rattle.game.specs.declared.Verdict.{Verdict}
 use Rattle.monitor_answers.specs.declared.Status.{Status}
@@ -14,43 +14,40 @@ use Rattle.monitor_answers.specs.declared.Ran.{Ran}
 use Rattle.monitor_answers.specs.Answers.{received, ran}
 use Rattle.enforcement.specs.Calls.{Call, replies}
 use Rattle.enforcement.specs.Claims.{Enforced}
-use Rattle.enforcement_cases.specs.Cases.{automatonW}
+use Rattle.enforcement_cases.specs.Cases.{automatonW, at, answer}
 use Rattle.c_layout.specs.Offsets.{maxSymbols, automatonSize, automatonStates}
 use Rattle.c_layout.specs.Offsets.{automatonSymbols, automatonCapacity, automatonInitial}
 use Rattle.c_layout.specs.Offsets.{automatonClasses, automatonAccepting, automatonNext}
 use Rattle.c_layout.specs.Offsets.{configurationSize, configurationState, configurationHeld}
-use Rattle.c_layout.specs.Offsets.{configurationBuffer, numberSize, statusSize}
-use Rattle.c_layout.specs.Offsets.{maxEmitted, receivedSize, receivedEmitted, receivedCount, receivedWinning}
+use Rattle.c_layout.specs.Offsets.{configurationBuffer, configurationPlaces, configurationReceived, configurationEmitted}
+use Rattle.c_layout.specs.Offsets.{placeSize, numberSize, statusSize}
+use Rattle.c_layout.specs.Offsets.{receivedSize, receivedEmitted, receivedCount, receivedWinning, receivedPlaces}
 use Rattle.c_layout.specs.Offsets.{ranSize, ranLength, ranRefused, verdictSize, verdictMayRest, verdictCanRest}
 use Rattle.c_layout.specs.Layout.{byteAt, part, automatonBytes, automatonOf}
 use Rattle.c_layout.specs.Layout.{configurationBytes, configurationOf, numberBytes, numberOf}
 use Rattle.c_layout.specs.Answers.{statusBytes, verdictBytes}
 use Rattle.c_layout.specs.Calls.{initialBytes, receivedLeft, ranLeft, receiveLeaves, runLeaves}
 use Rattle.enforcement_bytes.specs.ByteCalls.{laid, leavesAll}
-use Rattle.enforcement_instances.specs.Statements.{filled, tableW, at}
+use Rattle.enforcement_instances.specs.Statements.{filled, tableW}
 
 -- W's record in bytes
 abbrev pub recordW : List ℕ
 recordW = automatonBytes automatonW
 
--- a configuration of W, in bytes: state 1, Page held
-abbrev pub heldPage : List ℕ
-heldPage = configurationBytes (configuration (at 1 (2 ∷ [])))
+-- a configuration of W: state 1, Page held at place 300 of 70,001; and its bytes
+abbrev pub latePage : Configuration
+latePage = configuration (at 1 (2 ∷ []) (300 ∷ []) 70001 70000)
 
--- W's answer to Sign with Page and Receipt held; a day's, with 300 bytes of output and 2 events
--- refused; the game's, where rest is only to be reached; and a yes
+abbrev pub heldPage : List ℕ
+heldPage = configurationBytes latePage
+
+-- W's answer to Sign, at place 302, with Page and Receipt held, at 300 and 301; a day's, with 300
+-- bytes of output and 2 events refused; the game's, where rest is only to be reached; and a yes
 abbrev pub signed : Received
-signed =
-    record {
-      refusal = 0;
-      configuration = configuration (at 1 []);
-      emitted = pad maxEmitted (0 ∷ 2 ∷ 3 ∷ []);
-      count = 3;
-      winning = true;
-    }
+signed = answer 0 (0 ∷ 2 ∷ 3 ∷ []) (302 ∷ 300 ∷ 301 ∷ []) (at 1 [] [] 303 303) true
 
 abbrev pub longRun : Ran
-longRun = record { refusal = 0; configuration = configuration (at 1 []); length = 300; refused = 2 }
+longRun = record { refusal = 0; configuration = configuration (at 1 [] [] 300 300); length = 300; refused = 2 }
 
 abbrev pub later : Verdict
 later = record { refusal = 0; «may_rest» = false; «can_rest» = true }
@@ -75,6 +72,12 @@ pub record Placed : Type 0 where
   pub state : byteAt heldPage configurationState ≡ 1
   pub held : byteAt heldPage configurationHeld ≡ 1
   pub buffer : byteAt heldPage (configurationBuffer + 0) ≡ 2
+  -- the place in the input, low byte first, 300 is 44 and 1; both counts
+  pub place-low-first : (byteAt heldPage (configurationPlaces + 0 * placeSize + 0) ≡ 44)
+      × (byteAt heldPage (configurationPlaces + 0 * placeSize + 1) ≡ 1)
+  pub place : numberOf (part (configurationPlaces + 0 * placeSize) placeSize heldPage) ≡ 300
+  pub received-count : numberOf (part configurationReceived placeSize heldPage) ≡ 70001
+  pub emitted-count : numberOf (part configurationEmitted placeSize heldPage) ≡ 70000
   pub configuration-out : byteAt (filled configurationSize 7) configurationHeld
       ≡ configurationOf (filled configurationSize 7) .held
   pub number-size : length (numberBytes numberSize 60001) ≡ numberSize
@@ -86,6 +89,9 @@ pub record Placed : Type 0 where
   pub emitted : byteAt (receivedLeft signed .answer) (receivedEmitted + 2) ≡ 3
   pub count : byteAt (receivedLeft signed .answer) receivedCount ≡ 3
   pub winning : byteAt (receivedLeft signed .answer) receivedWinning ≡ 1
+  -- Sign's place, and Receipt's
+  pub emitted-place : numberOf (part (receivedPlaces + 0 * placeSize) placeSize (receivedLeft signed .answer)) ≡ 302
+  pub emitted-place-low-first : byteAt (receivedLeft signed .answer) (receivedPlaces + 2 * placeSize + 0) ≡ 45
   pub ran-size : length (ranLeft longRun [] .answer) ≡ ranSize
   pub written-low-first : byteAt (ranLeft longRun [] .answer) (ranLength + 1) ≡ 1
   pub written : numberOf (part ranLength numberSize (ranLeft longRun [] .answer)) ≡ 300
@@ -109,7 +115,7 @@ pub record Layouts : Type 0 where
   pub offsets-hold : Placed
   pub automaton-kept : automatonOf recordW ≡ automatonW
   pub automaton-bytes-kept : automatonBytes (automatonOf anyRecord) ≡ anyRecord
-  pub configuration-kept : configurationOf heldPage ≡ configuration (at 1 (2 ∷ []))
+  pub configuration-kept : configurationOf heldPage ≡ latePage
   pub configuration-bytes-kept : configurationBytes (configurationOf anyBytes) ≡ anyBytes
   pub number-kept : numberOf (numberBytes numberSize 60001) ≡ 60001
   -- a record with seven states, seven kinds and seven places in its buffer

@@ -1,3 +1,4 @@
 pub mod Statements
 pub mod MonitorStatements
+pub mod PlaceStatements
 pub mod LayoutStatements

@@ -1,6 +1,6 @@
 -- Each claim at document 01's sheet V or W, or on bytes of theirs, with its hypotheses met. Those
--- on the monitor's calls are in MonitorStatements.antt, those on lent bytes in
--- LayoutStatements.antt.
+-- on the monitor's calls are in MonitorStatements.antt, those on places in the input and on the
+-- counts in PlaceStatements.antt, those on lent bytes in LayoutStatements.antt.
 use Prim.Native.Nat.{ℕ, _+_, _*_, _<_, _≤_}
 use mathlib.Core.Path.{_≡_}
 use mathlib.Core.Bool.{true, _||_}
@@ -17,11 +17,11 @@ use Rattle.solver_sets.specs.Definition6.{States, Definition6}
 use Rattle.solver_sets.specs.Table.{index, buffersCount, Buffer, table, Solved}
 use Rattle.solver_sets.specs.Claims.{Winning, Intermediate, Resting}
 use Rattle.configuration.specs.declared.Configuration.{Configuration}
-use Rattle.configuration.specs.Configuration.{Position, configuration}
+use Rattle.configuration.specs.Configuration.{configuration}
 use Rattle.solver_answers.specs.Solving.{solvedTable}
 use Rattle.game.specs.Game.{mayRest, verdict}
 use Rattle.game.specs.Claims.{Questions}
-use Rattle.enforcement_cases.specs.Cases.{bytesV, automatonV, automatonW}
+use Rattle.enforcement_cases.specs.Cases.{bytesV, automatonV, automatonW, at}
 use Rattle.text.specs.Decimal.{ascii}
 use Rattle.notation.specs.Outcomes.{numbers}
 use Rattle.notation.specs.Packing.{reading, encoded, packed, done}
@@ -70,13 +70,9 @@ pub record Solving : Type 1 where
   -- by Definition 6 itself: with Page and Receipt held W may rest in state 0, and not in state 2
   pub solves-definition6 : (S I : List ℕ → States) → Definition6 automatonW S I → S (2 ∷ 3 ∷ []) 0 × (S (2 ∷ 3 ∷ []) 2 → ⊥)
 
--- a position
-abbrev pub at : ℕ → List ℕ → Position
-at q w = record { state = q; buffer = w }
-
--- W's state 1 with a Page held
+-- W after Sign and Page: state 1 with the Page held
 abbrev pub onePage : Configuration
-onePage = configuration (at 1 (2 ∷ []))
+onePage = configuration (at 1 (2 ∷ []) (1 ∷ []) 2 1)
 
 -- the second judge
 pub record Judging : Type 0 where

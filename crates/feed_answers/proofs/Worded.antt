@@ -30,26 +30,27 @@ use Rattle.feed_answers.specs.Claims.{RecordRow, FeedRowsAsWorded, FeedA
 use Rattle.feed_answers.specs.Claims.{FeedNoninterference, FeedKeepsOthers, FeedEmittedPadded}
 use Rattle.feed_answers.proofs.Entering.{fed-list, fed-record, fed-in}
 
--- a record's rows lie below those of the list and the event, or above them
+-- a record's rows lie below those of the list and the event, or above the list's and below the
+-- event's last
 abbrev Apart : ℕ → Type 0
-Apart n = ((0 < n) × (n < 11)) ⊎ (20 < n)
+Apart n = ((0 < n) × (n < 11)) ⊎ ((20 < n) × (n < 23))
 
 apart : (n : ℕ) → RecordRow n → Apart n
 apart n r =
     either r (λ l. either l (λ e. inl (omega arith, omega arith)) (λ e. inl (omega arith, omega arith)))
-    (λ r2. either r2 (λ e. inl (omega arith, omega arith)) (λ r3. either r3 (λ e. inr (omega arith)) (λ e. inr (omega arith))))
+    (λ r2. either r2 (λ e. inl (omega arith, omega arith)) (λ r3. either r3 (λ e. inr (omega arith, omega arith)) (λ e. inr (omega arith, omega arith))))
 
 record-later : (n : ℕ) → RecordRow n → Later n
 record-later n r =
     either (apart n r)
     (λ (some, low). (λ h. omega arith, λ h. omega arith, λ h. omega arith))
-    (λ high. (λ h. omega arith, λ h. omega arith, λ h. omega arith))
+    (λ (high, below). (λ h. omega arith, λ h. omega arith, λ h. omega arith))
 
 record-not-inner : (n : ℕ) → RecordRow n → Inner n → ⊥
 record-not-inner n r i =
     either (apart n r)
-    (λ (some, low). either i (λ z. omega arith) (λ (l, h). omega arith))
-    (λ high. either i (λ z. omega arith) (λ (l, h). omega arith))
+    (λ (some, low). either i (λ z. omega arith) (λ k. either k (λ (l, h). omega arith) (λ h. omega arith)))
+    (λ (high, below). either i (λ z. omega arith) (λ k. either k (λ (l, h). omega arith) (λ h. omega arith)))
 
 module _ (a : Automaton) (t : List ℕ) (cs : List Configuration) (s : List ℕ) (expected : Expected) where
   abbrev m : Admitted
@@ -285,4 +286,4 @@ feed-emitted-padded a t cs s expected =
     let k = event-rows a t cs s expected .accepted .0 (eqb-true n 0 h) in
     let e = ap (λ f. f .answer) (fed-in a t cs s expected (clear-list a t (length cs) (k .0 .0)) (k .0 .1) .0) in
     rw (sym e) (clients-emitted-padded a t cs (m .client) (m .symbol)))
-    (λ h. rw (refused a t cs s expected (eqb-false n 0 h) .1) (omega arith, zeros-used 7))
+    (λ h. rw (refused a t cs s expected (eqb-false n 0 h) .1) (omega arith, zeros-used 7, zeros-used 7))

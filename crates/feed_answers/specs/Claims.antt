@@ -4,11 +4,13 @@ use Prim.Native.Nat.{ℕ, _<_, _≤_}
 use mathlib.Core.Path.{_≡_}
 use mathlib.Core.Logic.{_⊎_, _↔_}
 use mathlib.Core.Bool.{false}
-use mathlib.Core.List.{List, [], _∷_}
+use mathlib.Core.List.{List, [], _∷_, map}
 use lib.ListN.{length, getD, replicate}
 use Rattle.base.specs.Pad.{UsedTo}
 use Rattle.automaton.specs.declared.Automaton.{Automaton}
+use Rattle.configuration_places.specs.Places.{inputPlace, inputNumber}
 use Rattle.configuration.specs.declared.Configuration.{Configuration}
+use Rattle.clients_answers.specs.declared.ReceivedFor.{ReceivedFor}
 use Rattle.clients_answers.specs.Clients.{none, listRefusal, receivedFor, receivedClients}
 use Rattle.clients_answers.specs.Claims.{ListRows, ListClear, ClientRows}
 use Rattle.feed_record.specs.declared.Expected.{Expected}
@@ -36,13 +38,17 @@ abbrev pub FeedRowsAsWorded : Type 0
 FeedRowsAsWorded =
     (a : Automaton) (t : List ℕ) (cs : List Configuration) (s : List ℕ) (expected : Expected) → FeedRows a t cs s expected
 
+-- a refused event's answer: the row, nothing put out, no
+abbrev pub zeros : ℕ → ReceivedFor
+zeros row = record { refusal = row; emitted = replicate 7 0; count = 0; winning = false; places = replicate 7 (inputPlace 0) }
+
 -- The whole answer and the whole lent list, in every case.
 pub record FeedAnswered (a : Automaton) (t : List ℕ) (cs : List Configuration) (s : List ℕ) (expected : Expected) : Type 0 where
   -- refused by 11, 12 or 20: at no place of the record
   pub by-list : (listRefusal a t (length cs) ≡ 0 → ⊥)
       → (fedFor a t cs s expected
       ≡ record {
-        answer = record { refusal = listRefusal a t (length cs); emitted = replicate 7 0; count = 0; winning = false };
+        answer = zeros (listRefusal a t (length cs));
         place = 0;
         expected = expected;
         loss = 0;
@@ -52,7 +58,7 @@ pub record FeedAnswered (a : Automaton) (t : List ℕ) (cs : List Configuration)
   pub by-record : ListClear a t (length cs) → (admission s expected .refusal ≡ 0 → ⊥)
       → (fedFor a t cs s expected
       ≡ record {
-        answer = record { refusal = admission s expected .refusal; emitted = replicate 7 0; count = 0; winning = false };
+        answer = zeros (admission s expected .refusal);
         place = admission s expected .place;
         expected = expected;
         loss = 0;
@@ -72,8 +78,7 @@ pub record FeedAnswered (a : Automaton) (t : List ℕ) (cs : List Configuration)
   -- a refused call changes nothing, and answers an event of zeros
   pub refused : (feedRefusal a t cs s expected ≡ 0 → ⊥)
       → (fedClients a t cs s expected ≡ cs)
-      × (fedFor a t cs s expected .answer
-      ≡ record { refusal = feedRefusal a t cs s expected; emitted = replicate 7 0; count = 0; winning = false })
+      × (fedFor a t cs s expected .answer ≡ zeros (feedRefusal a t cs s expected))
   -- no call changes another client than its record's
   pub others : (g : ℕ) → (g ≡ admission s expected .client → ⊥) → getD (fedClients a t cs s expected) g none ≡ getD cs g none
   pub count : length (fedClients a t cs s expected) ≡ length cs
@@ -107,9 +112,10 @@ FeedKeepsOthers =
     (a : Automaton) (t : List ℕ) (cs : List Configuration) (s : List ℕ) (x : Expected) (g : ℕ)
     → ((e : ℕ) → eventIn s x ≡ (g, e) ∷ [] → ⊥) → getD (fedClients a t cs s x) g none ≡ getD cs g none
 
--- the answer has seven places for what is emitted; those past the count hold 0
+-- the answer has seven places for what is emitted, and as many for its places in the input; those
+-- past the count hold 0
 abbrev pub FeedEmittedPadded : Type 0
 FeedEmittedPadded =
     (a : Automaton) (t : List ℕ) (cs : List Configuration) (s : List ℕ) (expected : Expected)
     → let r = fedFor a t cs s expected .answer in
-    (r .count ≤ 7) × UsedTo 7 (r .count) (r .emitted)
+    (r .count ≤ 7) × UsedTo 7 (r .count) (r .emitted) × UsedTo 7 (r .count) (map inputNumber (r .places))

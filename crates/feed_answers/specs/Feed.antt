@@ -20,7 +20,7 @@ pub use Rattle.feed_answers.specs.declared.Fed.{Fed}
 unfoldable pub entryRefusal : Automaton → List ℕ → ℕ → List ℕ → Expected → ℕ
 entryRefusal a t count s expected = first (listRows a t count ++ recordRows s expected)
 
--- all rows: behind these, those of its event, 19, 13, 14, 15
+-- all rows: behind these, those of its event, 19, 13, 14, 15, 23
 unfoldable pub feedRefusal : Automaton → List ℕ → List Configuration → List ℕ → Expected → ℕ
 feedRefusal a t cs s expected =
     let m = admission s expected in

@@ -1,31 +1,39 @@
 -- The ways out of the two calls.
-use Prim.Native.Nat.{ℕ, _+_, _<_, _≤_}
+use Prim.Native.Nat.{ℕ, suc, _+_, _<_, _≤_}
 use mathlib.Core.Path.{_≡_, refl, sym, _∙_, ap, subst}
-use mathlib.Core.Bool.{Bool, true, false}
-use mathlib.Core.List.{List}
+use mathlib.Core.Bool.{Bool, true, false, cond}
+use mathlib.Core.List.{List, map}
 use native.Mathlib.Nat.{zero-add}
 use native.Mathlib.Omega.{arith}
 use lib.ListN.{length, getD, take, replicate}
 use lib.Seq.{sets}
+use lib.Dec.{eqb}
 use borrow.Author.Tests.{ne-eqb}
 use Rattle.base.specs.Pad.{pad}
+use Rattle.base.proofs.Bools.{by}
 use Rattle.base.proofs.Padding.{pad-stored}
 use Rattle.automaton.specs.declared.Automaton.{Automaton}
+use Rattle.automaton.specs.Automaton.{controllable}
 use Rattle.automaton.proofs.Facts.{Valid, valid-facts}
+use Rattle.configuration_places.specs.declared.InputPlace.{InputPlace}
+use Rattle.configuration_places.specs.Places.{inputPlace, padPlaces}
 use Rattle.configuration.specs.declared.Configuration.{Configuration}
 use Rattle.configuration.specs.Configuration.{Position, heldEvents, positionOf, configuration, consistent}
 use Rattle.configuration.proofs.Facts.{Consistent, consistent-facts, held-buffer, position-made}
-use Rattle.monitor_rule.specs.Step.{byTable, Effect, effectFrom, advance}
+use Rattle.monitor_rule.specs.Step.{byTable, remaining, Effect, effectFrom, inLine, sources, advance}
+use Rattle.monitor_rule.proofs.Effects.{accepted-facts, effect-length, places-as-worded}
+use Rattle.monitor_places.specs.Lines.{joinedBy}
+use Rattle.monitor_places.proofs.Laws.{places, passing-front, waiting-front}
 use Rattle.automaton_symbols.specs.declared.Ranking.{Ranking}
 use Rattle.monitor_rule.specs.Fronts.{restIn, ReleaseRequires}
 use Rattle.automaton_symbols.specs.Symbols.{rankingOf}
 use Rattle.monitor_rule.proofs.Tabled.{rest-tabled, lent}
-use Rattle.monitor_step.proofs.Tabled.{symbols-low}
+use Rattle.monitor_step.proofs.Tabled.{rank-is, symbols-low}
 use Rattle.monitor_answers.specs.declared.Turned.{Turned}
 use Rattle.monitor_answers.specs.Answers.{tableRefusal, callRefusal, isWinning, status, receiveRefusal, refusedEvent, received}
 use Rattle.monitor_answers.specs.Turns.{turnRefusal, turned, turnedBuffer}
 use Rattle.monitor_answers.proofs.Refusals.{status-inconsistent, status-clear}
-use Rattle.monitor_answers.proofs.Turns.{Opened, call-stands, receive-unopened, receive-turns, turn-stands, turn-emits, turn-accepted, turn-keeps, turn-room}
+use Rattle.monitor_answers.proofs.Turns.{Opened, call-stands, receive-unopened, receive-turns, turn-consistent, turn-stands, turn-emits, turn-accepted, turn-keeps, turn-room}
 use Rattle.monitor_loop.specs.declared.Limits.{Limits}
 use Rattle.monitor_loop.specs.Lending.{TurnRequires}
 use Rattle.monitor_loop.proofs.Taking.{lends}
@@ -125,14 +133,56 @@ module _ (a : Automaton) (t : List ℕ) (c : Configuration) (e : ℕ) where
         unfolding turned
         stands-after = rw (ap (λ (y : Turned). y .configuration) es) (turn-keeps a t c e o stands)
 
+        -- the places of what is emitted
+        facts : Consistent a c
+        facts = place a t o r own c stands
+
+        pub index-low : e < a .symbols
+        index-low = accepted-facts (byTable a t) a (positionOf c) e (sym (turn-consistent a t c e stands) ∙ passes) .symbol
+
+        module _ (index : ℕ) (at-own : index ≡ cond (eqb (getD (r .ranks) e 0) 0) 0 (c .held)) where
+          pub index-small : index ≤ 6
+          index-small =
+              by (eqb (getD (r .ranks) e 0) 0)
+              (λ y. let i : index ≡ 0 = at-own ∙ rw y in omega arith)
+              (λ y. let i : index ≡ c .held = at-own ∙ rw y in omega (arith, facts .held-small))
+
+          index-is : index ≡ cond (controllable a e) (c .held) 0
+          index-is = at-own ∙ rw own (rw (rank-is a (valid-facts a (o .record-valid)) e index-low) (by (controllable a e) (λ y. rw y) (λ y. rw y)))
+
+          pub many-small : s .written ≤ 7
+          many-small = omega (arith, ap (λ (y : Turned). y .written) turned-is, seven)
+
+          from-is : (from : List InputPlace) → from ≡ padPlaces 7 (take (s .written) (joinedBy index (c .received) (c .places)))
+              → from ≡ map inputPlace (pad 7 (sources (byTable a t) a (positionOf c) e))
+          unfolding sources inLine remaining
+          from-is from ef =
+              let p = positionOf c in
+              let have : length (p .places) ≡ c .held = facts .placed .each-has ∙ facts .held-length in
+              let lie : c .places ≡ places 6 (p .places) = ap (λ (d : Configuration). d .places) (facts .whole) in
+              let m : s .written ≡ length (f .emitted) = omega (arith, ap (λ (y : Turned). y .written) turned-is) in
+              let few : length (f .emitted) ≤ suc (length (p .places)) = omega (arith, have, facts .held-length, effect-length (byTable a t) a (c .state) (heldEvents c) e) in
+              ef ∙ ap (λ n. padPlaces 7 (take n (joinedBy index (c .received) (c .places)))) m ∙
+              ap (λ l. padPlaces 7 (take (length (f .emitted)) (joinedBy index (c .received) l))) lie ∙
+              (by (controllable a e)
+              (λ y.
+              let i : index ≡ length (p .places) = index-is ∙ rw y (sym have) in
+              rw (i, y) (waiting-front (p .places) (p .received) (length (f .emitted)) few))
+              (λ y.
+              let i : index ≡ 0 = index-is ∙ rw y in
+              rw (i, y) (passing-front (p .places) (p .received) (length (f .emitted)) few)))
+
         pub receive-accepts : (out : List ℕ) → out ≡ turnedBuffer a t c e 0 (replicate 7 0) → (b : Bool) → b ≡ isWinning a t (s .configuration)
-            → record { refusal = 0; configuration = s .configuration; emitted = out; count = s .written; winning = b } ≡ received a t c e
+            → (index : ℕ) → index ≡ cond (eqb (getD (r .ranks) e 0) 0) 0 (c .held)
+            → (from : List InputPlace) → from ≡ padPlaces 7 (take (s .written) (joinedBy index (c .received) (c .places)))
+            → record { refusal = 0; configuration = s .configuration; emitted = out; count = s .written; winning = b; places = from } ≡ received a t c e
         unfolding received turnedBuffer isWinning
-        receive-accepts out eo b eb =
+        receive-accepts out eo b eb index ei from ef =
+            let each = places-as-worded (byTable a t) a (positionOf c) e (facts .placed .each-has) .held-have in
             let w : b ≡ byTable a t (next .buffer) (next .state) =
-            eb ∙ rw turned-is (ap (λ (p : Position). byTable a t (p .buffer) (p .state)) (position-made next))
+            eb ∙ rw turned-is (ap (λ (p : Position). byTable a t (p .buffer) (p .state)) (position-made next each))
             in
             let put : out ≡ pad 7 (f .emitted) =
             eo ∙ ap (sets (replicate 7 0) 0) (turn-emits a t c e passes) ∙ pad-stored 7 (f .emitted) seven
             in
-            rw (w, put, turned-is) (rw (receive-turns a t c e o ∙ passes, zero-add (length (f .emitted))))
+            rw (w, put, from-is index ei from ef, turned-is) (rw (receive-turns a t c e o ∙ passes, zero-add (length (f .emitted))))

@@ -4,14 +4,17 @@ use automaton::Automaton;
 use base::as_usize;
 use configuration::Configuration;
 use configuration_check::consistent;
+use configuration_places::InputPlace;
 use monitor_answers::Received;
 use monitor_answers::Status;
 use monitor_entry::enter;
 use monitor_loop::Limits;
 use monitor_loop::turn;
+use monitor_places::emitted_places;
 use monitor_release::rests;
 ghost use mathlib.Core.Path.{_≡_};
-ghost use mathlib.Core.Bool.{true, false};
+ghost use mathlib.Core.Bool.{true, false, cond};
+ghost use lib.Dec.{eqb};
 ghost use Rattle.automaton.specs.Automaton.{shaped, assembled};
 ghost use Rattle.monitor_answers.specs.Answers.{status, received, refusedEvent};
 
@@ -67,11 +70,23 @@ pub fn refused(row: u8, c: Configuration) -> Received
         emitted: [0u8; 7],
         count: 0,
         winning: false,
+        places: [InputPlace(0); 7],
     }
 }
 
+// Where a newcomer's place stands in line: first where it passes, behind those that are held where
+// it is controllable (a ranked symbol).
+fn own_index(rank: u8, held: usize) -> usize
+    ensures { λ r. ⌜ r ≡ cond (eqb rank 0) 0 held ⌝ }
+{
+    if rank == 0 {
+        return 0;
+    }
+    held
+}
+
 // One event over the lent parts of a record, so that none of it is copied: a turn into an array of
-// its own, and whether the monitor may then rest.
+// its own, whether the monitor may then rest, and where each symbol came from.
 pub fn receive_in<'a>(
     states: u8,
     symbols: u8,
@@ -124,6 +139,9 @@ pub fn receive_in<'a>(
     if turned.row != 0 {
         return refused(turned.row, c);
     }
+    let places = c.places;
+    let own = own_index(ranking.ranks[event as usize], as_usize(c.held));
+    let from = emitted_places(places, own, c.received, turned.written);
     let after = turned.configuration;
     let buffer = after.buffer;
     Received {
@@ -139,6 +157,7 @@ pub fn receive_in<'a>(
             buffer,
             as_usize(after.held),
         ),
+        places: from,
     }
 }
 

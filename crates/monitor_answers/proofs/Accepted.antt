@@ -5,17 +5,19 @@ use mathlib.Core.Bool.{Bool}
 use mathlib.Core.List.{List, _++_}
 use native.Mathlib.Omega.{arith}
 use lib.Dec.{eqb}
+use lib.ListN.{length}
 use borrow.Author.Tests.{eqb-true}
 use Rattle.base.specs.Rows.{first}
+use Rattle.base.specs.Pad.{pad}
 use Rattle.base.proofs.Bools.{by}
 use Rattle.base.proofs.Refusals.{first-clear}
 use Rattle.base.proofs.Padding.{pad-used, zeros-used}
 use Rattle.automaton.specs.declared.Automaton.{Automaton}
+use Rattle.configuration_places.proofs.Facts.{numbers-places}
 use Rattle.configuration.specs.declared.Configuration.{Configuration}
 use Rattle.configuration.specs.Configuration.{heldEvents, positionOf}
-use Rattle.configuration.proofs.Facts.{held-buffer}
-use Rattle.monitor_rule.specs.Step.{byTable, eventRows, eventRefusal}
-use Rattle.monitor_rule.proofs.Effects.{OccursAt, effect-length}
+use Rattle.monitor_rule.specs.Step.{byTable, effectFrom, sources, eventRows, eventRefusal}
+use Rattle.monitor_rule.proofs.Effects.{OccursAt, consistent-occurs, effect-length, places-as-worded}
 use Rattle.monitor_answers.specs.Answers.{callRows, callRefusal, receiveRefusal, received, runRefusal}
 use Rattle.monitor_answers.specs.Claims.{EmittedPadded}
 use Rattle.monitor_answers.proofs.Refusals.{Clear, clear, place, rows-pass}
@@ -27,7 +29,7 @@ module _ (a : Automaton) (t : List ℕ) (c : Configuration) where
   rows-clear rows h = clear a t c (first-clear (callRows a t c) rows h)
 
   pub clear-occurs : Clear a t c → OccursAt a (positionOf c)
-  clear-occurs k = record { state-below = place a t c k .state-below; buffer = held-buffer a c (place a t c k) }
+  clear-occurs k = consistent-occurs a c (place a t c k)
 
   -- an accepted event
   pub receive-clear : (e : ℕ) → receiveRefusal a t c e ≡ 0 → Clear a t c
@@ -55,10 +57,21 @@ module _ (a : Automaton) (t : List ℕ) (c : Configuration) where
       rw h (omega (arith, effect-length (byTable a t) a (c .state) (heldEvents c) e, f .held-length, f .held-small)))
       (λ h. rw h (omega arith))
 
+  -- each symbol has its place in the input
+  pub received-sources : (e : ℕ) → Clear a t c
+      → length (sources (byTable a t) a (positionOf c) e) ≡ length (effectFrom (byTable a t) a (positionOf c) e .emitted)
+  received-sources e k = places-as-worded (byTable a t) a (positionOf c) e (place a t c k .placed .each-has) .emitted-have
+
 pub emitted-padded : EmittedPadded
 unfolding received
 emitted-padded a t c e =
-    let few = received-few a t c e in (
+    let few = received-few a t c e in
+    let from = sources (byTable a t) a (positionOf c) e in (
       few,
       by (eqb (receiveRefusal a t c e) 0) (λ h. rw h (pad-used 7 _ (rw h at few))) (λ h. rw h (zeros-used 7)),
+      by (eqb (receiveRefusal a t c e) 0)
+          (λ h.
+          let same = received-sources a t c e (receive-clear a t c e (eqb-true _ 0 h)) in
+          rw (h, numbers-places (pad 7 from)) (rw same at (pad-used 7 from (rw (h, ← same) at few))))
+          (λ h. rw h (zeros-used 7)),
     )

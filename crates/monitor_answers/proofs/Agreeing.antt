@@ -13,7 +13,7 @@ use Rattle.solver_sets.proofs.Total.{total}
 use Rattle.configuration.specs.declared.Configuration.{Configuration}
 use Rattle.configuration.specs.Configuration.{heldEvents, positionOf}
 use Rattle.monitor_rule.specs.Step.{byTable, effectFrom, advance, eventRows, eventRefusal, runOf}
-use Rattle.monitor_rule.proofs.Effects.{Agree, refusal-same, advance-occurs, effect-agrees}
+use Rattle.monitor_rule.proofs.Effects.{Agree, refusal-same, advance-occurs, effect-agrees, sources-agree}
 use Rattle.monitor_rule.proofs.Runs.{run-same}
 use Rattle.monitor_answers.specs.Answers.{tableRows, callRows, isWinning, callRefusal, status, receiveRefusal, received, runRefusal, ran, ranBuffer}
 use Rattle.monitor_answers.proofs.Refusals.{clear, rows-pass, rows-stand}
@@ -29,7 +29,7 @@ module _ (a : Automaton) (t u : List ℕ) (s : short a t ≡ short a u) (agree :
   status-same =
       let n = callRefusal a u c in
       by (eqb n 0)
-      (λ z. rw (rows-same, z, agree (heldEvents c) (c .state) (clear-occurs a u c (clear a u c (eqb-true n 0 z)))))
+      (λ z. rw (rows-same, z, agree (heldEvents c) (c .state) (clear-occurs a u c (clear a u c (eqb-true n 0 z)) .occurs)))
       (λ z. rw (rows-same, z))
 
   -- the rows of one event
@@ -60,11 +60,13 @@ module _ (a : Automaton) (t u : List ℕ) (s : short a t ≡ short a u) (agree :
       let l = total a (k .record-valid) in
       let o = clear-occurs a u c k in
       let next = advance (byTable a u) a (positionOf c) e in
+      let same = effect-agrees (byTable a t) a (positionOf c) e (byTable a u) agree l o (receive-event a t c e (receive-same e ∙ h)) in
       rw (
         receive-same e,
         z,
-        effect-agrees (byTable a t) a (positionOf c) e (byTable a u) agree l o (receive-event a t c e (receive-same e ∙ h)),
-        agree (next .buffer) (next .state) (advance-occurs (byTable a u) a (positionOf c) e l o (receive-event a u c e h)),
+        sources-agree (byTable a t) a (positionOf c) e (byTable a u) same,
+        same,
+        agree (next .buffer) (next .state) (advance-occurs (byTable a u) a (positionOf c) e l o (receive-event a u c e h) .occurs),
       ))
       (λ z. rw (receive-same e, z))
 

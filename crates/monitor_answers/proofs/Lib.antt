@@ -3,3 +3,5 @@ pub mod Accepted
 pub mod Agreeing
 pub mod Worded
 pub mod Turns
+pub mod Eventwise
+pub mod Bounded

@@ -18,11 +18,11 @@ use Rattle.solver_sets.specs.Table.{short}
 use Rattle.solver_sets.proofs.Total.{total}
 use Rattle.configuration.specs.declared.Configuration.{Configuration}
 use Rattle.configuration.specs.Configuration.{heldEvents, positionOf, configuration, consistent}
-use Rattle.configuration.proofs.Facts.{Consistent, consistent-facts, consistent-of, configuration-consistent, held-buffer}
-use Rattle.monitor_rule.specs.Step.{byTable, Effect, effectFrom, advance, eventRows, eventRefusal}
-use Rattle.monitor_rule.proofs.Effects.{OccursAt, advance-occurs, effect-length}
+use Rattle.configuration.proofs.Facts.{Consistent, consistent-facts, consistent-of, configuration-consistent}
+use Rattle.monitor_rule.specs.Step.{byTable, Effect, effectFrom, sources, advance, eventRows, eventRefusal}
+use Rattle.monitor_rule.proofs.Effects.{OccursAt, consistent-occurs, advance-occurs, effect-length}
 use Rattle.monitor_answers.specs.Answers.{tableRows, tableRefusal, configurationRows, callRows, callRefusal, receiveRefusal}
-use Rattle.monitor_answers.specs.Turns.{turnRows, turnRefusal, turnEmitted, turnNext, turned}
+use Rattle.monitor_answers.specs.Turns.{turnRows, turnRefusal, turnEmitted, turnSources, turnNext, turned}
 
 module _ (a : Automaton) (t : List ℕ) where
   -- the two rows, one after the other
@@ -70,7 +70,7 @@ module _ (a : Automaton) (t : List ℕ) (c : Configuration) where
     unfolding receiveRefusal turnRefusal turnRows callRows tableRows first
     receive-turns o = rw (o .record-valid, o .table-long)
 
-    -- rows 13 to 15
+    -- rows 13 to 15 and 23
     pub turn-inconsistent : consistent a c ≡ false → turnRefusal a t c e ≡ 13
     unfolding turnRefusal turnRows configurationRows first
     turn-inconsistent k = rw k
@@ -96,6 +96,10 @@ module _ (a : Automaton) (t : List ℕ) (c : Configuration) where
       unfolding turnEmitted
       turn-silent = rw (h, ne-eqb n 0 z)
 
+      pub turn-untraced : turnSources a t c e ≡ []
+      unfolding turnSources
+      turn-untraced = rw (h, ne-eqb n 0 z)
+
     -- an accepted one
     module _ (z : turnRefusal a t c e ≡ 0) where
       abbrev f : Effect
@@ -104,6 +108,10 @@ module _ (a : Automaton) (t : List ℕ) (c : Configuration) where
       pub turn-emits : turnEmitted a t c e ≡ f .emitted
       unfolding turnEmitted
       turn-emits = rw z
+
+      pub turn-traces : turnSources a t c e ≡ sources (byTable a t) a (positionOf c) e
+      unfolding turnSources
+      turn-traces = rw z
 
       pub turn-moves : turnNext a t c e ≡ configuration (advance (byTable a t) a (positionOf c) e)
       unfolding turnNext
@@ -128,8 +136,7 @@ module _ (a : Automaton) (t : List ℕ) (c : Configuration) where
 
       next-occurs : turnRefusal a t c e ≡ 0 → OccursAt a (advance (byTable a t) a (positionOf c) e)
       next-occurs z =
-          advance-occurs (byTable a t) a (positionOf c) e (total a (o .record-valid))
-          (record { state-below = place .state-below; buffer = held-buffer a c place }) (row z)
+          advance-occurs (byTable a t) a (positionOf c) e (total a (o .record-valid)) (consistent-occurs a c place) (row z)
 
       pub turn-keeps : consistent a (turnNext a t c e) ≡ true
       turn-keeps =
@@ -139,7 +146,8 @@ module _ (a : Automaton) (t : List ℕ) (c : Configuration) where
           let h = eqb-true n 0 z in
           let p = advance (byTable a t) a (positionOf c) e in
           let b = next-occurs h in
-          rw (turn-moves h) (consistent-of a (configuration p) (configuration-consistent a v p (b .state-below) (b .buffer))))
+          rw (turn-moves h)
+          (consistent-of a (configuration p) (configuration-consistent a v p (b .occurs .state-below) (b .occurs .buffer) (b .placed))))
           (λ z. rw (turn-unmoved n refl (eqb-false n 0 z)) k)
 
       pub turn-room : length (turnEmitted a t c e) + turnNext a t c e .held ≤ 1 + c .held

@@ -13,6 +13,7 @@ use Rattle.base.proofs.Refusals.{first-never, first-own, first-later, contrary}
 use Rattle.automaton.specs.declared.Automaton.{Automaton}
 use Rattle.automaton.specs.Automaton.{valid}
 use Rattle.solver_sets.specs.Table.{short}
+use Rattle.configuration_places.specs.Places.{inputNumber}
 use Rattle.configuration.specs.declared.Configuration.{Configuration}
 use Rattle.configuration.specs.Configuration.{positionOf, consistent}
 use Rattle.monitor_rule.specs.Step.{byTable, eventRows, eventRefusal}
@@ -102,12 +103,13 @@ status-rows-as-worded a t c =
 
 -- one event
 module _ (a : Automaton) (t : List ℕ) (c : Configuration) (e : ℕ) where
-  event-rows : Clear a t c → RowsOfEvent a (c .held) e (eventRefusal (byTable a t) a (positionOf c) e)
+  event-rows : Clear a t c → RowsOfEvent a (c .held) (inputNumber (c .received)) e (eventRefusal (byTable a t) a (positionOf c) e)
   event-rows k = rw (place a t c k .held-length) at (event-rows-as-worded (byTable a t) a (positionOf c) e)
 
   event-late : Early (eventRefusal (byTable a t) a (positionOf c) e) → ⊥
   event-late l =
-      either (event-number (byTable a t) a (positionOf c) e) (λ n. omega arith) (λ k. either k (λ n. omega arith) (λ n. omega arith))
+      either (event-number (byTable a t) a (positionOf c) e) (λ n. omega arith)
+      (λ k. either k (λ n. omega arith) (λ j. either j (λ n. omega arith) (λ n. omega arith)))
 
 pub receive-rows-as-worded : ReceiveRowsAsWorded
 unfolding receiveRefusal eventRefusal
@@ -117,6 +119,7 @@ receive-rows-as-worded a t c e =
       first-rows = call-rows a t c rows (event-late a t c e);
       row-14 = beyond a t c rows 14 (λ l. omega arith) (λ k. event-rows a t c e k .row-14);
       row-15 = beyond a t c rows 15 (λ l. omega arith) (λ k. event-rows a t c e k .row-15);
+      row-23 = beyond a t c rows 23 (λ l. omega arith) (λ k. event-rows a t c e k .row-23);
       accepted = beyond a t c rows 0 (λ l. omega arith) (λ k. event-rows a t c e k .accepted);
     }
 

@@ -2,7 +2,7 @@
 -- in its lent output (document 01, "One event" and "Numbers of refusal").
 use Prim.Native.Nat.{ℕ, _+_}
 use mathlib.Core.Bool.{Bool, false, cond, not}
-use mathlib.Core.List.{List, [], _∷_, _++_}
+use mathlib.Core.List.{List, [], _∷_, _++_, map}
 use lib.ListN.{length, drop, replicate}
 use lib.Dec.{eqb, ltb}
 use Rattle.base.specs.Rows.{first}
@@ -10,9 +10,10 @@ use Rattle.base.specs.Pad.{pad}
 use Rattle.automaton.specs.declared.Automaton.{Automaton}
 use Rattle.automaton.specs.Automaton.{valid}
 use Rattle.solver_sets.specs.Table.{short}
+use Rattle.configuration_places.specs.Places.{inputPlace}
 use Rattle.configuration.specs.declared.Configuration.{Configuration}
 use Rattle.configuration.specs.Configuration.{positionOf, configuration, heldEvents, consistent}
-use Rattle.monitor_rule.specs.Step.{byTable, effectFrom, advance, eventRows, runOf}
+use Rattle.monitor_rule.specs.Step.{byTable, effectFrom, sources, advance, eventRows, runOf}
 pub use Rattle.monitor_answers.specs.declared.Status.{Status}
 pub use Rattle.monitor_answers.specs.declared.Received.{Received}
 pub use Rattle.monitor_answers.specs.declared.Ran.{Ran}
@@ -50,7 +51,15 @@ receiveRefusal a t c e = first (callRows a t c ++ eventRows (byTable a t) a (pos
 
 -- a refused event
 abbrev pub refusedEvent : ℕ → Configuration → Received
-refusedEvent row c = record { refusal = row; configuration = c; emitted = replicate 7 0; count = 0; winning = false }
+refusedEvent row c =
+    record {
+      refusal = row;
+      configuration = c;
+      emitted = replicate 7 0;
+      count = 0;
+      winning = false;
+      places = replicate 7 (inputPlace 0);
+    }
 
 unfoldable pub received : Automaton → List ℕ → Configuration → ℕ → Received
 received a t c e =
@@ -63,6 +72,7 @@ received a t c e =
       emitted = pad 7 emitted;
       count = length emitted;
       winning = byTable a t (next .buffer) (next .state);
+      places = map inputPlace (pad 7 (sources (byTable a t) a (positionOf c) e));
     })
     (refusedEvent (receiveRefusal a t c e) c)
 

@@ -1,19 +1,22 @@
 -- The numbers of refusal of the monitor's calls, as document 01 words their rows: each is given
--- exactly when its row holds and none before it does.
+-- exactly when its row holds and none before it does. And a day is its events.
 use Prim.Native.Nat.{ℕ, _+_, _<_, _≤_}
 use mathlib.Core.Path.{_≡_}
 use mathlib.Core.Logic.{_↔_}
-use mathlib.Core.Bool.{true, false}
-use mathlib.Core.List.{List}
-use lib.ListN.{length}
+use mathlib.Core.Bool.{true, false, cond}
+use mathlib.Core.List.{List, [], _∷_, _++_, map}
+use lib.ListN.{length, take, drop}
+use lib.Dec.{eqb}
 use Rattle.base.specs.Pad.{UsedTo}
 use Rattle.automaton.specs.declared.Automaton.{Automaton}
 use Rattle.automaton.specs.Automaton.{valid}
 use Rattle.solver_sets.specs.Table.{short}
+use Rattle.configuration_places.specs.Places.{inputNumber}
 use Rattle.configuration.specs.declared.Configuration.{Configuration}
 use Rattle.configuration.specs.Configuration.{consistent}
-use Rattle.monitor_rule.specs.Claims.{Unknown, Full, Admitted}
-use Rattle.monitor_answers.specs.Answers.{callRefusal, receiveRefusal, received, tooShort, runRefusal}
+use Rattle.monitor_rule.specs.Claims.{Unknown, Full, CountEnded, Admitted}
+use Rattle.monitor_answers.specs.declared.Received.{Received}
+use Rattle.monitor_answers.specs.Answers.{callRefusal, receiveRefusal, received, tooShort, runRefusal, ran, ranBuffer}
 
 -- rows 11 to 13, the same for each call; n is the number that it gives
 pub record CallRows (a : Automaton) (t : List ℕ) (c : Configuration) (n : ℕ) : Type 0 where
@@ -40,17 +43,18 @@ pub record ReceiveRows (a : Automaton) (t : List ℕ) (c : Configuration) (e : �
   pub first-rows : CallRows a t c (receiveRefusal a t c e)
   pub row-14 : (receiveRefusal a t c e ≡ 14) ↔ (Clear a t c × Unknown a e)
   pub row-15 : (receiveRefusal a t c e ≡ 15) ↔ (Clear a t c × Full a (c .held) e)
-  pub accepted : (receiveRefusal a t c e ≡ 0) ↔ (Clear a t c × Admitted a (c .held) e)
+  pub row-23 : (receiveRefusal a t c e ≡ 23) ↔ (Clear a t c × CountEnded a (c .held) (inputNumber (c .received)) e)
+  pub accepted : (receiveRefusal a t c e ≡ 0) ↔ (Clear a t c × Admitted a (c .held) (inputNumber (c .received)) e)
 
 abbrev pub ReceiveRowsAsWorded : Type 0
 ReceiveRowsAsWorded = (a : Automaton) (t : List ℕ) (c : Configuration) (e : ℕ) → ReceiveRows a t c e
 
--- an event's answer, refused or not, has seven places for what is emitted; those past the count
--- hold 0
+-- an event's answer, refused or not, has seven places for what is emitted, and as many for its
+-- places in the input; those past the count hold 0
 abbrev pub EmittedPadded : Type 0
 EmittedPadded =
     (a : Automaton) (t : List ℕ) (c : Configuration) (e : ℕ) → let r = received a t c e in
-    (r .count ≤ 7) × UsedTo 7 (r .count) (r .emitted)
+    (r .count ≤ 7) × UsedTo 7 (r .count) (r .emitted) × UsedTo 7 (r .count) (map inputNumber (r .places))
 
 -- row 16, the published function's too: an output of this size is shorter than events plus held
 pub record RoomAsked (size : ℕ) (events : List ℕ) (held : ℕ) : Type 0 where
@@ -73,3 +77,36 @@ pub record RunRows (a : Automaton) (t : List ℕ) (c : Configuration) (events ou
 
 abbrev pub RunRowsAsWorded : Type 0
 RunRowsAsWorded = (a : Automaton) (t : List ℕ) (c : Configuration) (events out : List ℕ) → RunRows a t c events out
+
+-- a day's events brought one by one, by calls of their own, each on what the last one handed back:
+-- their answers, and the configuration afterwards
+unfoldable pub answersTo : Automaton → List ℕ → Configuration → List ℕ → List Received
+answersTo a t c [] = []
+answersTo a t c (e ∷ es) = received a t c e ∷ answersTo a t (received a t c e .configuration) es
+
+unfoldable pub lastAfter : Automaton → List ℕ → Configuration → List ℕ → Configuration
+lastAfter a t c [] = c
+lastAfter a t c (e ∷ es) = lastAfter a t (received a t c e .configuration) es
+
+-- what they emitted, end to end, and how many of them were refused
+unfoldable pub emittedIn : List Received → List ℕ
+emittedIn [] = []
+emittedIn (r ∷ rs) = take (r .count) (r .emitted) ++ emittedIn rs
+
+unfoldable pub refusedIn : List Received → ℕ
+refusedIn [] = 0
+refusedIn (r ∷ rs) = cond (eqb (r .refusal) 0) 0 1 + refusedIn rs
+
+-- A day that is not refused as a whole is its events, from any configuration and over any table:
+-- the configuration afterwards with places and counts, the bytes and the count are theirs. (So
+-- inside a day an event is refused by rows 14, 15 and 23 as it is by itself.)
+pub record RunAsEvents (a : Automaton) (t : List ℕ) (c : Configuration) (events out : List ℕ) : Type 0 where
+  pub answer : let rs = answersTo a t c events in
+      ran a t c events out
+      ≡ record { refusal = 0; configuration = lastAfter a t c events; length = length (emittedIn rs); refused = refusedIn rs }
+  pub output : let bytes = emittedIn (answersTo a t c events) in ranBuffer a t c events out ≡ bytes ++ drop (length bytes) out
+
+abbrev pub RunsAsEvents : Type 0
+RunsAsEvents =
+    (a : Automaton) (t : List ℕ) (c : Configuration) (events out : List ℕ) → runRefusal a t c events out ≡ 0
+    → RunAsEvents a t c events out

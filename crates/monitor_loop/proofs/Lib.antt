@@ -1,3 +1,5 @@
 pub mod Taking
+pub mod Placing
+pub mod Accepting
 pub mod Running
 pub mod Turning

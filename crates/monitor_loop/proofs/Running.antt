@@ -1,6 +1,6 @@
 -- The loop over events.
 use Prim.Native.Nat.{ℕ, _+_, _<_, _≤_}
-use mathlib.Core.Path.{_≡_, refl, sym, _∙_, ap, ap₂}
+use mathlib.Core.Path.{_≡_, refl, sym, _∙_, ap, ap₂, subst}
 use mathlib.Core.Bool.{true}
 use mathlib.Core.List.{List, [], _∷_, _++_, append-assoc, append-nil}
 use native.Mathlib.Nat.{zero-add, add-zero}
@@ -8,19 +8,27 @@ use native.Mathlib.Numerals.{add-one}
 use native.Mathlib.Omega.{arith}
 use lib.ListN.{length, getD, drop, length-append}
 use lib.Seq.{sets, sets-eq, length-sets, drop-cons, drop-length}
+use lib.Dec.{eqb, ltb}
+use borrow.Author.Tests.{eqb-true, eqb-false, ltb-true, ltb-false}
+use Rattle.base.proofs.Bools.{by}
 use Rattle.base.proofs.Stores.{sets-join}
 use Rattle.automaton.specs.declared.Automaton.{Automaton}
+use Rattle.configuration_places.specs.declared.InputPlace.{InputPlace}
+use Rattle.configuration_places.specs.Places.{inputPlace, inputNumber}
 use Rattle.configuration.specs.declared.Configuration.{Configuration}
 use Rattle.configuration.specs.Configuration.{Position, positionOf, configuration, consistent}
 use Rattle.configuration.proofs.Facts.{position-made}
 use Rattle.monitor_rule.specs.Step.{byTable, Effect, effectFrom, advance, eventRefusal, Run, runOf}
+use Rattle.monitor_rule.proofs.Effects.{places-as-worded}
 use Rattle.monitor_rule.proofs.Runs.{run-accepts, run-refuses}
-use Rattle.monitor_answers.specs.declared.Turned.{Turned}
+use Rattle.monitor_answers.specs.declared.Ran.{Ran}
 use Rattle.monitor_answers.specs.Answers.{ranOf, ranBufferOf}
-use Rattle.monitor_answers.specs.Turns.{turnRefusal, turnEmitted, turnNext, turned, turnedBuffer}
+use Rattle.monitor_answers.specs.Turns.{turnRefusal, turnEmitted, turnNext, turnedBuffer}
 use Rattle.monitor_answers.proofs.Turns.{turn-consistent, turn-silent, turn-emits, turn-moves, turn-keeps, turn-room}
-use Rattle.monitor_loop.specs.Lending.{Limits, Lends, ProcessRequires, Takes, Runs}
+use Rattle.monitor_loop.specs.Lending.{Limits, Lends, Processed, ProcessRequires, derived, processed, Takes, Runs}
 use Rattle.monitor_loop.proofs.Taking.{opens, place}
+use Rattle.monitor_loop.proofs.Placing.{derived-is}
+use Rattle.monitor_loop.proofs.Accepting.{Found, accepted-counts, accepted-few, accepted-gone, accepted-found}
 
 -- a run after what was done before it
 abbrev pub joined : List ℕ → ℕ → Run → Run
@@ -80,13 +88,13 @@ module _ {a : Automaton} {l : Limits} {next ranks t events out₀ : List ℕ} {c
       row : eventRefusal (byTable a t) a p e ≡ 0
       row = sym (turn-consistent a t c e (g .stands)) ∙ z
 
-      running-accepted : (r : Turned) → r ≡ turned a t c e written → (out′ : List ℕ) → out′ ≡ turnedBuffer a t c e written out
-          → Running a t events out₀ c₀ out′ (r .configuration) (r .written) refused (i + 1)
-      unfolding turned turnedBuffer
-      running-accepted r er out′ eo =
-          let moved : r .configuration ≡ turnNext a t c e = ap (λ (y : Turned). y .configuration) er in
-          let grown : r .written ≡ written + length (turnEmitted a t c e) = ap (λ (y : Turned). y .written) er in
-          let there : positionOf (r .configuration) ≡ after = ap positionOf (moved ∙ turn-moves a t c e z) ∙ position-made after in
+      running-accepted : (c′ : Configuration) → c′ ≡ turnNext a t c e → (written′ : ℕ) → written′ ≡ written + length (turnEmitted a t c e)
+          → (out′ : List ℕ) → out′ ≡ turnedBuffer a t c e written out
+          → Running a t events out₀ c₀ out′ c′ written′ refused (i + 1)
+      unfolding turnedBuffer
+      running-accepted c′ moved written′ grown out′ eo =
+          let each = places-as-worded (byTable a t) a p e (place o c (g .stands) .placed .each-has) .held-have in
+          let there : positionOf c′ ≡ after = ap positionOf (moved ∙ turn-moves a t c e z) ∙ position-made after each in
           let at : written ≡ 0 + length (g .done) = omega (arith, g .written-is) in
           record {
             stands = rw moved (turn-keeps a t c e (opens o) (g .stands));
@@ -169,10 +177,14 @@ module _ {l : Limits} {next ranks t events out₀ : List ℕ} {c₀ : Configurat
     pub going-room : written + c .held < length out
     going-room = omega (arith, going-kept, own .fits, g .enough)
 
-    module _ (r : Turned) (out′ : List ℕ) (s : Takes l next ranks t c (getD events i 0) written out r out′) where
+    module _ (r : Processed) (out′ : List ℕ) (here : Configuration) (same : here ≡ c)
+        (taken : Takes l next ranks t here (getD events i 0) written out r out′) where
+      s : Takes l next ranks t c (getD events i 0) written out r out′
+      s = subst (λ d. Takes l next ranks t d (getD events i 0) written out r out′) same taken
+
       row-of : (a : Automaton) → Lends a l next ranks t → consistent a c ≡ true → turnRefusal a t c (getD events i 0) ≡ r .row
-      unfolding turned
-      row-of a o k = sym (ap (λ (y : Turned). y .row) (s a o k .0))
+      unfolding processed
+      row-of a o k = sym (ap (λ (y : Processed). y .row) (s a o k .0))
 
       pub going-refuses : (r .row ≡ 0 → ⊥) → Going l next ranks t events out₀ c₀ out′ c written (refused + 1) (i + 1)
       going-refuses z =
@@ -187,18 +199,66 @@ module _ {l : Limits} {next ranks t events out₀ : List ℕ} {c₀ : Configurat
                 running-refused o f h (λ y. z (sym (row-of a o (f .stands)) ∙ y)) out′ (s a o (f .stands) .1);
           }
 
-      pub going-accepts : r .row ≡ 0 → Going l next ranks t events out₀ c₀ out′ (r .configuration) (r .written) refused (i + 1)
-      going-accepts z =
-          record {
-            enters = g .enters;
-            within = omega arith;
-            enough = g .enough;
-            indexed = g .indexed;
-            passed-over = omega (arith, g .passed-over);
-            follows = λ a o k.
-                let f = g .follows a o k in
-                running-accepted o f h (row-of a o (f .stands) ∙ z) r (s a o (f .stands) .0) out′ (s a o (f .stands) .1);
-          }
+      -- an accepted one, with the places as they are found
+      module _ (z : r .row ≡ 0) where
+        abbrev event : ℕ
+        event = getD events i 0
+
+        -- the input count goes on
+        pub going-counts : inputNumber (c .received) ≡ 4294967295 → ⊥
+        going-counts = accepted-counts going-enters event written out r out′ s z
+
+        pub going-few : r .held ≤ 6
+        going-few = accepted-few going-enters event written out r out′ s z
+
+        pub going-gone : r .released ≤ 7
+        going-gone = accepted-gone going-enters event written out r out′ s z
+
+        pub going-accepts : (ps : List InputPlace) → Found c r ps
+            → Going l next ranks t events out₀ c₀ out′
+            (derived (r .state) (r .held) (r .buffer) ps (inputPlace (inputNumber (c .received) + 1))) (r .written) refused (i + 1)
+        going-accepts ps w =
+            let found = accepted-found going-enters event written out r out′ s z ps w in
+            record {
+              enters = g .enters;
+              within = omega arith;
+              enough = g .enough;
+              indexed = g .indexed;
+              passed-over = omega (arith, g .passed-over);
+              follows = λ a o k.
+                  let f = g .follows a o k in
+                  let next = found a o (f .stands) in
+                  running-accepted o f h (row-of a o (f .stands) ∙ z) _ (next .0) (r .written) (next .1) out′ (s a o (f .stands) .1);
+            }
+
+  pub going-held : c .held ≤ 6
+  going-held = place (g .enters .lends) c (own .stands) .held-small
+
+  -- what is held came in
+  pub going-derives : c .held ≤ inputNumber (c .received)
+  going-derives =
+      let k = place (g .enters .lends) c (own .stands) in
+      omega (arith, k .placed .sum, k .held-length)
 
   pub going-ends : length events ≤ i → Runs l next ranks t c₀ events out₀ (record { refusal = 0; configuration = c; length = written; refused = refused }) out
   going-ends h a o k = running-answer o (g .follows a o k) (omega (arith, g .within)) (g .enough)
+
+-- The loop keeps a configuration without its output count.
+module _ {l : Limits} {next ranks t : List ℕ} {c : Configuration} (g : ProcessRequires l next ranks t c) where
+  abbrev kept : Configuration
+  kept = derived (c .state) (c .held) (c .buffer) (c .places) (c .received)
+
+  kept-is : kept ≡ c
+  kept-is = derived-is (g .automaton) c (place (g .lends) c (g .stands))
+
+  pub going-begins : (events out : List ℕ) → length events + c .held ≤ length out → length out < 18446744073709551616
+      → Going l next ranks t events out kept out kept 0 0 0
+  going-begins events out room fits = rw kept-is (going-starts events out g room fits)
+
+  pub going-finishes : (events out : List ℕ) (r : Ran) (out′ : List ℕ) → Runs l next ranks t kept events out r out′
+      → Runs l next ranks t c events out r out′
+  going-finishes events out r out′ h = subst (λ d. Runs l next ranks t d events out r out′) kept-is h
+
+-- a count that is not at its end goes on
+pub counts-fit : (n : ℕ) → n < 4294967296 → (n ≡ 4294967295 → ⊥) → n + 1 < 4294967296
+counts-fit n l z = by (eqb n 4294967295) (λ h. absurd (z (eqb-true n 4294967295 h))) (λ h. let y = eqb-false n 4294967295 h in by (ltb n 4294967295) (λ b. omega (arith, ltb-true n 4294967295 b)) (λ b. absurd (y (omega (arith, ltb-false n 4294967295 b)))))

@@ -4,26 +4,30 @@ use Prim.Native.Nat.{ℕ, _+_, _<_, _≤_}
 use mathlib.Core.Path.{_≡_, refl, sym, _∙_, ap}
 use mathlib.Core.Bool.{true}
 use mathlib.Core.List.{List}
+use native.Mathlib.Nat.{add-zero}
 use native.Mathlib.Omega.{arith}
 use lib.ListN.{take}
 use lib.Seq.{sets}
+use borrow.Author.Tests.{ne-eqb}
 use Rattle.automaton.specs.declared.Automaton.{Automaton}
 use Rattle.automaton.proofs.Facts.{Valid, valid-facts}
 use Rattle.solver_sets.proofs.Total.{total}
+use Rattle.configuration_places.specs.Places.{inputNumber}
 use Rattle.configuration.specs.declared.Configuration.{Configuration}
 use Rattle.configuration.specs.Configuration.{heldEvents, positionOf, consistent}
-use Rattle.configuration.proofs.Facts.{Consistent, consistent-facts, held-buffer}
+use Rattle.configuration.proofs.Facts.{Consistent, consistent-facts}
 use Rattle.monitor_rule.specs.Step.{byTable, effect, effectFrom, advance, eventRefusal}
 use Rattle.automaton_symbols.specs.declared.Ranking.{Ranking}
 use Rattle.monitor_rule.specs.Fronts.{restIn, over}
 use Rattle.automaton_symbols.specs.Symbols.{rankingOf}
-use Rattle.monitor_rule.proofs.Effects.{OccursAt, Accepts, accepted-facts, advance-occurs}
+use Rattle.monitor_rule.proofs.Effects.{OccursAt, consistent-occurs, Accepts, accepted-facts, advance-occurs}
+use Rattle.monitor_rule.proofs.Worded.{event-rows-as-worded}
 use Rattle.monitor_step.specs.declared.Stepped.{Stepped}
 use Rattle.monitor_step.specs.Stepping.{eventRowBy, stepped, StepRequires}
 use Rattle.monitor_step.proofs.Tabled.{row-same, stepped-tabled, emitted-tabled, ready}
 use Rattle.monitor_answers.specs.Turns.{turnRefusal, turnedBuffer}
-use Rattle.monitor_answers.proofs.Turns.{Opened, turn-consistent, turn-refused, turn-silent, turn-accepted, turn-emits}
-use Rattle.monitor_loop.specs.Lending.{Limits, Lends, ProcessRequires, Takes}
+use Rattle.monitor_answers.proofs.Turns.{Opened, turn-consistent, turn-unmoved, turn-silent, turn-moves, turn-emits}
+use Rattle.monitor_loop.specs.Lending.{Limits, Lends, ProcessRequires, processed, Takes}
 
 -- what the code lends is an automaton's own
 pub lends : (a : Automaton) (t : List ℕ) → Opened a t → (r : Ranking) → r ≡ rankingOf (a .classes) (a .symbols)
@@ -57,11 +61,11 @@ module _ {a : Automaton} {l : Limits} {next ranks t : List ℕ} (o : Lends a l n
     place = consistent-facts a c facts k
 
     pub occurs : OccursAt a (positionOf c)
-    occurs = record { state-below = place .state-below; buffer = held-buffer a c place }
+    occurs = consistent-occurs a c place
 
--- rows 14 and 15
+-- rows 14, 15 and 23
 module _ (l : Limits) (next ranks t : List ℕ) (c : Configuration) (e capacity held n : ℕ) (ec : capacity ≡ l .capacity) (eh : held ≡ c .held)
-    (en : n ≡ eventRowBy ranks (l .symbols) capacity held e) where
+    (en : n ≡ eventRowBy ranks (l .symbols) capacity held (inputNumber (c .received)) e) where
   module _ (a : Automaton) (o : Lends a l next ranks t) (k : consistent a c ≡ true) where
     row-is : n ≡ eventRefusal (byTable a t) a (positionOf c) e
     row-is =
@@ -71,11 +75,13 @@ module _ (l : Limits) (next ranks t : List ℕ) (c : Configuration) (e capacity 
     turn-row = turn-consistent a t c e k ∙ sym row-is
 
   pub takes-refused : (n ≡ 0 → ⊥) → (at : ℕ) (out : List ℕ)
-      → Takes l next ranks t c e at out (record { row = n; configuration = c; written = at }) out
-  unfolding turnedBuffer
+      → Takes l next ranks t c e at out
+      (record { row = n; state = c .state; held = c .held; buffer = c .buffer; released = 0; written = at }) out
+  unfolding turnedBuffer processed
   takes-refused z at out a o k =
       let h = turn-row a o k in
-      (turn-refused a t c e n h z at, ap (sets out at) (sym (turn-silent a t c e n h z)))
+      let silent = turn-silent a t c e n h z in
+      (rw (silent, turn-unmoved a t c e n h z, h, ne-eqb n 0 z, add-zero at), ap (sets out at) (sym silent))
 
   -- an accepted event
   module _ (z : n ≡ 0) where
@@ -88,6 +94,10 @@ module _ (l : Limits) (next ranks t : List ℕ) (c : Configuration) (e capacity 
 
       next-occurs : OccursAt a (advance (byTable a t) a (positionOf c) e)
       next-occurs = advance-occurs (byTable a t) a (positionOf c) e (total a (o .record-valid)) (occurs o c k) row
+
+    -- the input count is not at its end
+    pub counts-on : ProcessRequires l next ranks t c → inputNumber (c .received) ≡ 4294967295 → ⊥
+    counts-on g = event-rows-as-worded (byTable (g .automaton) t) (g .automaton) (positionOf c) e .accepted .0 (row (g .automaton) (g .lends) (g .stands)) .1
 
     pub event-low : ProcessRequires l next ranks t c → e < 256
     event-low g =
@@ -102,7 +112,7 @@ module _ (l : Limits) (next ranks t : List ℕ) (c : Configuration) (e capacity 
           let o = g .lends in
           let p = place o c (g .stands) in
           rw (o .limits-are, o .next-are, o .ranks-are, eq, eh)
-          (ready a (facts o) t (o .table-long) (c .state) (c .buffer) (c .held) e size at (occurs o c (g .stands)) (p .held-small)
+          (ready a (facts o) t (o .table-long) (c .state) (c .buffer) (c .held) e size at (occurs o c (g .stands) .occurs) (p .held-small)
           (ap (λ (y : Configuration). y .buffer) (p .whole)) (p .held-length) (accepts a o (g .stands)) room fits)
 
       -- after its step
@@ -111,32 +121,32 @@ module _ (l : Limits) (next ranks t : List ℕ) (c : Configuration) (e capacity 
         unfolding heldEvents
         step-is a o k =
             es ∙ rw (o .limits-are, o .next-are, o .ranks-are, eq, eh)
-            (stepped-tabled a (facts o) t (c .state) (heldEvents c) e (occurs o c k) (accepts a o k) at)
+            (stepped-tabled a (facts o) t (c .state) (heldEvents c) e (occurs o c k .occurs) (accepts a o k) at)
 
         pub state-fits : ProcessRequires l next ranks t c → s .state < 256
         unfolding stepped
         state-fits g =
             let i = step-is (g .automaton) (g .lends) (g .stands) in
             let b = next-occurs (g .automaton) (g .lends) (g .stands) in
-            omega (arith, ap (λ (y : Stepped). y .state) i, b .state-below, facts (g .lends) .states-high)
+            omega (arith, ap (λ (y : Stepped). y .state) i, b .occurs .state-below, facts (g .lends) .states-high)
 
         pub held-fits : ProcessRequires l next ranks t c → s .held < 256
         unfolding stepped
         held-fits g =
             let i = step-is (g .automaton) (g .lends) (g .stands) in
             let b = next-occurs (g .automaton) (g .lends) (g .stands) in
-            omega (arith, ap (λ (y : Stepped). y .held) i, b .buffer .1, facts (g .lends) .capacity-high)
+            omega (arith, ap (λ (y : Stepped). y .held) i, b .occurs .buffer .1, facts (g .lends) .capacity-high)
 
         pub takes-accepted : (out out′ : List ℕ)
             → out′ ≡ sets out at (effect (restIn t ranks (l .controllables)) (over ranks next) q (take held (c .buffer)) e .emitted)
             → Takes l next ranks t c e at out
-            (record { row = 0; configuration = record { state = s .state; held = s .held; buffer = s .buffer }; written = s .written }) out′
-        unfolding turnedBuffer stepped heldEvents
+            (record { row = 0; state = s .state; held = s .held; buffer = s .buffer; released = s .released; written = s .written }) out′
+        unfolding turnedBuffer processed stepped heldEvents
         takes-accepted out out′ eo a o k =
             let h : turnRefusal a t c e ≡ 0 = turn-row a o k ∙ z in
             let same : effect (restIn t ranks (l .controllables)) (over ranks next) q (take held (c .buffer)) e .emitted ≡ effectFrom (byTable a t) a (positionOf c) e .emitted =
-            rw (o .limits-are, o .next-are, o .ranks-are, eq, eh) (emitted-tabled a (facts o) t (c .state) (heldEvents c) e (occurs o c k) (accepts a o k))
+            rw (o .limits-are, o .next-are, o .ranks-are, eq, eh) (emitted-tabled a (facts o) t (c .state) (heldEvents c) e (occurs o c k .occurs) (accepts a o k))
             in (
-              rw (step-is a o k) (sym (turn-accepted a t c e h at)),
+              rw (step-is a o k, turn-moves a t c e h, turn-emits a t c e h, h),
               eo ∙ ap (sets out at) (same ∙ sym (turn-emits a t c e h)),
             )

@@ -1,4 +1,4 @@
--- One event for any configuration, as the code finds it: row 13, rows 14 and 15, and a list of
+-- One event for any configuration, as the code finds it: row 13, rows 14, 15 and 23, and a list of
 -- this one event.
 use Prim.Native.Nat.{ℕ, _+_, _-_, _<_, _≤_}
 use mathlib.Core.Path.{_≡_, sym, _∙_, ap}
@@ -8,6 +8,7 @@ use native.Mathlib.Omega.{arith}
 use lib.ListN.{length, take, drop, length-drop, drop-of-length-le}
 use lib.Seq.{sets, sets-eq, drop-drop, take-all}
 use Rattle.automaton.specs.declared.Automaton.{Automaton}
+use Rattle.configuration_places.specs.Places.{inputNumber}
 use Rattle.configuration.specs.declared.Configuration.{Configuration}
 use Rattle.configuration.specs.Configuration.{positionOf, configuration, consistentIn, consistent}
 use Rattle.monitor_rule.specs.Step.{byTable, effectFrom, advance, Run, runOf}
@@ -57,7 +58,7 @@ module _ (l : Limits) (classes next ranks t : List ℕ) (c : Configuration) (at 
     pub opens-room : {size : ℕ} → TurnRequires l classes next ranks t c at size → at + c .held < size
     opens-room g = g .room (sym (stands-is (g .automaton) (g .lends) (g .classes-are)) ∙ k)
 
-    module _ (e capacity held n : ℕ) (ec : capacity ≡ l .capacity) (eh : held ≡ c .held) (en : n ≡ eventRowBy ranks (l .symbols) capacity held e) where
+    module _ (e capacity held n : ℕ) (ec : capacity ≡ l .capacity) (eh : held ≡ c .held) (en : n ≡ eventRowBy ranks (l .symbols) capacity held (inputNumber (c .received)) e) where
       row-is : (a : Automaton) → Lends a l next ranks t → classes ≡ a .classes → turnRefusal a t c e ≡ n
       row-is a o s = turn-row l next ranks t c e capacity held n ec eh en a o (sym (stands-is a o s) ∙ k)
 

@@ -1,20 +1,27 @@
 -- What the functions of one event and of a list of events are lent, and what they promise: over
 -- the parts of an automaton, for any automaton whose parts these are.
-use Prim.Native.Nat.{ℕ, _+_, _<_}
+use Prim.Native.Nat.{ℕ, _+_, _-_, _<_}
 use mathlib.Core.Path.{_≡_}
-use mathlib.Core.Bool.{true, false}
+use mathlib.Core.Bool.{true, false, cond}
 use mathlib.Core.List.{List}
+use lib.ListN.{length}
+use lib.Dec.{eqb}
 use Rattle.automaton.specs.declared.Automaton.{Automaton}
 use Rattle.automaton.specs.Automaton.{valid}
 use Rattle.solver_sets.specs.Table.{short}
+use Rattle.configuration_places.specs.declared.InputPlace.{InputPlace}
+use Rattle.configuration_places.specs.Places.{inputNumber, outputPlace}
 use Rattle.configuration.specs.declared.Configuration.{Configuration}
-use Rattle.configuration.specs.Configuration.{consistent}
+use Rattle.configuration.specs.Configuration.{heldEvents, consistent}
 use Rattle.automaton_symbols.specs.Symbols.{rankingOf}
 use Rattle.monitor_answers.specs.declared.Ran.{Ran}
 use Rattle.monitor_answers.specs.Answers.{ranOf, ranBufferOf}
 use Rattle.monitor_answers.specs.declared.Turned.{Turned}
-use Rattle.monitor_answers.specs.Turns.{turned, turnedBuffer}
+use Rattle.monitor_rule.specs.Step.{byTable}
+use Rattle.monitor_step.specs.Stepping.{released}
+use Rattle.monitor_answers.specs.Turns.{turnRefusal, turnEmitted, turnNext, turned, turnedBuffer}
 pub use Rattle.monitor_loop.specs.declared.Limits.{Limits}
+pub use Rattle.monitor_loop.specs.declared.Processed.{Processed}
 
 abbrev pub limitsOf : Automaton → Limits
 limitsOf a =
@@ -53,11 +60,36 @@ Turns l classes next ranks t c e at out r out′ =
     (a : Automaton) → Lends a l next ranks t → classes ≡ a .classes
     → (r ≡ turned a t c e at) × (out′ ≡ turnedBuffer a t c e at out)
 
--- for a consistent one
-abbrev pub Takes : Limits → List ℕ → List ℕ → List ℕ → Configuration → ℕ → ℕ → List ℕ → Turned → List ℕ → Type 0
+-- a configuration whose output count is worked out: what came in and is not held
+abbrev pub derived : ℕ → ℕ → List ℕ → List InputPlace → InputPlace → Configuration
+derived state held buffer places received =
+    record {
+      state = state;
+      held = held;
+      buffer = buffer;
+      places = places;
+      received = received;
+      emitted = outputPlace (inputNumber received - held);
+    }
+
+-- what an event leaves beside places and counts: none is released where it is refused
+unfoldable pub processed : Automaton → List ℕ → Configuration → ℕ → ℕ → Processed
+processed a t c e at =
+    let next = turnNext a t c e in
+    record {
+      row = turnRefusal a t c e;
+      state = next .state;
+      held = next .held;
+      buffer = next .buffer;
+      released = cond (eqb (turnRefusal a t c e) 0) (released (byTable a t) a (c .state) (heldEvents c) e) 0;
+      written = at + length (turnEmitted a t c e);
+    }
+
+-- one event for a consistent configuration
+abbrev pub Takes : Limits → List ℕ → List ℕ → List ℕ → Configuration → ℕ → ℕ → List ℕ → Processed → List ℕ → Type 0
 Takes l next ranks t c e at out r out′ =
     (a : Automaton) → Lends a l next ranks t → consistent a c ≡ true
-    → (r ≡ turned a t c e at) × (out′ ≡ turnedBuffer a t c e at out)
+    → (r ≡ processed a t c e at) × (out′ ≡ turnedBuffer a t c e at out)
 
 -- a list of events
 abbrev pub Runs : Limits → List ℕ → List ℕ → List ℕ → Configuration → List ℕ → List ℕ → Ran → List ℕ → Type 0

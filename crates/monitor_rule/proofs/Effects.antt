@@ -1,22 +1,26 @@
 -- Laws of one event, over any rest test.
-use Prim.Native.Nat.{ℕ, suc, _+_, _<_}
+use Prim.Native.Nat.{ℕ, zero, suc, _+_, _<_, _≤_}
 use mathlib.Core.Path.{_≡_, refl, _∙_, ap}
-use mathlib.Core.Bool.{true}
-use mathlib.Core.List.{List, [], _∷_}
+use mathlib.Core.Bool.{true, false}
+use mathlib.Core.List.{List, [], _∷_, _++_}
 use native.Mathlib.Omega.{arith}
-use lib.ListN.{length, take, drop, length-append, length-drop}
+use lib.ListN.{length, take, drop, length-append, length-drop, take-append-drop}
 use lib.Seq.{length-take-le}
-use Rattle.base.proofs.Bools.{by, either}
+use Rattle.base.proofs.Bools.{by, either, refuted}
 use Rattle.automaton.specs.declared.Automaton.{Automaton}
-use Rattle.automaton.specs.Automaton.{controllable, reached, valid}
+use Rattle.automaton.specs.Automaton.{class, controllable, step, reached, valid}
 use Rattle.automaton.proofs.Facts.{valid-facts}
 use Rattle.automaton.proofs.Classes.{class-one}
 use Rattle.automaton.proofs.Reached.{reached-append}
 use Rattle.solver_sets.specs.Table.{Buffer}
 use Rattle.solver_sets.proofs.Total.{Total, reached-below}
 use Rattle.solver_sets.proofs.Buffers.{buffer-drop, buffer-end}
-use Rattle.configuration.specs.Configuration.{Position, emptyAt}
-use Rattle.monitor_rule.specs.Step.{Rest, release, Effect, remaining, arrival, effect, effectFrom, advance, eventRows, eventRefusal}
+use Rattle.configuration.specs.declared.Configuration.{Configuration}
+use Rattle.configuration.specs.Configuration.{Position, positionOf, emptyAt}
+use Rattle.configuration.proofs.Facts.{Consistent, held-buffer}
+use Rattle.configuration.proofs.Rising.{Rising, rising-more, rising-drop, rising-end, Placed, empty-placed}
+use Rattle.monitor_rule.specs.Step.{Rest, release, Effect, remaining, arrival, effect, effectFrom, inLine, sources, advance, eventRows, eventRefusal}
+use Rattle.monitor_rule.specs.Claims.{PlacesAsWorded}
 use Rattle.monitor_rule.proofs.Longest.{release-le, release-same}
 use Rattle.monitor_rule.proofs.Worded.{event-rows-as-worded}
 
@@ -25,12 +29,21 @@ pub record Occurs (a : Automaton) (q : ℕ) (w : List ℕ) : Type 0 where
   pub state-below : q < a .states
   pub buffer : Buffer a w
 
--- .. as a position
-abbrev pub OccursAt : Automaton → Position → Type 0
-OccursAt a p = Occurs a (p .state) (p .buffer)
+-- a position that can occur: its places and counts fit together too
+pub record OccursAt (a : Automaton) (p : Position) : Type 0 where
+  pub occurs : Occurs a (p .state) (p .buffer)
+  pub placed : Placed p
 
 pub initial-occurs : (a : Automaton) → valid a ≡ true → OccursAt a (emptyAt (a .initial))
-initial-occurs a v = record { state-below = valid-facts a v .initial-below; buffer = (tt, omega arith) }
+initial-occurs a v =
+    record {
+      occurs = record { state-below = valid-facts a v .initial-below; buffer = (tt, omega arith) };
+      placed = empty-placed (a .initial);
+    }
+
+pub consistent-occurs : (a : Automaton) (c : Configuration) → Consistent a c → OccursAt a (positionOf c)
+consistent-occurs a c k =
+    record { occurs = record { state-below = k .state-below; buffer = held-buffer a c k }; placed = k .placed }
 
 -- two rest tests that answer alike wherever they may be asked
 abbrev pub Agree : Automaton → Rest → Rest → Type 0
@@ -43,7 +56,7 @@ pub record Accepts (a : Automaton) (w : List ℕ) (e : ℕ) : Type 0 where
 
 pub accepted-facts : (rest : Rest) (a : Automaton) (p : Position) (e : ℕ) → eventRefusal rest a p e ≡ 0 → Accepts a (p .buffer) e
 accepted-facts rest a p e h =
-    let f = event-rows-as-worded rest a p e .accepted .0 h in
+    let f = event-rows-as-worded rest a p e .accepted .0 h .0 in
     record { symbol = f .0; space = λ c. either (f .1) (λ no. absurd (no (class-one a e .0 c))) (λ l. l) }
 
 -- two rest tests that agree refuse alike
@@ -116,11 +129,100 @@ module _ (rest : Rest) (a : Automaton) (q : ℕ) (w : List ℕ) (e : ℕ) where
       let at = released-occurs a t (x .state) (x .buffer) (arrival-occurs a q w e t o h) in
       rw (release-same rest a (x .state) (x .buffer) other λ j _. agree (drop j (x .buffer)) (reached a (x .state) (take j (x .buffer))) (at j))
 
+  -- what is emitted and what is held then are what was held, and the event at its place
+  abbrev f : Effect
+  f = effect rest a q w e
+
+  pub effect-passes : controllable a e ≡ false → f .emitted ++ f .buffer ≡ e ∷ w
+  unfolding effect arrival remaining
+  effect-passes c = rw c (ap (λ l. e ∷ l) (take-append-drop (release rest a (step a q e) w) w))
+
+  pub effect-holds : controllable a e ≡ true → f .emitted ++ f .buffer ≡ w ++ e ∷ []
+  unfolding effect arrival
+  effect-holds c = rw c (take-append-drop (release rest a q (w ++ e ∷ [])) (w ++ e ∷ []))
+
+-- the places in the input of the events at hand
+module _ (a : Automaton) (p : Position) (e : ℕ) where
+  line-rises : Rising (p .received) (p .places) → (m : ℕ) → (controllable a e ≡ false → 0 < m)
+      → Rising (p .received + 1) (drop m (inLine a p e))
+  unfolding inLine remaining
+  line-rises r m some =
+      by (controllable a e)
+      (λ c. rw c (rising-drop m (p .received + 1) (p .places ++ p .received ∷ []) (rising-end (p .received) (p .places) r)))
+      (λ c. rw c (behind m (some c)))
+    where
+      behind : (m : ℕ) → 0 < m → Rising (p .received + 1) (drop m (p .received ∷ p .places))
+      behind zero l = absurd (omega arith)
+      behind (suc m) l = rising-drop m (p .received + 1) (p .places) (rising-more (p .received) (p .places) r)
+
+  line-length : length (p .places) ≡ length (p .buffer) → length (inLine a p e) ≡ suc (length (p .buffer))
+  unfolding inLine remaining
+  line-length h =
+      by (controllable a e)
+      (λ c. rw c (omega (arith, length-append (p .places) (p .received ∷ []))))
+      (λ c. rw c (omega arith))
+
 -- the same at a position
 module _ (rest : Rest) (a : Automaton) (p : Position) (e : ℕ) where
+  abbrev m : ℕ
+  m = length (effectFrom rest a p e .emitted)
+
+  -- an event that passes is emitted
+  some-passes : controllable a e ≡ false → 0 < m
+  unfolding effect arrival
+  some-passes c = rw c (omega arith)
+
+  all-in-line : length (p .places) ≡ length (p .buffer) → m ≤ length (inLine a p e)
+  all-in-line h = omega (arith, line-length a p e h, effect-length rest a (p .state) (p .buffer) e)
+
+  advance-placed : Placed p → Placed (advance rest a p e)
+  advance-placed k =
+      let long = effect-length rest a (p .state) (p .buffer) e in
+      record {
+        each-has = length-drop m (inLine a p e) ∙ omega (arith, line-length a p e (k .each-has), long);
+        rising = line-rises a p e (k .rising) m some-passes;
+        sum = omega (arith, long, k .sum);
+      }
+
   pub advance-occurs : Total a → OccursAt a p → eventRefusal rest a p e ≡ 0 → OccursAt a (advance rest a p e)
-  advance-occurs t o h = effect-occurs rest a (p .state) (p .buffer) e t o (accepted-facts rest a p e h)
+  advance-occurs t o h =
+      record {
+        occurs = effect-occurs rest a (p .state) (p .buffer) e t (o .occurs) (accepted-facts rest a p e h);
+        placed = advance-placed (o .placed);
+      }
 
   pub effect-agrees : (other : Rest) → Agree a rest other → Total a → OccursAt a p → eventRefusal rest a p e ≡ 0
       → effectFrom rest a p e ≡ effectFrom other a p e
-  effect-agrees other agree t o h = effect-same rest a (p .state) (p .buffer) e other agree t o (accepted-facts rest a p e h)
+  effect-agrees other agree t o h = effect-same rest a (p .state) (p .buffer) e other agree t (o .occurs) (accepted-facts rest a p e h)
+
+  -- what it leaves, and the places of what it emits, by its effect
+  pub sources-agree : (other : Rest) → effectFrom rest a p e ≡ effectFrom other a p e → sources rest a p e ≡ sources other a p e
+  unfolding sources
+  sources-agree other same = ap (λ (f : Effect). take (length (f .emitted)) (inLine a p e)) same
+
+  pub advance-agrees : (other : Rest) → effectFrom rest a p e ≡ effectFrom other a p e → advance rest a p e ≡ advance other a p e
+  advance-agrees other same =
+      ap (λ (f : Effect). record {
+        state = f .state;
+        buffer = f .buffer;
+        places = drop (length (f .emitted)) (inLine a p e);
+        received = p .received + 1;
+        emitted = p .emitted + length (f .emitted);
+      }) same
+
+pub places-as-worded : PlacesAsWorded
+unfolding inLine sources remaining
+places-as-worded rest a p e h =
+    let line = take-append-drop (m rest a p e) (inLine a p e) in
+    let no : (class a e ≡ 1 → ⊥) → controllable a e ≡ false = λ c. refuted (controllable a e) (λ y. c (class-one a e .0 y)) in
+    let yes : class a e ≡ 1 → controllable a e ≡ true = class-one a e .1 in
+    record {
+      passing = λ c. (effect-passes rest a (p .state) (p .buffer) e (no c), line ∙ rw (no c));
+      holding = λ c. (effect-holds rest a (p .state) (p .buffer) e (yes c), line ∙ rw (yes c));
+      emitted-have = length-take-le (m rest a p e) (inLine a p e) (all-in-line rest a p e h);
+      held-have =
+          length-drop (m rest a p e) (inLine a p e) ∙
+          omega (arith, line-length a p e h, effect-length rest a (p .state) (p .buffer) e);
+      received-grows = refl;
+      emitted-grows = refl;
+    }

@@ -6,3 +6,4 @@ pub mod Searching
 pub mod Effects
 pub mod Runs
 pub mod Solved
+pub mod Bounded

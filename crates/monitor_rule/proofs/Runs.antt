@@ -11,7 +11,7 @@ use Rattle.automaton.proofs.Reached.{reached-append}
 use Rattle.solver_sets.proofs.Total.{Total}
 use Rattle.configuration.specs.Configuration.{Position}
 use Rattle.monitor_rule.specs.Step.{Rest, Effect, effectFrom, advance, eventRefusal, Run, runOf}
-use Rattle.monitor_rule.proofs.Effects.{OccursAt, Agree, refusal-same, effect-leads, advance-occurs, effect-agrees}
+use Rattle.monitor_rule.proofs.Effects.{OccursAt, Agree, refusal-same, effect-leads, advance-occurs, effect-agrees, advance-agrees}
 
 -- no event
 abbrev pub still : Position → Run
@@ -79,7 +79,8 @@ run-same rest other a agree t =
     let f = effectFrom rest a p e in
     let same = effect-agrees rest a p e other agree t o h in
     ap (after f) (k (advance-occurs rest a p e t o h)) ∙
-    ap (λ (g : Effect). after g (runOf other a (record { state = g .state; buffer = g .buffer }) es)) same ∙
+    ap (λ g. after g (runOf other a (advance rest a p e) es)) same ∙
+    ap (λ x. after (effectFrom other a p e) (runOf other a x es)) (advance-agrees rest a p e other same) ∙
     sym (run-accepts other a p e es (sym (refusal-same rest other a p e agree t o) ∙ h)))
     (λ p e es r h k o.
     ap passed (k o) ∙ sym (run-refuses other a p e es (λ z. h (refusal-same rest other a p e agree t o ∙ z))))

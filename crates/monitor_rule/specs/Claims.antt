@@ -1,10 +1,11 @@
--- What is proved of the rows of one event and of the release, in document 01's words ("One event"
--- and "Numbers of refusal"), and of the search for the release in source document 001's.
-use Prim.Native.Nat.{ℕ, _<_, _≤_}
+-- What is proved of the rows of one event, of the release and of the places in the input, in the
+-- documents' words (01, "One event" and "Numbers of refusal"; 02, Card 4), and of the search for
+-- the release in source document 001's.
+use Prim.Native.Nat.{ℕ, _+_, _<_, _≤_}
 use mathlib.Core.Path.{_≡_}
 use mathlib.Core.Logic.{_⊎_, _↔_}
 use mathlib.Core.Bool.{true}
-use mathlib.Core.List.{List, [], _++_}
+use mathlib.Core.List.{List, [], _∷_, _++_}
 use lib.ListN.{length, getD, take, drop}
 use Rattle.base.specs.Pad.{pad, UsedTo}
 use Rattle.automaton.specs.declared.Automaton.{Automaton}
@@ -13,7 +14,7 @@ use Rattle.automaton_symbols.specs.Symbols.{rankingOf}
 use Rattle.solver_sets.specs.Table.{Buffer, Solved}
 use Rattle.solver_sets.specs.Claims.{Winning}
 use Rattle.configuration.specs.Configuration.{Position}
-use Rattle.monitor_rule.specs.Step.{Rest, qualifying, release, eventRefusal}
+use Rattle.monitor_rule.specs.Step.{Rest, qualifying, release, effectFrom, sources, advance, eventRefusal}
 use Rattle.monitor_rule.specs.Fronts.{restIn, over, foundIn}
 
 -- row 14: the event is no symbol of the automaton
@@ -25,18 +26,50 @@ abbrev pub Full : Automaton → ℕ → ℕ → Type 0
 Full a held e = (e < a .symbols) × (class a e ≡ 1) × (a .capacity ≤ held)
 
 -- neither
-abbrev pub Admitted : Automaton → ℕ → ℕ → Type 0
-Admitted a held e = (e < a .symbols) × ((class a e ≡ 1 → ⊥) ⊎ (held < a .capacity))
+abbrev pub Fits : Automaton → ℕ → ℕ → Type 0
+Fits a held e = (e < a .symbols) × ((class a e ≡ 1 → ⊥) ⊎ (held < a .capacity))
 
--- n is the number of refusal of an event with so many held: a row's number exactly when it holds
-pub record RowsOfEvent (a : Automaton) (held e n : ℕ) : Type 0 where
+-- row 23: otherwise accepted, and so many were accepted before it that the input count is at its
+-- end
+abbrev pub CountEnded : Automaton → ℕ → ℕ → ℕ → Type 0
+CountEnded a held received e = Fits a held e × (received ≡ 4294967295)
+
+-- none of the three
+abbrev pub Admitted : Automaton → ℕ → ℕ → ℕ → Type 0
+Admitted a held received e = Fits a held e × (received ≡ 4294967295 → ⊥)
+
+-- n is the number of refusal of an event with so many held and so many accepted before it: a row's
+-- number exactly when it holds
+pub record RowsOfEvent (a : Automaton) (held received e n : ℕ) : Type 0 where
   pub row-14 : (n ≡ 14) ↔ Unknown a e
   pub row-15 : (n ≡ 15) ↔ Full a held e
-  pub accepted : (n ≡ 0) ↔ Admitted a held e
+  pub row-23 : (n ≡ 23) ↔ CountEnded a held received e
+  pub accepted : (n ≡ 0) ↔ Admitted a held received e
 
 abbrev pub EventRowsAsWorded : Type 0
 EventRowsAsWorded =
-    (rest : Rest) (a : Automaton) (p : Position) (e : ℕ) → RowsOfEvent a (length (p .buffer)) e (eventRefusal rest a p e)
+    (rest : Rest) (a : Automaton) (p : Position) (e : ℕ)
+    → RowsOfEvent a (length (p .buffer)) (p .received) e (eventRefusal rest a p e)
+
+-- The places in the input go with their events: what is put out and what is held then are the
+-- events at hand in turn, and so are their places, one for each. A newcomer's place is the input
+-- count before it; it goes before the held events where it passes, and behind them where it is
+-- held. The input count grows by one, the output count by what is put out.
+pub record PlacesKept (rest : Rest) (a : Automaton) (p : Position) (e : ℕ) : Type 0 where
+  pub passing : (class a e ≡ 1 → ⊥)
+      → (effectFrom rest a p e .emitted ++ advance rest a p e .buffer ≡ e ∷ p .buffer)
+      × (sources rest a p e ++ advance rest a p e .places ≡ p .received ∷ p .places)
+  pub holding : class a e ≡ 1
+      → (effectFrom rest a p e .emitted ++ advance rest a p e .buffer ≡ p .buffer ++ e ∷ [])
+      × (sources rest a p e ++ advance rest a p e .places ≡ p .places ++ p .received ∷ [])
+  pub emitted-have : length (sources rest a p e) ≡ length (effectFrom rest a p e .emitted)
+  pub held-have : length (advance rest a p e .places) ≡ length (advance rest a p e .buffer)
+  pub received-grows : advance rest a p e .received ≡ p .received + 1
+  pub emitted-grows : advance rest a p e .emitted ≡ p .emitted + length (effectFrom rest a p e .emitted)
+
+abbrev pub PlacesAsWorded : Type 0
+PlacesAsWorded =
+    (rest : Rest) (a : Automaton) (p : Position) (e : ℕ) → length (p .places) ≡ length (p .buffer) → PlacesKept rest a p e
 
 -- The search, beside κ in Definition 3.10 of source document 001. P says with what is left, and in
 -- which state, one may rest; k is the length of a front part of w after which one may. (By S these

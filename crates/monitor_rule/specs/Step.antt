@@ -11,6 +11,7 @@ use Rattle.automaton.specs.declared.Automaton.{Automaton}
 use Rattle.automaton.specs.Automaton.{controllable, step, reached}
 use Rattle.solver_sets.specs.Sets.{setsFor}
 use Rattle.solver_sets.specs.Table.{index}
+use Rattle.configuration_places.specs.Places.{countEnd}
 use Rattle.configuration.specs.Configuration.{Position}
 
 -- may the monitor rest in a state with a buffer?
@@ -66,21 +67,41 @@ effect rest a q w e =
       buffer = drop k (x .buffer);
     }
 
--- the effect at a position, and the position after it
+-- the effect at a position
 abbrev pub effectFrom : Rest → Automaton → Position → ℕ → Effect
 effectFrom rest a p e = effect rest a (p .state) (p .buffer) e
 
+-- the places in the input of the events at hand, in the order in which they go out: a newcomer's,
+-- which is the input count before it, is first where it passes and last where it is held
+unfoldable pub inLine : Automaton → Position → ℕ → List ℕ
+inLine a p e = cond (controllable a e) (p .places ++ p .received ∷ []) (p .received ∷ remaining a e (p .places))
+
+-- those of what is emitted
+unfoldable pub sources : Rest → Automaton → Position → ℕ → List ℕ
+sources rest a p e = take (length (effectFrom rest a p e .emitted)) (inLine a p e)
+
+-- the position after it
 abbrev pub advance : Rest → Automaton → Position → ℕ → Position
-advance rest a p e = let f = effectFrom rest a p e in record { state = f .state; buffer = f .buffer }
+advance rest a p e =
+    let f = effectFrom rest a p e in
+    record {
+      state = f .state;
+      buffer = f .buffer;
+      places = drop (length (f .emitted)) (inLine a p e);
+      received = p .received + 1;
+      emitted = p .emitted + length (f .emitted);
+    }
 
--- the rows of one event with so many held: 14, no symbol of the automaton; 15, controllable with
--- the buffer full
-abbrev pub eventRowsIn : ℕ → ℕ → Bool → ℕ → ℕ → List (ℕ × Bool)
-eventRowsIn symbols capacity holds held e = (14, not (ltb e symbols)) ∷ (15, holds && leb capacity held) ∷ []
+-- the rows of one event with so many held and so many accepted before it: 14, no symbol of the
+-- automaton; 15, controllable with the buffer full; 23, the input count at its end
+abbrev pub eventRowsIn : ℕ → ℕ → Bool → ℕ → ℕ → ℕ → List (ℕ × Bool)
+eventRowsIn symbols capacity holds held received e =
+    (14, not (ltb e symbols)) ∷ (15, holds && leb capacity held) ∷ (23, eqb received countEnd) ∷ []
 
--- at a position, over a rest test (which neither row reads)
+-- at a position, over a rest test (which no row reads)
 unfoldable pub eventRows : Rest → Automaton → Position → ℕ → List (ℕ × Bool)
-eventRows rest a p e = eventRowsIn (a .symbols) (a .capacity) (controllable a e) (length (p .buffer)) e
+eventRows rest a p e =
+    eventRowsIn (a .symbols) (a .capacity) (controllable a e) (length (p .buffer)) (p .received) e
 
 unfoldable pub eventRefusal : Rest → Automaton → Position → ℕ → ℕ
 eventRefusal rest a p e = first (eventRows rest a p e)

@@ -17,7 +17,7 @@ use Rattle.monitor_rule.specs.Step.{Rest, release, Effect, arrival, effect}
 use Rattle.monitor_rule.specs.declared.Front.{Front}
 use Rattle.monitor_rule.specs.Fronts.{front, classBy, over, ReleaseRequires}
 use Rattle.monitor_rule.proofs.Longest.{release-le}
-use Rattle.monitor_step.specs.Stepping.{stepped, StepRequires}
+use Rattle.monitor_step.specs.Stepping.{released, stepped, StepRequires}
 use Rattle.monitor_step.proofs.Arrivals.{Arrived, arrives}
 
 -- a ranked symbol is a controllable one
@@ -56,8 +56,8 @@ module _ (rest : Rest) (a : Automaton) (q : ℕ) (w : List ℕ) (e p : ℕ) (lon
   released-few = omega (arith, count-is, release-le rest a (x .state) (x .buffer), all-is)
 
   pub step-answers : (at from : ℕ) → from ≡ at + n → (left : List ℕ) → left ≡ pad 6 (drop (f .count) (take all longer))
-      → record { state = f .state; held = all - f .count; buffer = left; written = from + f .count } ≡ stepped rest a q w e at
-  unfolding stepped effect front
+      → record { state = f .state; held = all - f .count; buffer = left; released = f .count; written = from + f .count } ≡ stepped rest a q w e at
+  unfolding stepped released effect front
   step-answers at from behind left l =
       let few = release-le rest a (x .state) (x .buffer) in
       let h : all - k ≡ length (drop k (x .buffer)) = omega (arith, all-is, length-drop k (x .buffer)) in

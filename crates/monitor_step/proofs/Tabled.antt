@@ -5,7 +5,7 @@ use mathlib.Core.Bool.{false, not}
 use mathlib.Core.List.{List, [], _∷_}
 use native.Mathlib.Omega.{arith}
 use lib.ListN.{length, getD, take}
-use lib.Dec.{ltb}
+use lib.Dec.{eqb, ltb}
 use borrow.Author.Tests.{eq-eqb, ne-eqb, ltb-true, ltb-false}
 use Rattle.base.specs.Rows.{first}
 use Rattle.base.specs.Pad.{pad}
@@ -23,8 +23,8 @@ use Rattle.monitor_rule.specs.Fronts.{restIn, over}
 use Rattle.automaton_symbols.specs.Symbols.{rankingOf}
 use Rattle.monitor_rule.proofs.Effects.{Occurs, Accepts, arrival-occurs}
 use Rattle.monitor_rule.proofs.Tabled.{rank-controllable, rank-uncontrollable, release-tabled, reached-over, lent}
-use Rattle.monitor_step.specs.Stepping.{eventRowBy, stepped, StepRequires}
-use Rattle.monitor_step.proofs.Steps.{class-rank}
+use Rattle.monitor_step.specs.Stepping.{eventRowBy, released, stepped, StepRequires}
+use Rattle.monitor_step.proofs.Steps.{class-rank, rank-class}
 
 -- each symbol of a list of controllable ones is an automaton's
 symbol-at : (a : Automaton) (w : List ℕ) → Controllable a w → (i : ℕ) → i < length w → getD w i 0 < a .symbols
@@ -53,9 +53,12 @@ module _ (a : Automaton) (v : Valid a) where
       (λ c. let r = rank-controllable a v e h c in ap not (ne-eqb (getD (own .ranks) e 0) 0 (λ z. omega arith)) ∙ sym c)
       (λ c. ap not (eq-eqb (getD (own .ranks) e 0) 0 (rank-uncontrollable a v e h c)) ∙ sym c)
 
-  -- rows 14 and 15
+  pub rank-is : (e : ℕ) → e < a .symbols → eqb (getD (own .ranks) e 0) 0 ≡ not (controllable a e)
+  rank-is e h = rank-class (own .ranks) (a .next) e ∙ ap not (class-same e h)
+
+  -- rows 14, 15 and 23
   pub row-same : (rest : Rest) (p : Position) (held e : ℕ) → length (p .buffer) ≡ held
-      → eventRowBy (own .ranks) (a .symbols) (a .capacity) held e ≡ eventRefusal rest a p e
+      → eventRowBy (own .ranks) (a .symbols) (a .capacity) held (p .received) e ≡ eventRefusal rest a p e
   unfolding eventRowBy eventRefusal eventRows first
   row-same rest p held e l =
       by (ltb e (a .symbols))
@@ -83,10 +86,14 @@ module _ (a : Automaton) (v : Valid a) where
           reached-over a (own .ranks) (take (release (byTable a t) a (x .state) (x .buffer)) (x .buffer)) (x .state),
         )
 
+    released-tabled : released (restIn t (own .ranks) (own .count)) lentOnly q w e ≡ released (byTable a t) a q w e
+    unfolding released
+    released-tabled = rw (arrival-same, release-tabled a v t (x .buffer) (arrived .buffer) (x .state))
+
     -- a step over the lent arrays is the rule over the automaton and its table
     pub stepped-tabled : (at : ℕ) → stepped (restIn t (own .ranks) (own .count)) lentOnly q w e at ≡ stepped (byTable a t) a q w e at
     unfolding stepped
-    stepped-tabled at = rw effect-tabled
+    stepped-tabled at = rw (effect-tabled, released-tabled)
 
     pub emitted-tabled : effect (restIn t (own .ranks) (own .count)) lentOnly q w e .emitted ≡ effect (byTable a t) a q w e .emitted
     emitted-tabled = ap (λ (f : Effect). f .emitted) effect-tabled

@@ -10,13 +10,19 @@ use Rattle.base.specs.Rows.{first}
 use Rattle.base.specs.Pad.{pad}
 use Rattle.automaton.specs.declared.Automaton.{Automaton}
 use Rattle.automaton.specs.Automaton.{controllable}
-use Rattle.monitor_rule.specs.Step.{Rest, Effect, arrival, effect, eventRowsIn}
+use Rattle.monitor_rule.specs.Step.{Rest, release, Effect, arrival, effect, eventRowsIn}
 use Rattle.monitor_rule.specs.Fronts.{over, ReleaseRequires}
 pub use Rattle.monitor_step.specs.declared.Stepped.{Stepped}
 
--- the row that refuses an event, by ranks and with so many held; 0 where it is accepted
-unfoldable pub eventRowBy : List ℕ → ℕ → ℕ → ℕ → ℕ → ℕ
-eventRowBy ranks symbols capacity held e = first (eventRowsIn symbols capacity (not (eqb (getD ranks e 0) 0)) held e)
+-- the row that refuses an event, by ranks, with so many held and so many accepted before it; 0
+-- where it is accepted
+unfoldable pub eventRowBy : List ℕ → ℕ → ℕ → ℕ → ℕ → ℕ → ℕ
+eventRowBy ranks symbols capacity held received e =
+    first (eventRowsIn symbols capacity (not (eqb (getD ranks e 0) 0)) held received e)
+
+-- how many held events an accepted event releases
+unfoldable pub released : Rest → Automaton → ℕ → List ℕ → ℕ → ℕ
+released rest a q w e = let x = arrival a q w e in release rest a (x .state) (x .buffer)
 
 -- what an accepted event leaves, where what it emits is written from a place on
 unfoldable pub stepped : Rest → Automaton → ℕ → List ℕ → ℕ → ℕ → Stepped
@@ -26,6 +32,7 @@ stepped rest a q w e at =
       state = f .state;
       held = length (f .buffer);
       buffer = pad 6 (f .buffer);
+      released = released rest a q w e;
       written = at + length (f .emitted);
     }
 

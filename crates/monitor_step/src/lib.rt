@@ -3,42 +3,64 @@
 use base::as_u32;
 use base::as_usize;
 use base::copy;
+use configuration_places::COUNT_END;
+use configuration_places::InputPlace;
 use monitor_release::release;
 ghost use mathlib.Core.Path.{_≡_};
-ghost use mathlib.Core.Bool.{false, cond};
+ghost use mathlib.Core.Bool.{false, cond, not, _&&_};
+ghost use lib.Dec.{eqb, leb};
 ghost use Prim.Native.Nat.{_+_, _*_, _≤_, _<_};
 ghost use lib.ListN.{length, getD, set, take, drop};
 ghost use lib.Seq.{sets};
 ghost use Rattle.base.specs.Pad.{pad};
+ghost use Rattle.configuration_places.specs.Places.{inputNumber};
 ghost use Rattle.monitor_rule.specs.Step.{effect};
 ghost use Rattle.monitor_rule.specs.Fronts.{restIn, over};
 ghost use Rattle.monitor_step.specs.Stepping.{eventRowBy, stepped, StepRequires};
 
-// What an accepted event leaves: the state, the buffer and how many it holds, and the place after
-// what was written.
+// What an accepted event leaves: the state, the buffer and how many it holds, how many held events
+// were released, and the place after what was written.
 pub struct Stepped {
     pub state: usize,
     pub held: usize,
     pub buffer: [u8; 6],
+    pub released: usize,
     pub written: usize,
 }
 
-// The row that refuses an event with so many held: 14, no symbol; 15, controllable with the buffer
-// full; 0, none.
-pub fn event_row(ranks: &[u8; 16], symbols: u8, capacity: usize, held: usize, event: u32) -> u8
+// Whether an event is controllable (a ranked symbol) and the buffer full.
+fn is_full(rank: u8, capacity: usize, held: usize) -> bool
+    ensures { λ r. ⌜ r ≡ not (eqb rank 0) && leb capacity held ⌝ }
+{
+    if rank == 0 {
+        return false;
+    }
+    capacity <= held
+}
+
+// The row that refuses an event with so many held and so many accepted before it: 14, no symbol;
+// 15, controllable with the buffer full; 23, the input count at its end; 0, none.
+pub fn event_row(
+    ranks: &[u8; 16],
+    symbols: u8,
+    capacity: usize,
+    held: usize,
+    received: InputPlace,
+    event: u32,
+) -> u8
     requires { ⌜ symbols ≤ 16 ⌝ }
-    ensures { λ r. ⌜ r ≡ eventRowBy (now (ranks .entry)) symbols capacity held event ⌝ }
+    ensures { λ r. ⌜ r ≡ eventRowBy (now (ranks .entry)) symbols capacity held (inputNumber received) event ⌝ }
 {
     if as_u32(symbols) <= event {
         return 14;
     }
-    if ranks[event as usize] == 0 {
-        return 0;
+    if is_full(ranks[event as usize], capacity, held) {
+        return 15;
     }
-    if held < capacity {
-        return 0;
+    if received.0 == COUNT_END {
+        return 23;
     }
-    15
+    0
 }
 
 // The state after an event that passes; the same state where it is held.
@@ -132,6 +154,7 @@ pub fn step<'a>(
         state: front.state,
         held: all - front.count,
         buffer: left(&longer, all, front.count),
+        released: front.count,
         written: from + front.count,
     }
 }

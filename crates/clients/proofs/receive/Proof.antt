@@ -211,7 +211,7 @@ module _ {M : Type 1} (𝓤 : URA M) (H : Heap 𝓤) (A : Atoms 𝓤) (W : Given
   low : Holds (not (leb n i)) → i < length ys
   low good = nleb→lt n i good
 
-  far : i < length ys → i * 8 < 2 ^ 64
+  far : i < length ys → i * 40 < 2 ^ 64
   far l = omega (arith, l, gn .1)
 
   next-is : (x : Received) (u : Val) → Is Rc.the-row x (u ∷ []) → Is T.the-row (x .configuration) (mach (x .configuration) ∷ [])
@@ -260,7 +260,7 @@ module _ {M : Type 1} (𝓤 : URA M) (H : Heap 𝓤) (A : Atoms 𝓤) (W : Given
       assigns ! (bin ! (load ! (from ! (stop !)) (look ! 20 refl)) (lit ! tt) (record { fits = far (low good) })) (from ! (stop !)) (init ! 10 refl (tt, record { fits = far (low good) })) $
       assigns ! (bin ! (load ! (from ! (fld ! refl (stop !))) (look-in ! 26 (sub ! 0 refl (whole !)))) (load ! (from ! (stop !)) (look ! 10 refl)) tt) (from ! (stop !))
       (init ! 8 refl (tt, tt)) $
-      rewrite ! 8 (λ (p : ℕ). ‵ (fat fullShare tyPtr l12 0 (vptr b p))) (sym (place-is 8 o i)) refl $
+      rewrite ! 8 (λ (p : ℕ). ‵ (fat fullShare tyPtr l12 0 (vptr b p))) (sym (place-is 40 o i)) refl $
       -- the client's configuration is copied out
       fsplit ! $ move ! (1 ∷ []) $ fsplit ! $ move ! (0 ∷ 1 ∷ 4 ∷ []) $ opens-slice ! tt T.the-row ys b o $
       elem-out ! T.the-row (Is T.the-row) (shows 𝓤 H A T.the-row) (LL.vals T.the-type T′.the-laws) (LL.tells T.the-type T′.the-laws) fullShare ys i none b o (low good) (λ gc.
@@ -282,7 +282,7 @@ module _ {M : Type 1} (𝓤 : URA M) (H : Heap 𝓤) (A : Atoms 𝓤) (W : Given
       assigns ! (bin ! (load ! (from ! (stop !)) (look ! 20 refl)) (lit ! tt) (record { fits = far (low good) })) (from ! (stop !)) (store ! 16 refl (tt, record { fits = far (low good) })) $
       assigns ! (bin ! (load ! (from ! (fld ! refl (stop !))) (look-in ! 26 (sub ! 0 refl (whole !)))) (load ! (from ! (stop !)) (look ! 16 refl)) tt) (from ! (stop !))
       (init ! 4 refl (tt, tt)) $
-      rewrite ! 4 (λ (p : ℕ). ‵ (fat fullShare tyPtr l14 0 (vptr b p))) (sym (place-is 8 o i)) refl $ move ! (2 ∷ []) $ fsplit ! $ move ! (1 ∷ []) $ fsplit ! $
+      rewrite ! 4 (λ (p : ℕ). ‵ (fat fullShare tyPtr l14 0 (vptr b p))) (sym (place-is 40 o i)) refl $ move ! (2 ∷ []) $ fsplit ! $ move ! (1 ∷ []) $ fsplit ! $
       move ! (0 ∷ 1 ∷ 5 ∷ []) $ opens-slice ! tt T.the-row ys b o $
       elem-out ! T.the-row (Is T.the-row) (shows 𝓤 H A T.the-row) (LL.vals T.the-type T′.the-laws) (LL.tells T.the-type T′.the-laws) fullShare ys i none b o (low good) (λ _.
       assigns ! (of-opd ! (load ! (from ! (fld ! refl (stop !))) (look-in ! 23 (sub ! 1 refl (whole !))))) (from ! (hop ! (look ! 9 refl) (stop !)))

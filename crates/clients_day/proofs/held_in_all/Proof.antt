@@ -221,7 +221,7 @@ module _ {M : Type 1} (𝓤 : URA M) (H : Heap 𝓤) (A : Atoms 𝓤) (W : Given
         assigns ! (bin ! (load ! (from ! (stop !)) (look ! 14 refl)) (lit ! tt) (record { fits = far less })) (from ! (stop !)) (init ! 8 refl (tt, record { fits = far less })) $
         assigns ! (bin ! (load ! (from ! (fld ! refl (stop !))) (look-in ! 18 (sub ! 0 refl (whole !)))) (load ! (from ! (stop !)) (look ! 8 refl)) tt) (from ! (stop !))
         (init ! 6 refl (tt, tt)) $
-        rewrite ! 6 (λ (p : ℕ). ‵ (fat fullShare tyPtr l9 0 (vptr b p))) (sym (place-is 8 o (s .i))) refl $
+        rewrite ! 6 (λ (p : ℕ). ‵ (fat fullShare tyPtr l9 0 (vptr b p))) (sym (place-is 40 o (s .i))) refl $
         -- a share of the list is looked at, and one is copied out
         move ! (3 ∷ []) $ fsplit ! $ move ! (1 ∷ []) $ fsplit ! $ move ! (1 ∷ 4 ∷ []) $
         looks-slice ! tt T.the-row (Is T.the-row) (shows 𝓤 H A T.the-row) (LL.vals T.the-type T′.the-laws) (LL.tells T.the-type T′.the-laws) (LL.copy T.the-type T′.the-copy 𝓤 H A W) ys b o
@@ -254,7 +254,7 @@ module _ {M : Type 1} (𝓤 : URA M) (H : Heap 𝓤) (A : Atoms 𝓤) (W : Given
         low : Holds (ltb (s .i) (length ys)) → s .i < length ys
         low less = ltb→lt (s .i) (length ys) less
 
-        far : Holds (ltb (s .i) (length ys)) → s .i * 8 < 2 ^ 64
+        far : Holds (ltb (s .i) (length ys)) → s .i * 40 < 2 ^ 64
         far less = omega (arith, low less, few)
 
         next-fits : Holds (ltb (s .i) (length ys)) → s .i + 1 < 2 ^ 64

@@ -398,7 +398,7 @@ module _ {M : Type 1} (𝓤 : URA M) (H : Heap 𝓤) (A : Atoms 𝓤) (W : Given
         assigns ! (bin ! (load ! (from ! (stop !)) (look ! 30 refl)) (lit ! tt) (record { fits = far d in-list })) (from ! (stop !)) (init ! 22 refl (tt, record { fits = far d in-list })) $
         assigns ! (bin ! (load ! (from ! (fld ! refl (stop !))) (look-in ! 44 (sub ! 0 refl (whole !)))) (load ! (from ! (stop !)) (look ! 22 refl)) tt) (from ! (stop !))
         (init ! 20 refl (tt, tt)) $
-        rewrite ! 20 (λ (p : ℕ). ‵ (fat fullShare tyPtr l18 0 (vptr b p))) (sym (place-is 8 o (d .client))) refl $
+        rewrite ! 20 (λ (p : ℕ). ‵ (fat fullShare tyPtr l18 0 (vptr b p))) (sym (place-is 40 o (d .client))) refl $
         -- the client's record is copied out
         move ! (10 ∷ []) $ fsplit ! $ move ! (1 ∷ []) $ fsplit ! $ move ! (0 ∷ 1 ∷ 7 ∷ []) $ opens-slice ! tt T.the-row (s .clients) b o $
         elem-out ! T.the-row (Is T.the-row) (shows 𝓤 H A T.the-row) (LL.vals T.the-type T′.the-laws) (LL.tells T.the-type T′.the-laws) fullShare (s .clients) (d .client) none b o
@@ -450,7 +450,7 @@ module _ {M : Type 1} (𝓤 : URA M) (H : Heap 𝓤) (A : Atoms 𝓤) (W : Given
         assigns ! (bin ! (load ! (from ! (stop !)) (look ! 30 refl)) (lit ! tt) (record { fits = far d in-list })) (from ! (stop !)) (store ! 22 refl (tt, record { fits = far d in-list })) $
         assigns ! (bin ! (load ! (from ! (fld ! refl (stop !))) (look-in ! 44 (sub ! 0 refl (whole !)))) (load ! (from ! (stop !)) (look ! 22 refl)) tt) (from ! (stop !))
         (init ! 12 refl (tt, tt)) $
-        rewrite ! 12 (λ (p : ℕ). ‵ (fat fullShare tyPtr l22 0 (vptr b p))) (sym (place-is 8 o (d .client))) refl $ move ! (8 ∷ []) $ fsplit ! $ move ! (1 ∷ []) $ fsplit ! $
+        rewrite ! 12 (λ (p : ℕ). ‵ (fat fullShare tyPtr l22 0 (vptr b p))) (sym (place-is 40 o (d .client))) refl $ move ! (8 ∷ []) $ fsplit ! $ move ! (1 ∷ []) $ fsplit ! $
         move ! (0 ∷ 1 ∷ 11 ∷ []) $ opens-slice ! tt T.the-row (s .clients) b o $
         elem-out ! T.the-row (Is T.the-row) (shows 𝓤 H A T.the-row) (LL.vals T.the-type T′.the-laws) (LL.tells T.the-type T′.the-laws) fullShare (s .clients) (d .client) none b o
         (low d in-list) (λ _.
@@ -499,7 +499,7 @@ module _ {M : Type 1} (𝓤 : URA M) (H : Heap 𝓤) (A : Atoms 𝓤) (W : Given
         beyond : (d : Event) → Holds (not (ltb (d .client) n)) → length (s .clients) ≤ d .client
         beyond d h = let k = nltb→le (d .client) n h in omega (arith, k, s .same-count)
 
-        far : (d : Event) → Holds (ltb (d .client) n) → d .client * 8 < 2 ^ 64
+        far : (d : Event) → Holds (ltb (d .client) n) → d .client * 40 < 2 ^ 64
         far d h = let k = ltb→lt (d .client) n h in omega (arith, k, gn .1)
 
         old : Event → Configuration

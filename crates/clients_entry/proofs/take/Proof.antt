@@ -1,12 +1,17 @@
 use Prim.Native.Nat.{ℕ, _<_}
-use mathlib.Core.Path.{_≡_, _∙_, sym}
+use mathlib.Core.Path.{_≡_, refl, _∙_, sym}
+use mathlib.Core.Logic.{inl, inr, ⊎-elim}
 use mathlib.Core.Bool.{true}
 use lib.ListN.{length}
 use native.Mathlib.Omega.{arith}
 use borrow.Author.Tests.{not-true, not-false}
 use borrow.Author.Needs.{needs}
 use Rattle.configuration.specs.Configuration.{consistentIn}
-use Rattle.monitor_loop.proofs.Taking.{symbols-small, event-low, take-ready, state-fits, held-fits, takes-accepted}
+use Rattle.monitor_loop.specs.declared.Processed.{Processed}
+use Rattle.monitor_loop.specs.Lending.{ProcessRequires, Takes}
+use Rattle.monitor_loop.proofs.Accepting.{accepted-counts, accepted-few, accepted-gone, accepted-derives, accepted-found}
+use Rattle.monitor_loop.proofs.Taking.{place, symbols-small, event-low, take-ready, state-fits, takes-accepted}
+use Rattle.monitor_loop.proofs.Running.{counts-fit}
 use Rattle.monitor_loop.proofs.Turning.{turns-inconsistent, opens-enters, opens-room, turns-refused}
 use Rattle.clients_entry.proofs.Entering.{passes-over, takes-event}
 use Rattle.clients_entry.proofs.take.Statement.{statement}
@@ -25,7 +30,7 @@ stands : (c : tie.Else1) → let x = start c .args in
     consistentIn (x .limits .states) (x .limits .symbols) (x .limits .capacity) (x .classes .now) (x .c) ≡ true
 stands c = sym (c .before .consistent .ensures) ∙ not-false _ (c .if1 .left)
 
--- rows 14 and 15 are asked
+-- rows 14, 15 and 23 are asked
 abbrev passed : tie.After-event-row → tie.Else1
 passed c = c .before .before .before
 
@@ -33,7 +38,33 @@ abbrev asked : tie.After-as-usize3 → tie.After-event-row
 asked c = c .before .before .before
 
 abbrev stepped : tie.After-struct-known → tie.After-step
-stepped c = c .before .before .before .before
+stepped c = c .before .before .before .before .before
+
+-- what the step left, as one event leaves it
+abbrev leaves : tie.After-step → Processed
+leaves p =
+    let s = p .step .result in
+    record { row = 0; state = s .state; held = s .held; buffer = s .buffer; released = s .released; written = s .written }
+
+held : (p : tie.After-step) → let r = asked (p .before .before) in r .before .before .as-usize .result ≡ start (passed r) .args .c .held
+held p = asked (p .before .before) .before .before .as-usize .ensures .0
+
+-- the places are found
+abbrev found : tie.After-struct-known3 → tie.Joined3
+found c = c .before .before
+
+entered : (p : tie.After-step) → let x = start (passed (asked (p .before .before))) .args in
+    ProcessRequires (x .limits) (x .next .now) (x .ranks .now) (x .table .now) (x .c)
+entered p = let g = passed (asked (p .before .before)) in opens-enters _ _ _ _ _ _ _ (stands g) (start g .pre)
+
+took : (p : tie.After-step) → let x = start (passed (asked (p .before .before))) .args in
+    Takes (x .limits) (x .next .now) (x .ranks .now) (x .table .now) (x .c) (x .event) (x .at) (x .out .now) (leaves p) (p .step .last .1 .1 .1 .1 .1 .1 .1 .1 .0)
+took p =
+    let n = p .before .before in
+    let r = asked n in
+    let s = r .before in
+    takes-accepted _ _ _ _ _ _ _ _ _ (s .as-usize2 .ensures .0) (s .before .as-usize .ensures .0) (r .event-row .ensures) (n .before .before .if2 .left)
+    _ (n .as-usize3 .ensures .0) _ _ (p .step .ensures .0) _ _ (p .step .ensures .1)
 
 consistent-requires : tie.Need-consistent-requires
 consistent-requires c κs = search needs
@@ -92,41 +123,77 @@ step-requires c κs =
     _ (n .as-usize3 .ensures .0) _ (opens-enters _ _ _ _ _ _ _ (stands g) (start g .pre)) (length (start g .args .out .now))
     (opens-room _ _ _ _ _ _ _ (stands g) (start g .pre)) (indexed (g .before .before))
 
-cast-t18 : tie.Need-cast-t18
-cast-t18 c =
-    let p = stepped c in
+mul-places : tie.Need-mul-places
+mul-places c = search needs
+
+array-set-from-places : tie.Need-array-set-from-places
+array-set-from-places c =
+    let p = stepped (c .before) in
+    omega (arith, accepted-few (entered p) _ _ _ _ _ (took p) refl, c .if3 .taken)
+
+places-left-requires : tie.Need-places-left-requires
+places-left-requires c κs =
+    let k = c .before .before in
+    let p = stepped (k .before) in (
+      omega (arith, held p, place (entered p .lends) _ (entered p .stands) .held-small),
+      k .if3 .left,
+      accepted-gone (entered p) _ _ _ _ _ (took p) refl,
+    )
+
+add-t30 : tie.Need-add-t30
+add-t30 c =
+    let p = stepped (found c .before) in
+    let low : start (passed (asked (p .before .before))) .args .c .received .0 < 4294967296 = omega arith in
+    let next = counts-fit _ low (accepted-counts (entered p) _ _ _ _ _ (took p) refl) in
+    omega arith
+
+cast-derive : tie.Need-cast-derive
+cast-derive c =
+    let p = stepped (found (c .before) .before) in
     let n = p .before .before in
     let r = asked n in
     let s = r .before in
-    let g = passed r in
     let l = state-fits _ _ _ _ _ _ _ _ _ (s .as-usize2 .ensures .0) (s .before .as-usize .ensures .0) (r .event-row .ensures) (n .before .before .if2 .left)
-    _ (n .as-usize3 .ensures .0) _ _ (p .step .ensures .0) (opens-enters _ _ _ _ _ _ _ (stands g) (start g .pre))
+    _ (n .as-usize3 .ensures .0) _ _ (p .step .ensures .0) (entered p)
     in omega arith
 
-cast-t21 : tie.Need-cast-t21
-cast-t21 c =
-    let p = stepped (c .before) in
-    let n = p .before .before in
-    let r = asked n in
-    let s = r .before in
-    let g = passed r in
-    let l = held-fits _ _ _ _ _ _ _ _ _ (s .as-usize2 .ensures .0) (s .before .as-usize .ensures .0) (r .event-row .ensures) (n .before .before .if2 .left)
-    _ (n .as-usize3 .ensures .0) _ _ (p .step .ensures .0) (opens-enters _ _ _ _ _ _ _ (stands g) (start g .pre))
-    in omega arith
+cast-derive-2 : tie.Need-cast-derive-2
+cast-derive-2 c =
+    let p = stepped (found (c .before .before) .before) in
+    omega (arith, accepted-few (entered p) _ _ _ _ _ (took p) refl)
+
+derive-requires : tie.Need-derive-requires
+derive-requires c κs =
+    let p = stepped (found (c .before .before) .before) in
+    accepted-derives (entered p) _ _ _ _ _ (took p) refl
 
 same-length : tie.Need-same-length
 same-length c = search needs
 
 returns-3 : tie.Need-returns-3
 returns-3 c =
-    let p = stepped (c .before) in
-    let n = p .before .before in
-    let r = asked n in
-    let s = r .before in
-    let g = passed r in
-    takes-event _ _ _ _ _ _ _ _ _ _ _ _ (stands g)
-    (takes-accepted _ _ _ _ _ _ _ _ _ (s .as-usize2 .ensures .0) (s .before .as-usize .ensures .0) (r .event-row .ensures) (n .before .before .if2 .left)
-    _ (n .as-usize3 .ensures .0) _ _ (p .step .ensures .0) _ _ (p .step .ensures .1))
+    let j = found (c .before .before .before) in
+    let p = stepped (j .before) in
+    let g = passed (asked (p .before .before)) in
+    takes-event _ _ _ _ _ _ _ _ _ _ (leaves p) _ (stands g) (took p) refl
+    (rw (c .derive .ensures)
+    (accepted-found (entered p) _ _ _ _ _ (took p) refl _
+    (⊎-elim
+    (λ w. inl (record { more = omega (arith, held p, w .0 .taken); at = _; at-end = held p; laid = w .1 }))
+    (λ v. ⊎-elim
+    (λ w.
+    inr (inl (record {
+      no-more = omega (arith, held p, w .0 .left);
+      some-go = w .2 .taken;
+      before = _;
+      held = _;
+      were = held p;
+      are = refl;
+      moved = w .4 ∙ w .3 .ensures;
+    })))
+    (λ w. inr (inr (record { no-more = omega (arith, held p, w .0 .left); none-go = w .2 .left; kept = w .3 })))
+    v)
+    (j .if3 .came))))
 
 pub take-spec : {M : Type 1} → statement M
 take-spec =
@@ -143,7 +210,12 @@ take-spec =
     as-usize-requires-3
     cast-step
     step-requires
-    cast-t18
-    cast-t21
+    mul-places
+    array-set-from-places
+    places-left-requires
+    add-t30
+    cast-derive
+    cast-derive-2
+    derive-requires
     same-length
     returns-3)

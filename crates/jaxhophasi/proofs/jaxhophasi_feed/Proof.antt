@@ -88,7 +88,7 @@ stayed = (
       gave-slice (2 ∷ []) tt (plain (λ _. T.the-row)),
       (
         stay-dropped (shrSliceOf (3 ∷ []) tt (plain (λ _. u8))) yes,
-        (gave-ref (4 ∷ []) tt (ArrayOf (plain (λ _. u8)) (λ _. tt) 3), (gave-ref (5 ∷ []) tt (ArrayOf (plain (λ _. u8)) (λ _. tt) 25), tt)),
+        (gave-ref (4 ∷ []) tt (ArrayOf (plain (λ _. u8)) (λ _. tt) 3), (gave-ref (5 ∷ []) tt (ArrayOf (plain (λ _. u8)) (λ _. tt) 53), tt)),
       ),
     ),
   ),
@@ -97,8 +97,8 @@ stayed = (
 abbrev R3 : RattleType
 R3 = Array u8 3
 
-abbrev R25 : RattleType
-R25 = Array u8 25
+abbrev R53 : RattleType
+R53 = Array u8 53
 
 -- what the parameters of `feed::receive` are at its end
 abbrev Lasts : Type 0
@@ -181,13 +181,13 @@ module _ {M : Type 1} (𝓤 : URA M) (H : Heap 𝓤) (A : Atoms 𝓤) (W : Given
   leaves : (a : Automaton) → a ≡ automatonOf bs → (e : Expected) → e ≡ expectedOf lent → (r : Fed) (cs′ : List Configuration) → Says a e r cs′ → length cs′ ≡ length cs
       → (n : ℕ) (nv : Val) (expected answer : List ℕ) → Lays r n expected answer
       → ent 𝓤 (⋆ 𝓤 H A (‵ (flft κb qb) ∷ ‵ (flft κt qt) ∷ ‵ (flft κr qr) ∷ ‵ (flft κs qs) ∷ ‵ (flft κe qe) ∷ ‵ (flft κa qa) ∷ ‵ (finally T.the-row (refR .name) cs′) ∷
-      ‵ (fres (refE .name) (R3 .coded .code expected)) ∷ ‵ (fres (refA .name) (R25 .coded .code answer)) ∷ ‵ (u8 .own n (nv ∷ [])) ∷ [])) (Post nv)
+      ‵ (fres (refE .name) (R3 .coded .code expected)) ∷ ‵ (fres (refA .name) (R53 .coded .code answer)) ∷ ‵ (u8 .own n (nv ∷ [])) ∷ [])) (Post nv)
   unfolding feedLeaves fedLeft
   leaves a ea e ee r cs′ says-r lR n nv expected answer l =
       let er : r ≡ fedFor (automatonOf bs) t cs s (expectedOf lent) = says-r .0 ∙ ap₂ (λ b y. fedFor b t cs s y) ea ee in
       let ec : cs′ ≡ fedClients (automatonOf bs) t cs s (expectedOf lent) = says-r .1 ∙ ap₂ (λ b y. fedClients b t cs s y) ea ee in
       qed W (‵ (flft κb qb) ∷ ‵ (flft κt qt) ∷ ‵ (flft κr qr) ∷ ‵ (flft κs qs) ∷ ‵ (flft κe qe) ∷ ‵ (flft κa qa) ∷ ‵ (finally T.the-row (refR .name) cs′) ∷
-      ‵ (fres (refE .name) (R3 .coded .code expected)) ∷ ‵ (fres (refA .name) (R25 .coded .code answer)) ∷ ‵ (u8 .own n (nv ∷ [])) ∷ []) ∵
+      ‵ (fres (refE .name) (R3 .coded .code expected)) ∷ ‵ (fres (refA .name) (R53 .coded .code answer)) ∷ ‵ (u8 .own n (nv ∷ [])) ∷ []) ∵
       suffices ! _ (ends-at 𝓤 H A f.ended stayed (f.clauses 𝓤 H A at-mem run) W called nv n (tt, (tt, (cs′, (tt, (expected, (answer, tt)))))) (tt, (tt, (lR, (tt, (tt, (tt, tt))))))) $
       says ! (l .0 ∙ ap (λ q. q .answer .refusal) er, ec, l .1 ∙ ap (λ q. expectedLaid (q .expected) lent) er, l .2 ∙ ap fedBytes er) $
       nothing ! $ move ! (6 ∷ 0 ∷ []) $ join ! $ move ! (5 ∷ 0 ∷ []) $ join ! $ move ! (4 ∷ 0 ∷ []) $ join ! $ move ! (3 ∷ 0 ∷ []) $ join ! $ move ! (2 ∷ 0 ∷ []) $ join ! $
@@ -234,7 +234,7 @@ module _ {M : Type 1} (𝓤 : URA M) (H : Heap 𝓤) (A : Atoms 𝓤) (W : Given
   toL r rv = (((κe, (κa, tt)), (qe, (qa, tt)), tt, argsL r, valsL rv), tt)
 
   goesL : (r : Fed) (rv : Val) → ent 𝓤 (onEntry 𝓤 H A la.signature (κe, (κa, tt)) (qe, (qa, tt)) (argsL r) (valsL rv)) (Lay 𝓤 H A at-mem run .pre (toL r rv))
-  goesL r rv = qed W ((‵ (flft κe qe) ⊛ (‵ (flft κa qa) ⊛ ‵ ftrue)) ∷ ‵ (owns (Fd.the-row ∷ MutRef (named 0) κe R3 ∷ MutRef (named 1) κa R25 ∷ []) (argsL r) (valsL rv)) ∷ []) ∵
+  goesL r rv = qed W ((‵ (flft κe qe) ⊛ (‵ (flft κa qa) ⊛ ‵ ftrue)) ∷ ‵ (owns (Fd.the-row ∷ MutRef (named 0) κe R3 ∷ MutRef (named 1) κa R53 ∷ []) (argsL r) (valsL rv)) ∷ []) ∵
       join ! $ frame ! $ done !
 
   walk : (𝓣 : Tables 𝓤 H) → Triple 𝓤 (𝓣 .C #c-records·automaton-of) (Read 𝓤 H A at-mem run) → Triple 𝓤 (𝓣 .C #c-records·expected-of) (Expect 𝓤 H A at-mem run)
@@ -245,7 +245,7 @@ module _ {M : Type 1} (𝓤 : URA M) (H : Heap 𝓤) (A : Atoms 𝓤) (W : Given
   walk 𝓣 known-b known-x known-c known-l fT fR fS =
       qed W ((‵ (flft κb qb) ⊛ (‵ (flft κt qt) ⊛ (‵ (flft κr qr) ⊛ (‵ (flft κs qs) ⊛ (‵ (flft κe qe) ⊛ (‵ (flft κa qa) ⊛ ‵ ftrue)))))) ∷
       ‵ (owns (ShrRef (named 0) κb (Array u8 564) ∷ ShrSlice (named 1) κt u32 ∷ MutSlice (named 2) κr T.the-row ∷ ShrSlice (named 3) κs u8 ∷ MutRef (named 4) κe R3 ∷ MutRef
-      (named 5) κa R25 ∷ []) x
+      (named 5) κa R53 ∷ []) x
       at) ∷ []) ∵
       enter ! (𝓣 .C) (𝓣 .Λ) code.function (vB ∷ vT ∷ vR ∷ vS ∷ vE ∷ vA ∷ []) _ $
       alloc1 ! (λ l0. alloc1 ! (λ l1. alloc1 ! (λ l2. alloc1 ! (λ l3. alloc1 ! (λ l4. alloc1 ! (λ l5. alloc1 ! (λ l6. alloc1 ! (λ l7. alloc1 ! (λ l8. alloc1 ! (λ l9. alloc1 !
@@ -349,7 +349,7 @@ module _ {M : Type 1} (𝓤 : URA M) (H : Heap 𝓤) (A : Atoms 𝓤) (W : Given
             mut-slice-tells (named 2) (κs .1 .1 .0) T.the-row,
             (
               shr-slice-tells (named 3) (κs .1 .1 .1 .0) u8,
-              (mut-tells (named 4) (κs .1 .1 .1 .1 .0) R3, (mut-tells (named 5) (κs .1 .1 .1 .1 .1 .0) R25, tt)),
+              (mut-tells (named 4) (κs .1 .1 .1 .1 .0) R3, (mut-tells (named 5) (κs .1 .1 .1 .1 .1 .0) R53, tt)),
             ),
           ),
         ),
@@ -369,7 +369,7 @@ module _ {M : Type 1} (𝓤 : URA M) (H : Heap 𝓤) (A : Atoms 𝓤) (W : Given
             goes-gave-slice 𝓤 H A W 6 2 tt (plain (λ _. T.the-row)),
             (
               goes-dropped 𝓤 H A W 6 (shrSliceOf (3 ∷ []) tt (plain (λ _. u8))) yes (λ κs x w. refl),
-              (goes-gave-ref 𝓤 H A W 6 4 tt (ArrayOf (plain (λ _. u8)) (λ _. tt) 3), (goes-gave-ref 𝓤 H A W 6 5 tt (ArrayOf (plain (λ _. u8)) (λ _. tt) 25), tt)),
+              (goes-gave-ref 𝓤 H A W 6 4 tt (ArrayOf (plain (λ _. u8)) (λ _. tt) 3), (goes-gave-ref 𝓤 H A W 6 5 tt (ArrayOf (plain (λ _. u8)) (λ _. tt) 53), tt)),
             ),
           ),
         ),

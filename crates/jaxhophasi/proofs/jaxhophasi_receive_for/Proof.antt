@@ -75,7 +75,7 @@ stayed = (
     stay-dropped (shrSliceOf (1 ∷ []) tt (plain (λ _. u32))) yes,
     (
       gave-slice (2 ∷ []) tt (plain (λ _. T.the-row)),
-      (stay-dropped (plain (λ _. u32)) yes, (stay-dropped (plain (λ _. u32)) yes, (gave-ref (3 ∷ []) tt (ArrayOf (plain (λ _. u8)) (λ _. tt) 9), tt))),
+      (stay-dropped (plain (λ _. u32)) yes, (stay-dropped (plain (λ _. u32)) yes, (gave-ref (3 ∷ []) tt (ArrayOf (plain (λ _. u8)) (λ _. tt) 37), tt))),
     ),
   ),
 )
@@ -139,12 +139,12 @@ module _ {M : Type 1} (𝓤 : URA M) (H : Heap 𝓤) (A : Atoms 𝓤) (W : Given
   -- together it is what the function promises
   leaves : (a : Automaton) → a ≡ automatonOf bs → (r : ReceivedFor) (cs′ : List Configuration) → Says a r cs′ → length cs′ ≡ length cs
       → (n : ℕ) (nv : Val) (answer : List ℕ) → Lays r n answer
-      → ent 𝓤 (⋆ 𝓤 H A (‵ (flft κb qb) ∷ ‵ (flft κt qt) ∷ ‵ (flft κr qr) ∷ ‵ (flft κa qa) ∷ ‵ (finally T.the-row (refR .name) cs′) ∷ ‵ (fres (refA .name) (Array u8 9 .coded .code answer)) ∷
+      → ent 𝓤 (⋆ 𝓤 H A (‵ (flft κb qb) ∷ ‵ (flft κt qt) ∷ ‵ (flft κr qr) ∷ ‵ (flft κa qa) ∷ ‵ (finally T.the-row (refR .name) cs′) ∷ ‵ (fres (refA .name) (Array u8 37 .coded .code answer)) ∷
       ‵ (u8 .own n (nv ∷ [])) ∷ [])) (Post nv)
   unfolding receiveForLeaves receivedForLeft
   leaves a ea r cs′ s lR n nv answer l =
       let er : r ≡ receivedFor (automatonOf bs) t cs i e = s .0 ∙ ap (λ b. receivedFor b t cs i e) ea in
-      qed W (‵ (flft κb qb) ∷ ‵ (flft κt qt) ∷ ‵ (flft κr qr) ∷ ‵ (flft κa qa) ∷ ‵ (finally T.the-row (refR .name) cs′) ∷ ‵ (fres (refA .name) (Array u8 9 .coded .code answer)) ∷
+      qed W (‵ (flft κb qb) ∷ ‵ (flft κt qt) ∷ ‵ (flft κr qr) ∷ ‵ (flft κa qa) ∷ ‵ (finally T.the-row (refR .name) cs′) ∷ ‵ (fres (refA .name) (Array u8 37 .coded .code answer)) ∷
       ‵ (u8 .own n (nv ∷ [])) ∷ []) ∵
       suffices ! _ (ends-at 𝓤 H A f.ended stayed (f.clauses 𝓤 H A at-mem run) W called nv n (tt, (tt, (cs′, (tt, (tt, (answer, tt)))))) (tt, (tt, (lR, (tt, (tt, (tt, tt))))))) $
       says ! (l .0 ∙ ap (λ q. q .refusal) er, s .1 ∙ ap (λ b. receivedClients b t cs i e) ea, l .1 ∙ ap receivedForBytes er) $
@@ -170,7 +170,7 @@ module _ {M : Type 1} (𝓤 : URA M) (H : Heap 𝓤) (A : Atoms 𝓤) (W : Given
   toL r rv = (((κa, tt), (qa, tt), tt, (r, (refA, tt)), (rv ∷ [], (vA ∷ [], tt))), tt)
 
   goesL : (r : ReceivedFor) (rv : Val) → ent 𝓤 (onEntry 𝓤 H A la.signature (κa, tt) (qa, tt) (r, (refA, tt)) (rv ∷ [], (vA ∷ [], tt))) (Lay 𝓤 H A at-mem run .pre (toL r rv))
-  goesL r rv = qed W ((‵ (flft κa qa) ⊛ ‵ ftrue) ∷ ‵ (owns (Rf.the-row ∷ MutRef (named 0) κa (Array u8 9) ∷ []) (r, (refA, tt)) (rv ∷ [], (vA ∷ [], tt))) ∷ []) ∵ join ! $ frame ! $ done !
+  goesL r rv = qed W ((‵ (flft κa qa) ⊛ ‵ ftrue) ∷ ‵ (owns (Rf.the-row ∷ MutRef (named 0) κa (Array u8 37) ∷ []) (r, (refA, tt)) (rv ∷ [], (vA ∷ [], tt))) ∷ []) ∵ join ! $ frame ! $ done !
 
   walk : (𝓣 : Tables 𝓤 H) → Triple 𝓤 (𝓣 .C #c-records·automaton-of) (Read 𝓤 H A at-mem run) → Triple 𝓤 (𝓣 .C #clients·receive) (Call 𝓤 H A at-mem run)
       → Triple 𝓤 (𝓣 .C #c-answers·lay-received-for) (Lay 𝓤 H A at-mem run)
@@ -179,7 +179,7 @@ module _ {M : Type 1} (𝓤 : URA M) (H : Heap 𝓤) (A : Atoms 𝓤) (W : Given
       (WpFn 𝓤 H (𝓣 .C) (𝓣 .Λ) code.function (vB ∷ vT ∷ vR ∷ vint w32 i ∷ vint w32 e ∷ vA ∷ []) Post)
   walk 𝓣 known-b known-c known-l fT fR fi fe =
       qed W ((‵ (flft κb qb) ⊛ (‵ (flft κt qt) ⊛ (‵ (flft κr qr) ⊛ (‵ (flft κa qa) ⊛ ‵ ftrue)))) ∷
-      ‵ (owns (ShrRef (named 0) κb (Array u8 564) ∷ ShrSlice (named 1) κt u32 ∷ MutSlice (named 2) κr T.the-row ∷ u32 ∷ u32 ∷ MutRef (named 3) κa (Array u8 9) ∷ []) x at) ∷ []) ∵
+      ‵ (owns (ShrRef (named 0) κb (Array u8 564) ∷ ShrSlice (named 1) κt u32 ∷ MutSlice (named 2) κr T.the-row ∷ u32 ∷ u32 ∷ MutRef (named 3) κa (Array u8 37) ∷ []) x at) ∷ []) ∵
       enter ! (𝓣 .C) (𝓣 .Λ) code.function (vB ∷ vT ∷ vR ∷ vint w32 i ∷ vint w32 e ∷ vA ∷ []) _ $
       alloc1 ! (λ l0. alloc1 ! (λ l1. alloc1 ! (λ l2. alloc1 ! (λ l3. alloc1 ! (λ l4. alloc1 !
       (λ l5. alloc1 ! (λ l6. alloc1 ! (λ l7. alloc1 ! (λ l8. alloc1 ! (λ l9. alloc1 ! (λ l10. alloc1 ! (λ l11. alloc0 ! $ params1 ! $
@@ -242,7 +242,7 @@ module _ {M : Type 1} (𝓤 : URA M) (H : Heap 𝓤) (A : Atoms 𝓤) (W : Given
         shr-tells (named 0) (κs .0) (Array u8 564),
         (
           shr-slice-tells (named 1) (κs .1 .0) u32,
-          (mut-slice-tells (named 2) (κs .1 .1 .0) T.the-row, (uint-tells w32, (uint-tells w32, (mut-tells (named 3) (κs .1 .1 .1 .0) (Array u8 9), tt)))),
+          (mut-slice-tells (named 2) (κs .1 .1 .0) T.the-row, (uint-tells w32, (uint-tells w32, (mut-tells (named 3) (κs .1 .1 .1 .0) (Array u8 37), tt)))),
         ),
       ))
       (λ κs qs bounds x g are. via 𝓤 _ (fst∗ 𝓤 _ (emp 𝓤)) (walk 𝓤 H A W at-mem run (κs .0) (κs .1 .0) (κs .1 .1 .0) (κs .1 .1 .1 .0) (qs .0) (qs .1 .0) (qs .1 .1 .0) (qs .1 .1 .1 .0)
@@ -259,7 +259,7 @@ module _ {M : Type 1} (𝓤 : URA M) (H : Heap 𝓤) (A : Atoms 𝓤) (W : Given
             goes-gave-slice 𝓤 H A W 4 2 tt (plain (λ _. T.the-row)),
             (
               goes-dropped 𝓤 H A W 4 (plain (λ _. u32)) yes (λ κs x w. refl),
-              (goes-dropped 𝓤 H A W 4 (plain (λ _. u32)) yes (λ κs x w. refl), (goes-gave-ref 𝓤 H A W 4 3 tt (ArrayOf (plain (λ _. u8)) (λ _. tt) 9), tt)),
+              (goes-dropped 𝓤 H A W 4 (plain (λ _. u32)) yes (λ κs x w. refl), (goes-gave-ref 𝓤 H A W 4 3 tt (ArrayOf (plain (λ _. u8)) (λ _. tt) 37), tt)),
             ),
           ),
         ),

@@ -1,10 +1,13 @@
 use mathlib.Core.Path.{_≡_, refl, _∙_}
-use mathlib.Core.Bool.{true}
-use lib.ListN.{replicate}
+use Prim.Native.Nat.{_<_}
+use mathlib.Core.Bool.{true, cond}
+use lib.Dec.{eqb}
+use lib.ListN.{getD, replicate}
 use native.Mathlib.Omega.{arith}
 use borrow.Author.Needs.{needs}
 use Rattle.automaton.specs.declared.Automaton.{Automaton}
 use Rattle.automaton.specs.Automaton.{assembled}
+use Rattle.automaton.proofs.Facts.{valid-facts}
 use Rattle.configuration.specs.Configuration.{consistent}
 use Rattle.automaton_symbols.specs.Symbols.{rankingOf}
 use Rattle.monitor_rule.proofs.Searching.{rests-asks}
@@ -12,7 +15,7 @@ use Rattle.monitor_answers.specs.Turns.{turned, turnedBuffer}
 use Rattle.monitor_answers.proofs.Turns.{Opened}
 use Rattle.monitor_entry.proofs.Entries.{entered, entered-opened}
 use Rattle.monitor_loop.proofs.Taking.{lends}
-use Rattle.monitor.proofs.Receiving.{lent-at, rest-is, receive-stands, turn-asks, receive-refuses, count-small, stands-after, receive-accepts}
+use Rattle.monitor.proofs.Receiving.{lent-at, rest-is, receive-stands, turn-asks, receive-refuses, count-small, stands-after, index-low, index-small, many-small, receive-accepts}
 use Rattle.monitor.proofs.receive_in.Statement.{statement}
 use Rattle.monitor.proofs.receive_in.Tie as tie
 
@@ -49,11 +52,28 @@ took c =
 abbrev turning : tie.Else2 → tie.After-turn
 turning c = c .before .before .before
 
-abbrev accepted : tie.After-struct-known3 → tie.Else2
-accepted c = c .before .before .before
+-- its symbol's index in line
+abbrev indexed : tie.After-own-index → tie.Else2
+indexed c = c .before .before .before .before
 
-abbrev rested : tie.After-as-usize → tie.Else2
-rested c = accepted (c .before .before .before)
+low : (c : tie.Else2) → let x = start (entry (passed (turning c .before))) .args in x .event < x .symbols
+low c =
+    let t = turning c in
+    let o = opened (passed (t .before)) in
+    index-low _ _ _ _ (o .0) _ (o .1) _ (took t .0) (c .if2 .left)
+
+own : (c : tie.After-own-index) → let k = indexed c in let x = start (entry (passed (turning k .before))) .args in
+    c .own-index .result ≡ cond (eqb (getD (entry (passed (turning k .before)) .enter .result .ranking .ranks) (x .event) 0) 0) 0 (x .c .held)
+own c = rw (c .before .as-usize .ensures .0) at (c .own-index .ensures)
+
+abbrev told : tie.After-struct-known3 → tie.After-emitted-places
+told c = c .before .before .before
+
+abbrev accepted : tie.After-struct-known3 → tie.Else2
+accepted c = indexed (told c .before)
+
+abbrev rested : tie.After-as-usize2 → tie.After-struct-known3
+rested c = c .before .before .before
 
 stands : (c : tie.Else2) → consistent (automaton (start (entry (passed (turning c .before))))) (turning c .turn .result .configuration) ≡ true
 stands c =
@@ -87,34 +107,55 @@ returns-2 c =
     let o = opened (passed (t .before)) in
     c .refused2 .ensures ∙ receive-refuses _ _ _ _ (o .0) _ (o .1) _ (took t .0) (c .before .if2 .taken)
 
-cast-t24 : tie.Need-cast-t24
-cast-t24 c =
+cast-t29 : tie.Need-cast-t29
+cast-t29 c =
     let k = accepted c in
     let t = turning k in
     let o = opened (passed (t .before)) in
     let l = count-small _ _ _ _ (o .0) _ (o .1) _ (took t .0) (k .if2 .left) in
     omega arith
 
+element-copy-out-own-index : tie.Need-element-copy-out-own-index
+element-copy-out-own-index c =
+    let o = opened (passed (turning (c .before) .before)) in
+    omega (arith, low (c .before), valid-facts _ (o .0 .record-valid) .symbols-high)
+
 as-usize-requires : tie.Need-as-usize-requires
 as-usize-requires c κs = search needs
+
+own-index-requires : tie.Need-own-index-requires
+own-index-requires c κs = search needs
+
+emitted-places-requires : tie.Need-emitted-places-requires
+emitted-places-requires c κs =
+    let k = indexed c in
+    let t = turning k in
+    let o = opened (passed (t .before)) in (
+      index-small _ _ _ _ (o .0) _ (o .1) _ (took t .0) (k .if2 .left) _ (own c),
+      many-small _ _ _ _ (o .0) _ (o .1) _ (took t .0) (k .if2 .left) _ (own c),
+    )
 
 as-usize-requires-2 : tie.Need-as-usize-requires-2
 as-usize-requires-2 c κs = search needs
 
+as-usize-requires-3 : tie.Need-as-usize-requires-3
+as-usize-requires-3 c κs = search needs
+
 rests-requires : tie.Need-rests-requires
 rests-requires c κs =
-    let k = rested (c .before) in
+    let k = accepted (rested (c .before)) in
     let o = opened (passed (turning k .before)) in
-    rests-asks (lent-at _ _ (o .0) _ (o .1) _ (stands k)) _ _ (c .before .as-usize .ensures .0) (c .as-usize2 .ensures .0)
+    rests-asks (lent-at _ _ (o .0) _ (o .1) _ (stands k)) _ _ (c .before .as-usize2 .ensures .0) (c .as-usize3 .ensures .0)
 
 returns-3 : tie.Need-returns-3
 returns-3 c =
     let s = c .before in
-    let k = rested (s .before) in
+    let r = rested (s .before) in
+    let k = accepted r in
     let t = turning k in
     let o = opened (passed (t .before)) in
-    let w = rest-is _ _ (o .0) _ (o .1) _ (stands k) _ (rw (s .as-usize2 .ensures .0, s .before .as-usize .ensures .0) at (c .rests .ensures)) in
-    receive-accepts _ _ _ _ (o .0) _ (o .1) _ (took t .0) (k .if2 .left) _ (took t .1) _ w
+    let w = rest-is _ _ (o .0) _ (o .1) _ (stands k) _ (rw (s .as-usize3 .ensures .0, s .before .as-usize2 .ensures .0) at (c .rests .ensures)) in
+    receive-accepts _ _ _ _ (o .0) _ (o .1) _ (took t .0) (k .if2 .left) _ (took t .1) _ w _ (own (told r .before)) _ (told r .emitted-places .ensures)
 
 pub receive-in-spec : {M : Type 1} → statement M
 receive-in-spec =
@@ -127,8 +168,12 @@ receive-in-spec =
     turn-requires
     refused-requires-2
     returns-2
-    cast-t24
+    element-copy-out-own-index
     as-usize-requires
+    own-index-requires
+    emitted-places-requires
+    cast-t29
     as-usize-requires-2
+    as-usize-requires-3
     rests-requires
     returns-3)

@@ -27,7 +27,7 @@ stands c = sym (c .before .consistent .ensures) ∙ not-false _ (c .if1 .left)
 room : (c : tie.Else1) → start c .args .at + start c .args .c .held < length (start c .args .out .now)
 room c = opens-room _ _ _ _ _ _ _ (stands c) (start c .pre)
 
--- rows 14 and 15 are asked
+-- rows 14, 15 and 23 are asked
 abbrev passed : tie.After-event-row → tie.Else1
 passed c = c .before .before .before
 
@@ -44,7 +44,7 @@ ended c =
     (n .before .if2 .left) (start p .args .out .now) _ _ (start p .pre) (c .process .ensures)
 
 abbrev done : tie.After-struct-known → tie.After-process
-done c = c .before .before .before .before .before
+done c = c .before .before .before .before
 
 consistent-requires : tie.Need-consistent-requires
 consistent-requires c κs = search needs
@@ -84,8 +84,8 @@ process-requires c κs =
     let p = passed (asked (c .before)) in
     (opens-enters _ _ _ _ _ _ _ (stands p) (start p .pre), part-room (start p .args .out .now) (start p .args .at) _ (room p))
 
-add-t16 : tie.Need-add-t16
-add-t16 c =
+add-t15 : tie.Need-add-t15
+add-t15 c =
     let d = done c in
     omega (arith, ended d, indexed (passed (asked (d .before .before)) .before .before))
 
@@ -116,6 +116,6 @@ turn-spec =
     part-process-start
     part-process-end
     process-requires
-    add-t16
+    add-t15
     same-length
     returns-3)

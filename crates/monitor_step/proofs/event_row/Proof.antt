@@ -1,8 +1,9 @@
-use mathlib.Core.Path.{_≡_}
-use mathlib.Core.Bool.{true}
+use mathlib.Core.Path.{_≡_, sym, _∙_}
+use mathlib.Core.Bool.{true, not, _&&_}
 use native.Mathlib.Omega.{arith}
-use lib.Dec.{ltb}
-use borrow.Author.Tests.{lt-ltb, le-ltb, eq-eqb, ne-eqb, lt-leb, le-leb}
+use lib.Dec.{eqb, leb, ltb}
+use lib.ListN.{getD}
+use borrow.Author.Tests.{lt-ltb, le-ltb, eq-eqb, ne-eqb}
 use borrow.Author.Needs.{needs}
 use Rattle.base.specs.Rows.{first}
 use Rattle.monitor_step.specs.Stepping.{eventRowBy}
@@ -16,6 +17,10 @@ start c = c .before .before
 symbol : (c : tie.Else1) → ltb (start c .args .event) (start c .args .symbols) ≡ true
 symbol c = lt-ltb (start c .args .event) (start c .args .symbols) (omega (arith, c .before .as-u32 .ensures .0, c .if1 .left))
 
+-- row 15 is asked
+abbrev passed : tie.After-is-full → tie.Else1
+passed c = c .before .before
+
 as-u32-requires : tie.Need-as-u32-requires
 as-u32-requires c κs = search needs
 
@@ -23,27 +28,36 @@ returns : tie.Need-returns
 unfolding eventRowBy first
 returns c = let a = c .before .before .args in rw (le-ltb (a .event) (a .symbols) (omega (arith, c .before .as-u32 .ensures .0, c .if1 .taken)))
 
-element-copy-out-if2 : tie.Need-element-copy-out-if2
-element-copy-out-if2 c = search needs
+element-copy-out-is-full : tie.Need-element-copy-out-is-full
+element-copy-out-is-full c = search needs
+
+is-full-requires : tie.Need-is-full-requires
+is-full-requires c κs = search needs
 
 returns-2 : tie.Need-returns-2
 unfolding eventRowBy first
-returns-2 c = rw (symbol (c .before .before), eq-eqb _ 0 (c .if2 .taken))
+returns-2 c = rw (symbol (passed (c .before)), sym (c .before .is-full .ensures) ∙ c .if2 .taken)
 
 returns-3 : tie.Need-returns-3
 unfolding eventRowBy first
 returns-3 c =
-    let e = c .before .before .before in
-    let a = start e .args in
-    rw (symbol e, ne-eqb _ 0 (c .before .if2 .left), lt-leb (a .capacity) (a .held) (omega arith))
+    let f = c .before .before in
+    rw (symbol (passed (f .before)), sym (f .before .is-full .ensures) ∙ f .if2 .left, eq-eqb _ 4294967295 (c .if3 .taken))
 
 returns-4 : tie.Need-returns-4
 unfolding eventRowBy first
 returns-4 c =
-    let e = c .before .before .before in
-    let a = start e .args in
-    rw (symbol e, ne-eqb _ 0 (c .before .if2 .left), le-leb (a .capacity) (a .held) (omega arith))
+    let f = c .before .before in
+    rw (symbol (passed (f .before)), sym (f .before .is-full .ensures) ∙ f .if2 .left, ne-eqb _ 4294967295 (c .if3 .left))
 
 pub event-row-spec : {M : Type 1} → statement M
 event-row-spec =
-    tie.close (tie.spec as-u32-requires returns element-copy-out-if2 returns-2 returns-3 returns-4)
+    tie.close
+    (tie.spec
+    as-u32-requires
+    returns
+    element-copy-out-is-full
+    is-full-requires
+    returns-2
+    returns-3
+    returns-4)

@@ -1,0 +1,137 @@
+-- The places of what is held after an accepted event, as the code finds them.
+use Prim.Native.Nat.{ℕ, suc, _+_, _-_, _<_, _≤_}
+use mathlib.Core.Path.{_≡_, refl, sym, _∙_, ap}
+use mathlib.Core.Bool.{true, false, cond}
+use mathlib.Core.List.{List, [], _∷_, _++_}
+use native.Mathlib.Omega.{arith}
+use lib.ListN.{length, set, take, drop, length-append, length-drop}
+use lib.Seq.{length-take-le}
+use Rattle.base.specs.Pad.{pad}
+use Rattle.base.proofs.Bools.{by}
+use Rattle.automaton.specs.declared.Automaton.{Automaton}
+use Rattle.automaton.specs.Automaton.{controllable, step}
+use Rattle.configuration_places.specs.declared.InputPlace.{InputPlace}
+use Rattle.configuration_places.specs.Places.{inputPlace, inputNumber, padPlaces}
+use Rattle.configuration.specs.declared.Configuration.{Configuration}
+use Rattle.configuration.specs.Configuration.{Position, heldEvents, placeNumbers, positionOf, configuration}
+use Rattle.configuration.proofs.Facts.{Consistent}
+use Rattle.monitor_rule.specs.Step.{Rest, release, remaining, Effect, arrival, effect, effectFrom, inLine, advance}
+use Rattle.monitor_rule.proofs.Effects.{effect-length}
+use Rattle.monitor_rule.proofs.Longest.{release-le}
+use Rattle.monitor_places.specs.Lines.{joinedBy, ownIndex}
+use Rattle.monitor_places.proofs.Laws.{places, waiting-end, left-passing, left-waiting}
+use Rattle.monitor_step.specs.Stepping.{released}
+use Rattle.monitor_loop.specs.Lending.{derived}
+
+-- how many are emitted: those released, and an event that passes
+module _ (rest : Rest) (a : Automaton) (q : ℕ) (w : List ℕ) (e : ℕ) where
+  abbrev x : Effect
+  x = arrival a q w e
+
+  pub emitted-many : length (effect rest a q w e .emitted) ≡ cond (controllable a e) 0 1 + released rest a q w e
+  unfolding effect arrival released remaining
+  emitted-many =
+      let few = release-le rest a (x .state) (x .buffer) in
+      by (controllable a e)
+      (λ c. rw c (omega (arith, rw c at (length-take-le (release rest a (x .state) (x .buffer)) (x .buffer) few))))
+      (λ c. rw c (omega (arith, rw c at (length-take-le (release rest a (x .state) (x .buffer)) (x .buffer) few))))
+
+  pub released-few : released rest a q w e ≤ suc (length w)
+  released-few = omega (arith, emitted-many, effect-length rest a q w e)
+
+module _ (a : Automaton) (c : Configuration) (k : Consistent a c) (rest : Rest) (e : ℕ) where
+  abbrev p : Position
+  p = positionOf c
+
+  abbrev f : Effect
+  f = effectFrom rest a p e
+
+  -- what is held then
+  abbrev many : ℕ
+  many = length (f .buffer)
+
+  abbrev gone : ℕ
+  gone = released rest a (c .state) (heldEvents c) e
+
+  -- the places of what is held then, in the array
+  abbrev target : List InputPlace
+  target = places 6 (drop (length (f .emitted)) (inLine a p e))
+
+  lie : c .places ≡ places 6 (p .places)
+  lie = ap (λ (d : Configuration). d .places) (k .whole)
+
+  have : length (p .places) ≡ c .held
+  have = k .placed .each-has ∙ k .held-length
+
+  sum : length (f .emitted) + many ≡ c .held + 1
+  sum = omega (arith, effect-length rest a (c .state) (heldEvents c) e, k .held-length)
+
+  -- a newcomer that waits with all others
+  pub place-waits : c .held < many → many ≤ 6 → set (c .places) (c .held) (c .received) ≡ target
+  unfolding inLine
+  place-waits l high =
+      let none : length (f .emitted) ≡ 0 = omega (arith, sum) in
+      by (controllable a e)
+      (λ y.
+      rw (none, y)
+      (ap (λ l. set l (c .held) (c .received)) lie ∙ ap (λ i. set (places 6 (p .places)) i (c .received)) (sym have) ∙
+      waiting-end (p .places) (p .received) (omega (arith, have))))
+      (λ y. absurd (omega (arith, none, rw y at (emitted-many rest a (c .state) (heldEvents c) e))))
+
+  -- nothing waits or goes but an event that passes
+  pub places-stay : many ≤ c .held → gone ≡ 0 → c .places ≡ target
+  unfolding inLine remaining
+  places-stay l z =
+      by (controllable a e)
+      (λ y. absurd (omega (arith, sum, z, rw y at (emitted-many rest a (c .state) (heldEvents c) e))))
+      (λ y.
+      let one : length (f .emitted) ≡ 1 = omega (arith, z, rw y at (emitted-many rest a (c .state) (heldEvents c) e)) in
+      rw (one, y) lie)
+
+  -- a release
+  pub places-go : many ≤ c .held → 0 < gone → (left : List InputPlace)
+      → left ≡ padPlaces 6 (take many (drop (c .held + 1 - many) (joinedBy (ownIndex (c .held) gone many) (c .received) (c .places))))
+      → left ≡ target
+  unfolding inLine remaining
+  places-go l z left el =
+      let m : c .held + 1 - many ≡ length (f .emitted) = omega (arith, sum) in
+      let found : left ≡ padPlaces 6 (take many (drop (length (p .places) + 1 - many) (joinedBy (ownIndex (length (p .places)) gone many) (c .received) (places 6 (p .places))))) =
+      el ∙ ap (λ ps. padPlaces 6 (take many (drop (c .held + 1 - many) (joinedBy (ownIndex (c .held) gone many) (c .received) ps)))) lie ∙
+      ap (λ i. padPlaces 6 (take many (drop (i + 1 - many) (joinedBy (ownIndex i gone many) (c .received) (places 6 (p .places)))))) (sym have)
+      in
+      let same : length (p .places) + 1 - many ≡ length (f .emitted) = ap (λ i. i + 1 - many) have ∙ m in
+      by (controllable a e)
+      (λ y.
+      let n : gone + many ≡ length (p .places) + 1 = omega (arith, sum, have, rw y at (emitted-many rest a (c .state) (heldEvents c) e)) in
+      found ∙ left-waiting (p .places) (p .received) gone many (omega (arith, have)) (omega arith) ∙ rw (same, y))
+      (λ y.
+      let n : gone + many ≡ length (p .places) = omega (arith, sum, have, rw y at (emitted-many rest a (c .state) (heldEvents c) e)) in
+      found ∙ left-passing (p .places) (p .received) gone many (omega (arith, have)) n ∙ rw (same, y))
+
+  -- the whole configuration then
+  pub next-is : (state held : ℕ) (buffer : List ℕ) (ps : List InputPlace) → state ≡ f .state → held ≡ many → buffer ≡ pad 6 (f .buffer) → ps ≡ target
+      → derived state held buffer ps (inputPlace (inputNumber (c .received) + 1)) ≡ configuration (advance rest a p e)
+  next-is state held buffer ps es eh eb ep =
+      let out : inputNumber (c .received) + 1 - held ≡ p .emitted + length (f .emitted) = omega (arith, eh, sum, k .placed .sum, k .held-length) in
+      λ i. record {
+        state = es i;
+        held = eh i;
+        buffer = eb i;
+        places = ep i;
+        received = inputPlace (inputNumber (c .received) + 1);
+        emitted = record { 0 = out i };
+      }
+
+-- a consistent configuration's own output count is the derived one
+pub derived-is : (a : Automaton) (c : Configuration) → Consistent a c
+    → derived (c .state) (c .held) (c .buffer) (c .places) (c .received) ≡ c
+derived-is a c k =
+    let e : inputNumber (c .received) - c .held ≡ c .emitted .0 = omega (arith, k .placed .sum, k .held-length) in
+    λ i. record {
+      state = c .state;
+      held = c .held;
+      buffer = c .buffer;
+      places = c .places;
+      received = c .received;
+      emitted = record { 0 = e i };
+    }
