@@ -154,6 +154,81 @@ static size_t damage_bytes(uint8_t *bytes, size_t used)
     }
 }
 
+/* Where a carried state has its two counts, and the place of a held event. */
+enum { RECEIVED = JAXHOPHASI_CONFIGURATION_RECEIVED, EMITTED = JAXHOPHASI_CONFIGURATION_EMITTED };
+
+static void put_place(uint8_t *bytes, uint32_t value)
+{
+    for (unsigned i = 0; i < JAXHOPHASI_PLACE_SIZE; i++)
+        bytes[i] = (uint8_t)(value >> 8 * i);
+}
+
+static uint8_t *held_place(uint8_t *c, unsigned i)
+{
+    return c + JAXHOPHASI_CONFIGURATION_PLACES + i * JAXHOPHASI_PLACE_SIZE;
+}
+
+/* The counts of a carried state with so many held, and a place for each, rising below the input
+ * count: just above the last one, the highest that leaves room for those to come, or any between.
+ * The input count is often low, sometimes at its end or a day's part before it. */
+static void make_counts(uint8_t *c, unsigned held)
+{
+    uint32_t received = held + below(below(2) ? 4 : 100), lowest = 0;
+    switch (below(8)) {
+    case 0: received = UINT32_MAX; break;
+    case 1: received = UINT32_MAX - below(3); break;
+    case 2: received = UINT32_MAX - below(40); break;
+    case 3: received = held + below(UINT32_MAX - held); break;
+    }
+    put_place(c + RECEIVED, received);
+    put_place(c + EMITTED, received - held);
+    for (unsigned i = 0; i < held; i++) {
+        uint32_t highest = received - (held - i), place = below(3) ? lowest : highest;
+        if (below(3) == 0)
+            place = lowest + below(highest - lowest + 1);
+        put_place(held_place(c, i), place);
+        lowest = place + 1;
+    }
+}
+
+/* The places or the counts of a carried state are changed, so that row 13 refuses it (but where
+ * nothing is held, or all of the hold is used, some of these change nothing). */
+static void damage_counts(uint8_t *c)
+{
+    unsigned held = least(c[JAXHOPHASI_CONFIGURATION_HELD], 6), i = below(held ? held : 1);
+    uint8_t *place = held_place(c, i), kept[JAXHOPHASI_PLACE_SIZE];
+    uint32_t received = jaxhophasi_place_at(c + RECEIVED), emitted = jaxhophasi_place_at(c + EMITTED);
+    switch (below(9)) {
+    case 0: /* not rising: two change places */
+        if (i + 1 < held) {
+            memcpy(kept, place, sizeof kept);
+            memcpy(place, held_place(c, i + 1), sizeof kept);
+            memcpy(held_place(c, i + 1), kept, sizeof kept);
+        }
+        break;
+    case 1: /* two equal ones */
+        if (i + 1 < held)
+            memcpy(held_place(c, i + 1), place, sizeof kept);
+        break;
+    case 2: /* the last at the input count, above it, or the highest number */
+        if (held)
+            put_place(held_place(c, held - 1), below(2) ? received : below(2) ? received + 1 : UINT32_MAX);
+        break;
+    case 3: /* an unused one that is not 0: a place like any other, or a single bit */
+        if (held < 6)
+            put_place(held_place(c, held + below(6 - held)), below(2) ? received - 1 : 1u << below(32));
+        break;
+    case 4: put_place(c + EMITTED, below(2) ? emitted + 1 : emitted - 1); break;
+    case 5: put_place(c + RECEIVED, below(2) ? received + 1 : received - 1); break;
+    case 6: put_place(c + EMITTED, received); break; /* as if nothing was held */
+    case 7: /* the sum is right but for a carry out of 32 bits */
+        put_place(c + RECEIVED, below(held ? held : 1));
+        put_place(c + EMITTED, jaxhophasi_place_at(c + RECEIVED) - held);
+        break;
+    default: put_place(held_place(c, below(8)), any()); /* a place, or a count behind them */
+    }
+}
+
 /* A carried state of the sheet, or a damaged one. */
 static void make_configuration(const uint8_t *r, uint8_t *c, int damaged)
 {
@@ -162,13 +237,16 @@ static void make_configuration(const uint8_t *r, uint8_t *c, int damaged)
     for (unsigned e = 0; e < 16; e++)
         if (r[4 + e] == 1)
             symbols[k++] = (uint8_t)e;
-    memset(c, 0, 8);
+    memset(c, 0, JAXHOPHASI_CONFIGURATION_SIZE);
     c[0] = (uint8_t)below(r[0] ? r[0] : 1);
     c[1] = (uint8_t)(k ? below(r[2] + 1u) : 0);
     for (unsigned i = 0; i < c[1] && i < 6; i++)
         c[2 + i] = symbols[below(k)];
-    if (damaged)
-        c[below(8)] = (uint8_t)(below(2) ? below(20) : any());
+    make_counts(c, least(c[1], 6));
+    if (damaged && below(2))
+        damage_counts(c);
+    else if (damaged)
+        c[below(below(2) ? 8 : JAXHOPHASI_CONFIGURATION_SIZE)] = (uint8_t)(below(2) ? below(20) : any());
 }
 
 static uint32_t make_event(const uint8_t *r)
@@ -189,7 +267,7 @@ static size_t make_count(void)
 static void make_client(const uint8_t *r, uint8_t *c)
 {
     unsigned choice = below(16);
-    make_configuration(r, c, choice == 0);
+    make_configuration(r, c, choice == 0 || choice == 2);
     if (choice == 1)
         c[JAXHOPHASI_CONFIGURATION_HELD] = 200;
     if (choice > 9)
@@ -672,7 +750,8 @@ static void solve_by_c_remembering(void)
         ref_solve(record, table_by_c, places, rounds_by_c);
 }
 
-static uint8_t state[8], state_by_c[8], answer[JAXHOPHASI_FED_SIZE], answer_by_c[JAXHOPHASI_FED_SIZE];
+static uint8_t state[JAXHOPHASI_CONFIGURATION_SIZE], state_by_c[JAXHOPHASI_CONFIGURATION_SIZE];
+static uint8_t answer[JAXHOPHASI_FED_SIZE], answer_by_c[JAXHOPHASI_FED_SIZE];
 static uint64_t emitted, emitted_by_c;
 
 typedef uint8_t (*receive_call)(const uint8_t *, const uint32_t *, size_t, uint8_t *, uint32_t, uint8_t *);
@@ -680,10 +759,11 @@ typedef uint8_t (*receive_call)(const uint8_t *, const uint32_t *, size_t, uint8
 /* So many of the events are also received one by one. */
 enum { SINGLE = 200000 };
 
-/* What calls one by one came to, summed: the refusal, and how many symbols were put out. */
+/* What calls one by one came to, summed: the refusal, how many symbols were put out, and the place
+ * of the first. */
 static uint64_t came_to(uint8_t row, const uint8_t *to)
 {
-    return row + ((uint64_t)to[JAXHOPHASI_RECEIVED_COUNT] << 32);
+    return row + ((uint64_t)to[JAXHOPHASI_RECEIVED_COUNT] << 32) + jaxhophasi_place_at(to + JAXHOPHASI_RECEIVED_PLACES);
 }
 
 /* Events one by one from a state on. */
@@ -760,9 +840,9 @@ static void measure(const char *name)
     equal("table", table, table_by_c, 4 * places);
     equal("rounds", rounds, rounds_by_c, 8);
     best_of_singles(events_ours, events_by_c, e);
-    equal("state", state, state_by_c, 8);
+    equal("state", state, state_by_c, sizeof state);
     best_of(30, 2, runs, d);
-    equal("state", state, state_by_c, 8);
+    equal("state", state, state_by_c, sizeof state);
     equal("answer", answer, answer_by_c, 16);
     equal("output", output, output_by_c, EVENTS);
     printf("%-12s | %6lu  %9.2f  %4.2f  %4.2f | %5.1f  %4.2f  %4.2f | %5.2f  %4.2f | %7lu %7lu\n", name, (unsigned long)places,
@@ -810,8 +890,8 @@ static void measure_random(void (*measure_sheet)(const char *), unsigned k, unsi
 
 /* ---- measuring days over lists of clients ---- */
 
-static uint8_t clients[JAXHOPHASI_MAX_CLIENTS][JAXHOPHASI_CONFIGURATION_SIZE];
-static uint8_t clients_by_c[JAXHOPHASI_MAX_CLIENTS][JAXHOPHASI_CONFIGURATION_SIZE];
+_Alignas(4) static uint8_t clients[JAXHOPHASI_MAX_CLIENTS][JAXHOPHASI_CONFIGURATION_SIZE];
+_Alignas(4) static uint8_t clients_by_c[JAXHOPHASI_MAX_CLIENTS][JAXHOPHASI_CONFIGURATION_SIZE];
 static uint8_t fresh[JAXHOPHASI_MAX_CLIENTS][JAXHOPHASI_CONFIGURATION_SIZE];
 static uint32_t clients_now;
 

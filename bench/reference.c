@@ -1,5 +1,5 @@
-/* The rules of document 01, and of document 02's lists of growers and of its feed, in plain C, to
- * compare with and to measure against. */
+/* The rules of document 01, and of document 02's lists of growers, its feed and its places in the
+ * input, in plain C, to compare with and to measure against. */
 #include <string.h>
 
 #include "reference.h"
@@ -9,10 +9,11 @@ int ref_remember = 0;
 
 enum { STATES = 32, SYMBOLS = 16, CAPACITY = 6, CONTROLLABLE = 8, CLIENTS = 500, SERIALS = 65536 };
 
-/* A record that row 11 lets pass (a sheet), and what follows from it. */
+/* A record that row 11 lets pass (a sheet), and what follows from it; the lent table. */
 struct automaton {
     unsigned n, m, b, initial;
     const uint8_t *classes, *accepting, *next;
+    const uint32_t *table;
     unsigned k;                  /* controllable kinds */
     uint8_t symbol[CONTROLLABLE];  /* .. in rising order */
     uint8_t rank[SYMBOLS];         /* .. and the place of each among them */
@@ -20,11 +21,14 @@ struct automaton {
     uint32_t buffers;              /* T */
 };
 
-/* The carried state. */
-struct configuration {
-    unsigned state, held;
-    uint8_t buffer[CAPACITY + 1];
+/* The carried state as it lies: the held kinds, their places in the input, how many events were
+ * accepted and how many kinds put out. (x86-64 has the low byte of a number first. The records of
+ * a list are used where they lie, though they are lent as bytes.) */
+struct __attribute__((may_alias)) configuration {
+    uint8_t state, held, buffer[CAPACITY];
+    uint32_t places[CAPACITY], received, emitted;
 };
+_Static_assert(sizeof(struct configuration) == 40, "no gaps");
 
 static void put(uint8_t *bytes, uint64_t value)
 {
@@ -318,67 +322,85 @@ uint8_t ref_initial(const uint8_t *automaton, uint8_t *configuration)
     struct automaton s;
     if (!automaton_of(automaton, &s))
         return 11;
-    memset(configuration, 0, 8);
+    memset(configuration, 0, 40);
     configuration[0] = (uint8_t)s.initial;
     return 0;
 }
 
-/* Rows 11 and 12: the sheet. */
-static uint8_t opened(const uint8_t *automaton, size_t table_length, struct automaton *s)
+/* Rows 11 and 12: the sheet and its table. */
+static uint8_t opened(const uint8_t *automaton, const uint32_t *table, size_t table_length, struct automaton *s)
 {
     if (!automaton_of(automaton, s))
         return 11;
+    s->table = table;
     return table_length < 2 * (size_t)s->buffers ? 12 : 0;
 }
 
-/* Row 13: the carried state of its eight bytes, or 0. */
-static int configuration_of(const struct automaton *s, const uint8_t *bytes, struct configuration *c)
+/* Whether row 13 lets a carried state pass. */
+static int consistent(const struct automaton *s, const struct configuration *c)
 {
-    c->state = bytes[0];
-    c->held = bytes[1];
-    if (c->state >= s->n || c->held > s->b)
+    uint64_t least = 0;
+    if (c->state >= s->n || c->held > s->b || (uint64_t)c->emitted + c->held != c->received)
         return 0;
     for (unsigned i = 0; i < CAPACITY; i++) {
-        uint8_t e = bytes[2 + i];
-        if (i < c->held ? e >= s->m || s->classes[e] != 1 : e != 0)
+        unsigned e = c->buffer[i];
+        uint32_t place = c->places[i];
+        if (i < c->held ? e >= s->m || s->classes[e] != 1 || place < least || place >= c->received : e || place)
             return 0;
-        c->buffer[i] = e;
+        least = (uint64_t)place + 1;
     }
     return 1;
 }
 
-/* Rows 11 to 13: the sheet and the carried state. */
-static uint8_t entered(const uint8_t *automaton, size_t table_length, const uint8_t *configuration, struct automaton *s,
-    struct configuration *c)
+/* Rows 11 to 13: the sheet, its table and the carried state. */
+static uint8_t entered(const uint8_t *automaton, const uint32_t *table, size_t table_length, const uint8_t *configuration,
+    struct automaton *s, struct configuration *c)
 {
-    uint8_t row = opened(automaton, table_length, s);
-    return row ? row : configuration_of(s, configuration, c) ? 0 : 13;
+    uint8_t row = opened(automaton, table, table_length, s);
+    memcpy(c, configuration, sizeof *c);
+    return row ? row : consistent(s, c) ? 0 : 13;
 }
 
-/* The number of what is left of the hold from a place on. */
-static uint32_t buffer_number(const struct automaton *s, const struct configuration *c, unsigned from)
+/* The number of the held list. */
+static uint32_t buffer_number(const struct automaton *s, const struct configuration *c)
 {
     uint32_t value = 0;
-    for (unsigned i = from; i < c->held; i++)
+    for (unsigned i = 0; i < c->held; i++)
         value = value * s->k + s->rank[c->buffer[i]];
-    return s->first[c->held - from] + value;
+    return s->first[c->held] + value;
 }
 
 uint8_t ref_winning(const uint8_t *automaton, const uint32_t *table, size_t table_length, const uint8_t *configuration,
     uint8_t *answer)
 {
     struct automaton s;
-    struct configuration c = { 0 };
+    struct configuration c;
     answer[0] = 0;
-    uint8_t row = entered(automaton, table_length, configuration, &s, &c);
+    uint8_t row = entered(automaton, table, table_length, configuration, &s, &c);
     if (!row)
-        answer[0] = table[2 * (size_t)buffer_number(&s, &c, 0)] >> c.state & 1;
+        answer[0] = table[2 * (size_t)buffer_number(&s, &c)] >> c.state & 1;
     return row;
 }
 
+/* Takes the first r events out of the hold, and leaves 0 where nothing is held any more. */
+static void drop(struct configuration *c, unsigned r)
+{
+    unsigned left = c->held - r;
+    for (unsigned i = 0; i < left; i++) {
+        c->buffer[i] = c->buffer[i + r];
+        c->places[i] = c->places[i + r];
+    }
+    for (unsigned i = left; i < c->held; i++) {
+        c->buffer[i] = 0;
+        c->places[i] = 0;
+    }
+    c->held = (uint8_t)left;
+}
+
 /* Puts out the longest front part of the hold that brings the state into S of what is left: its
- * length, or -1 where there is none. */
-static int release(const struct automaton *s, const uint32_t *table, struct configuration *c, uint8_t *out)
+ * length, or -1 where there is none. The places of what goes are written to `from`, if it is not
+ * null. */
+static int release(const struct automaton *s, struct configuration *c, uint8_t *out, uint8_t *from)
 {
     uint32_t left[CAPACITY + 1], value = 0, weight = 1;
     unsigned state[CAPACITY + 1];
@@ -392,48 +414,68 @@ static int release(const struct automaton *s, const uint32_t *table, struct conf
     for (unsigned i = 0; i < c->held; i++)
         state[i + 1] = s->next[state[i] * SYMBOLS + c->buffer[i]];
     for (unsigned r = c->held + 1; r-- > 0;)
-        if (table[2 * (size_t)left[r]] >> state[r] & 1) {
+        if (s->table[2 * (size_t)left[r]] >> state[r] & 1) {
             if (r) {
                 memcpy(out, c->buffer, r);
-                memmove(c->buffer, c->buffer + r, c->held - r);
+                if (from)
+                    memcpy(from, c->places, r * sizeof *c->places);
+                drop(c, r);
             }
-            c->held -= r;
-            c->state = state[r];
+            c->state = (uint8_t)state[r];
             return (int)r;
         }
     return -1;
 }
 
-/* Row 14 or 15 of an event, or 0. */
-static uint8_t event_row(const struct automaton *s, const struct configuration *c, uint32_t event)
+/* Row 14, 15 or 23 of an event, where so many were accepted before it; or 0. */
+static uint8_t event_row(const struct automaton *s, const struct configuration *c, uint32_t event, uint32_t received)
 {
     if (event >= s->m)
         return 14;
-    return s->classes[event] && c->held == s->b ? 15 : 0;
+    if (s->classes[event] && c->held == s->b)
+        return 15;
+    return received == UINT32_MAX ? 23 : 0;
 }
 
-/* An event that no row refuses: how many kinds are put out, and whether it is then guarded. */
-static unsigned step(const struct automaton *s, const uint32_t *table, struct configuration *c, uint8_t event, uint8_t *out,
-    int *winning)
+/* What comes of an event: how many kinds are put out, and whether it is then guarded. */
+struct outcome {
+    unsigned count;
+    int winning;
+};
+
+/* An event that no row refuses, at this place in the input. The places of the kinds put out are
+ * written to `from`, if it is not null. (The two counts are left to the caller.) */
+static struct outcome step(const struct automaton *s, struct configuration *c, uint8_t event, uint32_t place, uint8_t *out,
+    uint8_t *from)
 {
     unsigned count = 0;
-    if (s->classes[event])
+    if (s->classes[event]) {
+        c->places[c->held] = place;
         c->buffer[c->held++] = event;
-    else {
+    } else {
         out[count++] = event;
         c->state = s->next[c->state * SYMBOLS + event];
+        if (from) {
+            memcpy(from, &place, sizeof place);
+            from += sizeof place;
+        }
     }
-    int r = release(s, table, c, out + count);
-    *winning = r >= 0;
-    return r > 0 ? count + (unsigned)r : count;
+    int r = release(s, c, out + count, from);
+    return (struct outcome){ r > 0 ? count + (unsigned)r : count, r >= 0 };
 }
 
-static void hand_back(const struct configuration *c, uint8_t *configuration)
+/* An event over an answer of zeros: rows 14, 15, 23, or 0. */
+static uint8_t answered(const struct automaton *s, struct configuration *c, uint32_t event, uint8_t *answer)
 {
-    configuration[0] = (uint8_t)c->state;
-    configuration[1] = (uint8_t)c->held;
-    for (unsigned i = 0; i < CAPACITY; i++)
-        configuration[2 + i] = i < c->held ? c->buffer[i] : 0;
+    uint8_t row = event_row(s, c, event, c->received);
+    if (row)
+        return row;
+    struct outcome came = step(s, c, (uint8_t)event, c->received, answer, answer + 9);
+    c->received++;
+    c->emitted += came.count;
+    answer[7] = (uint8_t)came.count;
+    answer[8] = (uint8_t)came.winning;
+    return 0;
 }
 
 uint8_t ref_receive(const uint8_t *automaton, const uint32_t *table, size_t table_length, uint8_t *configuration, uint32_t event,
@@ -441,14 +483,11 @@ uint8_t ref_receive(const uint8_t *automaton, const uint32_t *table, size_t tabl
 {
     struct automaton s;
     struct configuration c;
-    int winning;
-    memset(answer, 0, 9);
-    uint8_t row = entered(automaton, table_length, configuration, &s, &c);
-    if (row || (row = event_row(&s, &c, event)))
+    memset(answer, 0, 37);
+    uint8_t row = entered(automaton, table, table_length, configuration, &s, &c);
+    if (row || (row = answered(&s, &c, event, answer)))
         return row;
-    answer[7] = (uint8_t)step(&s, table, &c, (uint8_t)event, answer, &winning);
-    answer[8] = (uint8_t)winning;
-    hand_back(&c, configuration);
+    memcpy(configuration, &c, sizeof c);
     return 0;
 }
 
@@ -457,97 +496,98 @@ uint8_t ref_run(const uint8_t *automaton, const uint32_t *table, size_t table_le
 {
     struct automaton s;
     struct configuration c;
-    int winning;
     size_t used = 0, refused = 0;
     put_ran(answer, 0, 0);
-    uint8_t row = entered(automaton, table_length, configuration, &s, &c);
+    uint8_t row = entered(automaton, table, table_length, configuration, &s, &c);
     if (row)
         return row;
     if (out_length < c.held || out_length - c.held < events_length)
         return 16;
+    uint32_t received = c.received;
     for (size_t i = 0; i < events_length; i++) {
-        if (event_row(&s, &c, events[i]))
+        if (event_row(&s, &c, events[i], received))
             refused++;
         else
-            used += step(&s, table, &c, (uint8_t)events[i], out + used, &winning);
+            used += step(&s, &c, (uint8_t)events[i], received++, out + used, 0).count;
     }
-    hand_back(&c, configuration);
+    c.received = received;
+    c.emitted += (uint32_t)used;
+    memcpy(configuration, &c, sizeof c);
     put_ran(answer, used, refused);
     return 0;
 }
 
-/* Rows 11, 12 and 20: the sheet that a list of clients shares. */
-static uint8_t opened_for(const uint8_t *automaton, size_t table_length, size_t clients, struct automaton *s)
+/* Rows 11, 12 and 20: the sheet that a list of clients shares, and its table. */
+static uint8_t opened_for(const uint8_t *automaton, const uint32_t *table, size_t table_length, size_t clients,
+    struct automaton *s)
 {
-    uint8_t row = opened(automaton, table_length, s);
+    uint8_t row = opened(automaton, table, table_length, s);
     return row ? row : clients < 1 || clients > CLIENTS ? 20 : 0;
 }
 
-/* Row 19 of a client, then rows 13 to 15 of its carried state and an event, or 0. */
-static uint8_t event_row_for(const struct automaton *s, uint8_t (*configurations)[8], size_t clients, size_t client,
-    uint32_t event, struct configuration *c)
+/* The carried states of a list of clients. */
+static struct configuration *list_of(uint8_t (*configurations)[40])
 {
-    if (client >= clients)
-        return 19;
-    return configuration_of(s, configurations[client], c) ? event_row(s, c, event) : 13;
+    return (struct configuration *)(void *)configurations;
 }
 
-/* An event for a client, over an answer of zeros: rows 19, 13, 14, 15, or 0. */
-static uint8_t step_for(const struct automaton *s, const uint32_t *table, uint8_t (*configurations)[8], size_t clients,
-    uint32_t client, uint32_t event, uint8_t *answer)
+/* Row 19 of a client, then row 13 of its carried state, or 0. */
+static uint8_t client_row(const struct automaton *s, const struct configuration *list, size_t clients, size_t client)
 {
-    struct configuration c;
-    int winning;
-    uint8_t row = event_row_for(s, configurations, clients, client, event, &c);
-    if (row)
-        return row;
-    answer[7] = (uint8_t)step(s, table, &c, (uint8_t)event, answer, &winning);
-    answer[8] = (uint8_t)winning;
-    hand_back(&c, configurations[client]);
-    return 0;
+    return client >= clients ? 19 : consistent(s, &list[client]) ? 0 : 13;
 }
 
-uint8_t ref_receive_for(const uint8_t *automaton, const uint32_t *table, size_t table_length, uint8_t (*configurations)[8],
+/* An event for a client, over an answer of zeros: rows 19, 13, 14, 15, 23, or 0. */
+static uint8_t answered_for(const struct automaton *s, struct configuration *list, size_t clients, uint32_t client,
+    uint32_t event, uint8_t *answer)
+{
+    uint8_t row = client_row(s, list, clients, client);
+    return row ? row : answered(s, &list[client], event, answer);
+}
+
+uint8_t ref_receive_for(const uint8_t *automaton, const uint32_t *table, size_t table_length, uint8_t (*configurations)[40],
     size_t configurations_length, uint32_t client, uint32_t event, uint8_t *answer)
 {
     struct automaton s;
-    memset(answer, 0, 9);
-    uint8_t row = opened_for(automaton, table_length, configurations_length, &s);
-    return row ? row : step_for(&s, table, configurations, configurations_length, client, event, answer);
+    memset(answer, 0, 37);
+    uint8_t row = opened_for(automaton, table, table_length, configurations_length, &s);
+    return row ? row : answered_for(&s, list_of(configurations), configurations_length, client, event, answer);
 }
 
 /* How many events all clients hold; a carried state that row 13 refuses holds none. */
-static size_t held_by_all(const struct automaton *s, uint8_t (*configurations)[8], size_t clients)
+static size_t held_by_all(const struct automaton *s, const struct configuration *list, size_t clients)
 {
-    struct configuration c;
     size_t held = 0;
     for (size_t i = 0; i < clients; i++)
-        if (configuration_of(s, configurations[i], &c))
-            held += c.held;
+        if (consistent(s, &list[i]))
+            held += list[i].held;
     return held;
 }
 
-uint8_t ref_run_for(const uint8_t *automaton, const uint32_t *table, size_t table_length, uint8_t (*configurations)[8],
+uint8_t ref_run_for(const uint8_t *automaton, const uint32_t *table, size_t table_length, uint8_t (*configurations)[40],
     size_t configurations_length, const uint32_t *events, size_t events_length, uint8_t *out, size_t out_length, uint8_t *answer)
 {
     struct automaton s;
-    struct configuration c;
-    int winning;
+    struct configuration *list = list_of(configurations);
     size_t used = 0, refused = 0;
     put_ran(answer, 0, 0);
-    uint8_t row = opened_for(automaton, table_length, configurations_length, &s);
+    uint8_t row = opened_for(automaton, table, table_length, configurations_length, &s);
     if (row)
         return row;
-    size_t held = held_by_all(&s, configurations, configurations_length);
+    size_t held = held_by_all(&s, list, configurations_length);
     if (out_length < held || out_length - held < events_length)
         return 16;
     for (size_t i = 0; i < events_length; i++) {
         uint32_t client = events[i] / 65536, event = events[i] % 65536;
-        if (event_row_for(&s, configurations, configurations_length, client, event, &c))
+        if (client_row(&s, list, configurations_length, client) ||
+            event_row(&s, &list[client], event, list[client].received))
             refused++;
         else {
-            used += step(&s, table, &c, (uint8_t)event, out + used, &winning);
-            hand_back(&c, configurations[client]);
+            struct configuration *c = &list[client];
+            unsigned count = step(&s, c, (uint8_t)event, c->received, out + used, 0).count;
+            c->received++;
+            c->emitted += count;
+            used += count;
         }
     }
     put_ran(answer, used, refused);
@@ -576,30 +616,30 @@ static uint8_t serial_row(const uint8_t *expected, uint32_t serial, uint32_t *lo
     return *lost >= SERIALS / 2 ? 22 : 0;
 }
 
-uint8_t ref_feed(const uint8_t *automaton, const uint32_t *table, size_t table_length, uint8_t (*configurations)[8],
+uint8_t ref_feed(const uint8_t *automaton, const uint32_t *table, size_t table_length, uint8_t (*configurations)[40],
     size_t configurations_length, const uint8_t *bytes, size_t bytes_length, uint8_t *expected, uint8_t *answer)
 {
     struct automaton s;
     uint32_t numbers[3], lost = 0;
     size_t at;
-    memset(answer, 0, 25);
-    uint8_t row = opened_for(automaton, table_length, configurations_length, &s);
+    memset(answer, 0, 53);
+    uint8_t row = opened_for(automaton, table, table_length, configurations_length, &s);
     if (row)
         return row;
     row = record_of(bytes, bytes_length, numbers, &at);
     if (row) {
-        put(answer + 17, at);
+        put(answer + 45, at);
         return row;
     }
     row = serial_row(expected, numbers[0], &lost);
     if (row)
         return row;
-    put(answer + 9, lost);
+    put(answer + 37, lost);
     uint32_t next = (numbers[0] + 1) % SERIALS;
     expected[0] = 1;
     expected[1] = (uint8_t)next;
     expected[2] = (uint8_t)(next >> 8);
-    return step_for(&s, table, configurations, configurations_length, numbers[1], numbers[2], answer);
+    return answered_for(&s, list_of(configurations), configurations_length, numbers[1], numbers[2], answer);
 }
 
 static int can_rest(const struct automaton *s, const uint8_t *held, unsigned count, unsigned rounds, unsigned q);
@@ -624,9 +664,9 @@ static int can_rest(const struct automaton *s, const uint8_t *held, unsigned cou
 uint8_t ref_judge(const uint8_t *automaton, const uint8_t *configuration, uint8_t *answer)
 {
     struct automaton s;
-    struct configuration c = { 0 };
+    struct configuration c;
     answer[0] = answer[1] = 0;
-    uint8_t row = entered(automaton, SIZE_MAX, configuration, &s, &c);
+    uint8_t row = entered(automaton, 0, SIZE_MAX, configuration, &s, &c);
     if (row)
         return row;
     if (s.n > 4 || s.m - s.k > 2 || c.held > 3)

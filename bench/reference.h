@@ -25,11 +25,11 @@ uint8_t ref_receive(const uint8_t *automaton, const uint32_t *table, size_t tabl
     uint8_t *answer);
 uint8_t ref_run(const uint8_t *automaton, const uint32_t *table, size_t table_length, uint8_t *configuration,
     const uint32_t *events, size_t events_length, uint8_t *out, size_t out_length, uint8_t *answer);
-uint8_t ref_receive_for(const uint8_t *automaton, const uint32_t *table, size_t table_length, uint8_t (*configurations)[8],
+uint8_t ref_receive_for(const uint8_t *automaton, const uint32_t *table, size_t table_length, uint8_t (*configurations)[40],
     size_t configurations_length, uint32_t client, uint32_t event, uint8_t *answer);
-uint8_t ref_run_for(const uint8_t *automaton, const uint32_t *table, size_t table_length, uint8_t (*configurations)[8],
+uint8_t ref_run_for(const uint8_t *automaton, const uint32_t *table, size_t table_length, uint8_t (*configurations)[40],
     size_t configurations_length, const uint32_t *events, size_t events_length, uint8_t *out, size_t out_length, uint8_t *answer);
-uint8_t ref_feed(const uint8_t *automaton, const uint32_t *table, size_t table_length, uint8_t (*configurations)[8],
+uint8_t ref_feed(const uint8_t *automaton, const uint32_t *table, size_t table_length, uint8_t (*configurations)[40],
     size_t configurations_length, const uint8_t *bytes, size_t bytes_length, uint8_t *expected, uint8_t *answer);
 uint8_t ref_judge(const uint8_t *automaton, const uint8_t *configuration, uint8_t *answer);
 

@@ -13,8 +13,9 @@ import re
 import sys
 
 sys.dont_write_bytecode = True  # nothing is left beside the examples
-from day import CONFIGURATION_SIZE, RAN_SIZE, RECEIVED_SIZE
-from day import lent, library_at, number_at, number_of, numbers, printed, read, read_file, received, solve, stop, symbols
+from day import RAN_SIZE, RECEIVED_SIZE, Configuration
+from day import carried_state, lent, library_at, number_at, number_of, numbers, printed, read, read_file, received, solve
+from day import stop, symbols
 
 
 class Growers:
@@ -27,27 +28,23 @@ class Growers:
 
     def begin(self):
         """Every grower begins anew."""
-        fresh = lent(CONFIGURATION_SIZE)
-        self.library.jaxhophasi_initial(self.automaton, fresh)
-        self.list = lent(CONFIGURATION_SIZE * (self.count + 1))  # one more: it is nowhere empty
-        self.list[:CONFIGURATION_SIZE * self.count] = fresh[:] * self.count
-
-    def configuration(self, grower):
-        """The carried state of a grower."""
-        return self.list[CONFIGURATION_SIZE * grower:CONFIGURATION_SIZE * (grower + 1)]
+        self.list = (Configuration * (self.count + 1))()  # one more: it is nowhere empty
+        for grower in range(self.count):
+            self.library.jaxhophasi_initial(self.automaton, self.list[grower])
 
     def shared(self):
         """What all calls over growers begin with."""
         return self.automaton, self.table, self.places, self.list, self.count
 
     def event(self, row, grower, kind, answer):
-        """What came of a grower's event: the grower, then as the day program prints it."""
-        return "grower {}: in {} {}".format(grower, kind, received(row, answer, self.configuration(grower)))
+        """A grower's event: the grower and the kind, then what came of it."""
+        configuration = self.list[grower] if row == 0 else None
+        return "grower {}: in {} {}".format(grower, kind, received(row, answer, configuration))
 
     def print_all(self):
         """Where each grower stands."""
         for grower in range(self.count):
-            print("grower {}: state {} held {}".format(grower, *self.configuration(grower)[:2]))
+            print("grower {}: {}".format(grower, carried_state(self.list[grower])))
 
 
 def print_events(growers, events):

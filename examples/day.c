@@ -8,7 +8,7 @@
 #define PROGRAM "day"
 #include "example.h"
 
-/* One event, as the day program prints it. */
+/* One event: the kind, then what came of it. */
 static void print_event(const uint8_t *automaton, const uint32_t *table, size_t places, uint8_t *configuration, uint32_t event)
 {
     uint8_t answer[JAXHOPHASI_RECEIVED_SIZE];
@@ -20,7 +20,7 @@ static void print_event(const uint8_t *automaton, const uint32_t *table, size_t 
         print_answer(answer, configuration);
 }
 
-/* The whole day: all that is put out, the state, how many events were refused. */
+/* The whole day: all that is put out, the carried state, how many events were refused. */
 static void print_day(const uint8_t *automaton, const uint32_t *table, size_t places, const uint32_t *events, size_t count)
 {
     uint8_t configuration[JAXHOPHASI_CONFIGURATION_SIZE], answer[JAXHOPHASI_RAN_SIZE];
@@ -32,7 +32,7 @@ static void print_day(const uint8_t *automaton, const uint32_t *table, size_t pl
     else {
         printf("day out");
         print_symbols(out, jaxhophasi_number_at(answer + JAXHOPHASI_RAN_LENGTH));
-        print_state(configuration);
+        print_carried(configuration);
         printf(" refused %u\n", (unsigned)jaxhophasi_number_at(answer + JAXHOPHASI_RAN_REFUSED));
     }
     free(out);

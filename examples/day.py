@@ -14,9 +14,25 @@ import re
 import signal
 import sys
 
-AUTOMATON_SIZE, CONFIGURATION_SIZE, NUMBER_SIZE, STATUS_SIZE, RECEIVED_SIZE, RAN_SIZE, VERDICT_SIZE = 564, 8, 8, 1, 9, 16, 2
-EXPECTED_SIZE, FED_SIZE = 3, 25
+AUTOMATON_SIZE, NUMBER_SIZE, PLACE_SIZE, STATUS_SIZE, RECEIVED_SIZE, RAN_SIZE, VERDICT_SIZE = 564, 8, 4, 1, 37, 16, 2
+EXPECTED_SIZE, FED_SIZE = 3, 53
+RECEIVED_PLACES = 9  # where the places begin in the answer to an event
 BYTES_READ = 3 * 564 + 1  # one byte more than a sheet can have
+
+
+class Configuration(ctypes.LittleEndianStructure):
+    """A carried state, 40 bytes: the state, how many are held, their kinds, their places among the
+    accepted events, how many events were accepted and how many kinds put out. (A list of them is
+    aligned to 4 bytes.)"""
+
+    _fields_ = [
+        ("state", ctypes.c_uint8),
+        ("held", ctypes.c_uint8),
+        ("buffer", ctypes.c_uint8 * 6),
+        ("places", ctypes.c_uint32 * 6),
+        ("received", ctypes.c_uint32),
+        ("emitted", ctypes.c_uint32),
+    ]
 
 
 def stop(status, name, fault):
@@ -41,8 +57,13 @@ def filled(values):
     return (ctypes.c_uint8 * (len(values) + 1))(*values)
 
 
-def number_at(answer, offset=0):
-    return int.from_bytes(bytes(answer[offset:offset + NUMBER_SIZE]), "little")
+def number_at(answer, offset=0, size=NUMBER_SIZE):
+    return int.from_bytes(bytes(answer[offset:offset + size]), "little")
+
+
+def places_at(answer, count):
+    """The places of as many kinds put out, in the answer to an event."""
+    return [number_at(answer, RECEIVED_PLACES + PLACE_SIZE * i, PLACE_SIZE) for i in range(count)]
 
 
 def library_at(path):
@@ -52,19 +73,20 @@ def library_at(path):
     except OSError as error:
         stop(2, "", str(error))
     byte, word, size = ctypes.POINTER(ctypes.c_uint8), ctypes.POINTER(ctypes.c_uint32), ctypes.c_size_t
+    carried = ctypes.POINTER(Configuration)  # one or a list
     for name, types in {
         "read": [byte, size, byte, byte],
         "write": [byte, byte, size, byte],
         "buffers_count": [byte, byte],
         "solve": [byte, word, size, byte],
-        "initial": [byte, byte],
-        "winning": [byte, word, size, byte, byte],
-        "receive": [byte, word, size, byte, ctypes.c_uint32, byte],
-        "run": [byte, word, size, byte, word, size, byte, size, byte],
-        "judge": [byte, byte, byte],
-        "receive_for": [byte, word, size, byte, size, ctypes.c_uint32, ctypes.c_uint32, byte],
-        "run_for": [byte, word, size, byte, size, word, size, byte, size, byte],
-        "feed": [byte, word, size, byte, size, byte, size, byte, byte],
+        "initial": [byte, carried],
+        "winning": [byte, word, size, carried, byte],
+        "receive": [byte, word, size, carried, ctypes.c_uint32, byte],
+        "run": [byte, word, size, carried, word, size, byte, size, byte],
+        "judge": [byte, carried, byte],
+        "receive_for": [byte, word, size, carried, size, ctypes.c_uint32, ctypes.c_uint32, byte],
+        "run_for": [byte, word, size, carried, size, word, size, byte, size, byte],
+        "feed": [byte, word, size, carried, size, byte, size, byte, byte],
     }.items():
         function = getattr(library, "jaxhophasi_" + name, None) or stop(2, path, "no function jaxhophasi_" + name)
         function.argtypes, function.restype = types, ctypes.c_uint8
@@ -73,6 +95,11 @@ def library_at(path):
 
 def symbols(values):
     return " ".join(str(v) for v in values) or "-"
+
+
+def came_from(places):
+    """Where kinds came from: their places among the accepted events, from 0."""
+    return " from " + symbols(places) if places else ""
 
 
 def yes(flag):
@@ -109,7 +136,7 @@ def read(library, path):
 
 def solve(library, automaton):
     """Solves a sheet and prints its lines; the table and its length."""
-    number, configuration, winning = lent(NUMBER_SIZE), lent(CONFIGURATION_SIZE), lent(STATUS_SIZE)
+    number, configuration, winning = lent(NUMBER_SIZE), Configuration(), lent(STATUS_SIZE)
     library.jaxhophasi_buffers_count(automaton, number)
     places = 2 * number_at(number)
     table = numbers([0] * places)
@@ -121,16 +148,31 @@ def solve(library, automaton):
     return table, places
 
 
+def state(configuration):
+    return "state {} held {}".format(configuration.state, configuration.held)
+
+
+def carried_state(configuration):
+    """A carried state: with where the held ones came from, how many came in and went out."""
+    held_from = came_from(configuration.places[:configuration.held])
+    return "{}{} came in {} went out {}".format(
+        state(configuration), held_from, configuration.received, configuration.emitted)
+
+
 def received(row, answer, configuration):
-    """What an event answers and leaves, as the day program prints it."""
+    """What an event answers and leaves, as the day program prints it, and with places: its own,
+    which is the last that was given, and where each kind put out came from."""
     if row:
         return "refused {}".format(row)
-    return "out {} state {} held {} guarded {}".format(symbols(answer[:answer[7]]), *configuration[:2], yes(answer[8]))
+    count = answer[7]
+    put_out = symbols(answer[:count]) + came_from(places_at(answer, count))
+    return "place {} out {} {} guarded {}".format(
+        configuration.received - 1, put_out, state(configuration), yes(answer[8]))
 
 
 def print_events(library, automaton, table, places, events):
-    """One event after the other, as the day program prints them."""
-    configuration, answer = lent(CONFIGURATION_SIZE), lent(RECEIVED_SIZE)
+    """One event after the other."""
+    configuration, answer = Configuration(), lent(RECEIVED_SIZE)
     library.jaxhophasi_initial(automaton, configuration)
     for event in events:
         row = library.jaxhophasi_receive(automaton, table, places, configuration, event, answer)
@@ -138,15 +180,14 @@ def print_events(library, automaton, table, places, events):
 
 
 def print_day(library, automaton, table, places, events):
-    """The whole day: all that is put out, the state, how many events were refused."""
-    configuration, answer, out = lent(CONFIGURATION_SIZE), lent(RAN_SIZE), lent(len(events) + 1)
+    """The whole day: all that is put out, the carried state, how many events were refused."""
+    configuration, answer, out = Configuration(), lent(RAN_SIZE), lent(len(events) + 1)
     library.jaxhophasi_initial(automaton, configuration)
     row = library.jaxhophasi_run(automaton, table, places, configuration, numbers(events), len(events), out, len(events), answer)
     if row:
         print("day refused", row)
     else:
-        emitted = symbols(out[:number_at(answer)])
-        print("day out", emitted, "state", configuration[0], "held", configuration[1], "refused", number_at(answer, 8))
+        print("day out", symbols(out[:number_at(answer)]), carried_state(configuration), "refused", number_at(answer, 8))
 
 
 def run_sheet(library, path, events):

@@ -53,18 +53,39 @@ static void print_symbols(const uint8_t *symbols, size_t count)
         printf(" %u", symbols[i]);
 }
 
+/* Where as many kinds came from: their places among the accepted events, from 0. */
+static void print_places(const uint8_t *places, size_t count)
+{
+    if (count)
+        printf(" from");
+    for (size_t i = 0; i < count; i++)
+        printf(" %u", jaxhophasi_place_at(places + i * JAXHOPHASI_PLACE_SIZE));
+}
+
 static void print_state(const uint8_t *configuration)
 {
     printf(" state %u held %u", configuration[JAXHOPHASI_CONFIGURATION_STATE], configuration[JAXHOPHASI_CONFIGURATION_HELD]);
 }
 
-/* What an accepted event answers and leaves, as the day program prints it. */
+/* What an accepted event answers and leaves, as the day program prints it, and with places: its
+ * own, which is the last that was given, and where each kind put out came from. */
 static void print_answer(const uint8_t *answer, const uint8_t *configuration)
 {
-    printf(" out");
-    print_symbols(answer + JAXHOPHASI_RECEIVED_EMITTED, answer[JAXHOPHASI_RECEIVED_COUNT]);
+    size_t count = answer[JAXHOPHASI_RECEIVED_COUNT];
+    printf(" place %u out", jaxhophasi_place_at(configuration + JAXHOPHASI_CONFIGURATION_RECEIVED) - 1);
+    print_symbols(answer + JAXHOPHASI_RECEIVED_EMITTED, count);
+    print_places(answer + JAXHOPHASI_RECEIVED_PLACES, count);
     print_state(configuration);
     printf(" guarded %s\n", answer[JAXHOPHASI_RECEIVED_WINNING] ? "yes" : "no");
+}
+
+/* A carried state: with where the held ones came from, how many came in and went out. */
+static void print_carried(const uint8_t *configuration)
+{
+    print_state(configuration);
+    print_places(configuration + JAXHOPHASI_CONFIGURATION_PLACES, configuration[JAXHOPHASI_CONFIGURATION_HELD]);
+    printf(" came in %u went out %u", jaxhophasi_place_at(configuration + JAXHOPHASI_CONFIGURATION_RECEIVED),
+        jaxhophasi_place_at(configuration + JAXHOPHASI_CONFIGURATION_EMITTED));
 }
 
 /* As many of a file's bytes as a sheet can have, and one more. */

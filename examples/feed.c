@@ -10,7 +10,7 @@
  *
  * Printed, after the sheet's two lines, a line for each record, by its serial:
  *
- *   record 7: lost 2 grower 0: in 3 out 2 3 state 1 held 0 guarded yes     let in
+ *   record 7: lost 2 grower 0: in 3 place 4 out 2 3 from 3 4 state 1 held 0 guarded yes     let in
  *   record 7: lost 2 grower 0: in 9 refused 14      let in, and then its event was refused
  *   record 7: refused 22                            not let in; the expected serial stays
  *   record 7: refused 1 at 2                        .. with the place in the record's bytes
@@ -43,7 +43,7 @@ static size_t pack(const struct line *line, uint8_t bytes[3 * MOST_NUMBERS])
 static int let_in(uint8_t row)
 {
     return row == JAXHOPHASI_FINE || row == JAXHOPHASI_NO_CLIENT || row == JAXHOPHASI_BAD_CONFIGURATION ||
-        row == JAXHOPHASI_BAD_EVENT || row == JAXHOPHASI_BUFFER_FULL;
+        row == JAXHOPHASI_BAD_EVENT || row == JAXHOPHASI_BUFFER_FULL || row == JAXHOPHASI_INPUT_COUNT_END;
 }
 
 static void print_refusal(uint8_t row, const uint8_t *answer)

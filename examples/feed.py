@@ -10,7 +10,7 @@ refuses it.
 
 Printed, after the sheet's two lines, a line for each record, by its serial:
 
-    record 7: lost 2 grower 0: in 3 out 2 3 state 1 held 0 guarded yes     let in
+    record 7: lost 2 grower 0: in 3 place 4 out 2 3 from 3 4 state 1 held 0 guarded yes     let in
     record 7: lost 2 grower 0: in 9 refused 14      let in, and then its event was refused
     record 7: refused 22                            not let in; the expected serial stays
     record 7: refused 1 at 2                        .. with the place in the record's bytes
@@ -26,7 +26,7 @@ sys.dont_write_bytecode = True  # nothing is left beside the examples
 from clients import over_growers
 from day import EXPECTED_SIZE, FED_SIZE, filled, lent, number_at
 
-LET_IN = 0, 19, 13, 14, 15  # nothing is refused, or only the record's event is
+LET_IN = 0, 19, 13, 14, 15, 23  # nothing is refused, or only the record's event is
 PLACED = 1, 2, 10  # rows that have a place
 
 
@@ -46,9 +46,9 @@ def print_record(growers, values, expected):
     packed, answer = pack(values), lent(FED_SIZE)
     row = growers.library.jaxhophasi_feed(*growers.shared(), filled(packed), len(packed), expected, answer)
     if row in LET_IN:
-        came = "lost {} {}".format(number_at(answer, 9), growers.event(row, *values[1:], answer))
+        came = "lost {} {}".format(number_at(answer, 37), growers.event(row, *values[1:], answer))
     else:
-        came = "refused {}".format(row) + (" at {}".format(number_at(answer, 17)) if row in PLACED else "")
+        came = "refused {}".format(row) + (" at {}".format(number_at(answer, 45)) if row in PLACED else "")
     print("record {}: {}".format(values[0], came))
 
 

@@ -10,7 +10,8 @@
 
 enum { MOST_GROWERS = 65535, MOST_NUMBERS = 4 };
 
-/* What the growers share, and the carried state of each. */
+/* What the growers share, and the carried state of each. (The list must be aligned to 4 bytes;
+ * memory that is allocated is.) */
 struct growers {
     uint8_t automaton[JAXHOPHASI_AUTOMATON_SIZE];
     uint32_t *table;
@@ -25,7 +26,7 @@ static void begin(const struct growers *g)
         jaxhophasi_initial(g->automaton, g->list[i]);
 }
 
-/* What came of a grower's event: the grower, then as the day program prints it. */
+/* A grower's event: the grower and the kind, then what came of it. */
 static void print_event(const struct growers *g, uint8_t row, uint32_t grower, uint32_t kind, const uint8_t *answer)
 {
     printf("grower %u: in %u", grower, kind);
@@ -40,7 +41,7 @@ static void print_growers(const struct growers *g)
 {
     for (size_t i = 0; i < g->count; i++) {
         printf("grower %zu:", i);
-        print_state(g->list[i]);
+        print_carried(g->list[i]);
         printf("\n");
     }
 }

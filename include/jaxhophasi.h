@@ -4,20 +4,21 @@
  * Link target/staticlib/libjaxhophasi.a, which `rt staticlib jaxhophasi` writes (Linux on x86-64).
  *
  * Every function returns the number of refusal, 0 where nothing is refused. In a refused call's
- * answer every count, length and yes-or-no is 0; the lent carried state or list of them, expected
- * serial, table and output keep their contents (the same bytes may be stored again). A refused
- * read leaves an all-zero record and the place of the fault. One exception: where 19, 13, 14 or 15
- * refuses the event of a feed's record, that record was let in, so the answer has its loss and the
- * lent expected serial moves on.
+ * answer every count, length, place in the input and yes-or-no is 0; the lent carried state or
+ * list of them, expected serial, table and output keep their contents (the same bytes may be
+ * stored again). A refused read leaves an all-zero record and the place of the fault. One
+ * exception: where 19, 13, 14, 15 or 23 refuses the event of a feed's record, that record was let
+ * in, so the answer has its loss and the lent expected serial moves on.
  *
  * What is lent: a fixed array is a plain pointer to as many bytes as its constant says; a list is
  * a pointer and then the number of its elements. A list may be of any length and all of it may
- * hold anything. No pointer is null, also where a list is empty; lists of uint32_t are aligned as
- * C wants them. What a call may write (a pointer without const) overlaps nothing else that is lent
- * to the same call. Nothing is kept after the call and nothing is allocated. Calls may run at the
- * same time where none writes what another is lent: a record and a table may be shared by all that
- * only read them; a list of carried states is lent whole, so no two calls at a time on one list,
- * also for different clients.
+ * hold anything. No pointer is null, also where a list is empty. Lists of uint32_t are aligned as
+ * C wants them, and so are lists of carried states, to 4 bytes; a fixed array may begin anywhere.
+ * What a call may write (a pointer without const) overlaps nothing else that is lent to the same
+ * call. Nothing is kept after the call and nothing is allocated. Calls may run at the same time
+ * where none writes what another is lent: a record and a table may be shared by all that only read
+ * them; a list of carried states is lent whole, so no two calls at a time on one list, also for
+ * different clients.
  */
 #ifndef JAXHOPHASI_H
 #define JAXHOPHASI_H
@@ -32,8 +33,8 @@ extern "C" {
 /* The version of this interface: the first number is raised where a caller must change something
  * or may see another answer, the second where calls are added, the third at every other change.
  * The three are also one number, 10000 for 1.0.0 and 10203 for 1.2.3. */
-#define JAXHOPHASI_VERSION_MAJOR 1
-#define JAXHOPHASI_VERSION_MINOR 2
+#define JAXHOPHASI_VERSION_MAJOR 2
+#define JAXHOPHASI_VERSION_MINOR 0
 #define JAXHOPHASI_VERSION_PATCH 0
 #define JAXHOPHASI_VERSION \
     (JAXHOPHASI_VERSION_MAJOR * 10000 + JAXHOPHASI_VERSION_MINOR * 100 + JAXHOPHASI_VERSION_PATCH)
@@ -51,16 +52,34 @@ extern "C" {
 #define JAXHOPHASI_MAX_STATES 32
 #define JAXHOPHASI_MAX_SYMBOLS 16
 
-/* The carried state. Unused places of the hold are 0. */
-#define JAXHOPHASI_CONFIGURATION_SIZE 8
-#define JAXHOPHASI_CONFIGURATION_STATE 0
-#define JAXHOPHASI_CONFIGURATION_HELD 1   /* how many are held */
-#define JAXHOPHASI_CONFIGURATION_BUFFER 2 /* 6: the held kinds, first in first */
+/* A place in the input, and a count of events: four bytes, low byte first. The accepted events are
+ * counted from 0, so the place of an accepted event is how many were accepted before it; a refused
+ * event has none. */
+#define JAXHOPHASI_PLACE_SIZE 4
 
-/* Many clients (growers) share one sheet and one table; each has a carried state of its own in one
- * lent list. The carried states lie one after the other, eight bytes each, the first client's
- * first: that of client c is configurations[c], which begins c * JAXHOPHASI_CONFIGURATION_SIZE
- * bytes on, and has its state, its count and its hold at the three offsets above. The list's
+/* The place or the count that stands there. */
+static inline uint32_t jaxhophasi_place_at(const uint8_t *bytes)
+{
+    return bytes[0] | (uint32_t)bytes[1] << 8 | (uint32_t)bytes[2] << 16 | (uint32_t)bytes[3] << 24;
+}
+
+/* The carried state. The held places rise strictly and are below the input count; what was put out
+ * (passed events too) and what is held make up the input count. Unused places of the hold are 0,
+ * and so is the place in the input of each. A fresh one has both counts 0. */
+#define JAXHOPHASI_CONFIGURATION_SIZE 40
+#define JAXHOPHASI_CONFIGURATION_STATE 0
+#define JAXHOPHASI_CONFIGURATION_HELD 1      /* how many are held */
+#define JAXHOPHASI_CONFIGURATION_BUFFER 2    /* 6: the held kinds, first in first */
+#define JAXHOPHASI_CONFIGURATION_PLACES 8    /* 6 * 4: the place in the input of each of them */
+#define JAXHOPHASI_CONFIGURATION_RECEIVED 32 /* 4: the input count, how many were accepted */
+#define JAXHOPHASI_CONFIGURATION_EMITTED 36  /* 4: the output count, how many were put out */
+
+/* Many clients (growers) share one sheet and one table; each has a carried state of its own, with
+ * counts of its own, in one lent list. The carried states lie one after the other, forty bytes
+ * each, the first client's first: that of client c is configurations[c], which begins c *
+ * JAXHOPHASI_CONFIGURATION_SIZE bytes on, and has its parts at the six offsets above. They are
+ * records with 4-byte numbers inside, so the list begins at an address that 4 divides: memory from
+ * malloc does, an array of bytes is declared with _Alignas(4) (in C++ alignas(4)). The list's
  * length is the number of clients (not of bytes), 1 to JAXHOPHASI_MAX_CLIENTS. A fresh list has at
  * each place what jaxhophasi_initial gives. (Zeros alone are no fresh list: state 0 need not be
  * the start, and no row refuses it.) */
@@ -92,7 +111,7 @@ extern "C" {
                                       * other number: one is (1 where the call wrote it) */
 #define JAXHOPHASI_EXPECTED_SERIAL 1 /* 2: the serial, low byte first */
 
-/* A number in an answer: eight bytes, low byte first. */
+/* A number in an answer, if it is no place in the input: eight bytes, low byte first. */
 #define JAXHOPHASI_NUMBER_SIZE 8
 
 /* The number that stands there. */
@@ -108,21 +127,23 @@ static inline uint64_t jaxhophasi_number_at(const uint8_t *bytes)
 #define JAXHOPHASI_STATUS_SIZE 1
 
 /* What jaxhophasi_receive and jaxhophasi_receive_for answer. */
-#define JAXHOPHASI_RECEIVED_SIZE 9
+#define JAXHOPHASI_RECEIVED_SIZE 37
 #define JAXHOPHASI_RECEIVED_EMITTED 0 /* 7: the kinds put out; 0 past their count */
 #define JAXHOPHASI_RECEIVED_COUNT 7   /* how many are put out */
 #define JAXHOPHASI_RECEIVED_WINNING 8 /* 1 guarded, 0 not */
+#define JAXHOPHASI_RECEIVED_PLACES 9  /* 7 * 4: the place in the input of each kind put out; 0 past
+                                       * their count */
 
 /* What jaxhophasi_run and jaxhophasi_run_for answer: two numbers. */
 #define JAXHOPHASI_RAN_SIZE 16
 #define JAXHOPHASI_RAN_LENGTH 0  /* bytes of output written */
-#define JAXHOPHASI_RAN_REFUSED 8 /* events refused by 14 or 15, over a list also by 19 or 13 */
+#define JAXHOPHASI_RAN_REFUSED 8 /* events refused by 14, 15 or 23, over a list also by 19 or 13 */
 
-/* What jaxhophasi_feed answers: nine bytes as jaxhophasi_receive_for, by the offsets of those, and
- * then two numbers. */
-#define JAXHOPHASI_FED_SIZE 25
-#define JAXHOPHASI_FED_LOSS 9   /* how many records were lost before this one */
-#define JAXHOPHASI_FED_PLACE 17 /* where in the bytes the fault of row 1, 2 or 10 is; 0 else */
+/* What jaxhophasi_feed answers: 37 bytes as jaxhophasi_receive_for, by the offsets of those, and
+ * then two numbers (FED_PLACE is a place in the record's bytes, none in the input). */
+#define JAXHOPHASI_FED_SIZE 53
+#define JAXHOPHASI_FED_LOSS 37  /* how many records were lost before this one */
+#define JAXHOPHASI_FED_PLACE 45 /* where in the bytes the fault of row 1, 2 or 10 is; 0 else */
 
 /* What jaxhophasi_judge answers: 1 yes, 0 no. */
 #define JAXHOPHASI_VERDICT_SIZE 2
@@ -144,8 +165,8 @@ static inline uint64_t jaxhophasi_number_at(const uint8_t *bytes)
 
 /* Numbers of refusal. A read goes left to right, every other call checks its own in this order,
  * but that receive_for and run_for check 20 and 19 after 12, and feed 11, 12, 20, then its record
- * (1 and 2 left to right, 10, 21, 22), then the event (19, 13, 14, 15); the first that holds is
- * given. (18 is the programs' own.) */
+ * (1 and 2 left to right, 10, 21, 22), then the event (19, 13, 14, 15, 23); the first that holds
+ * is given. (18 is the programs' own.) */
 enum {
     JAXHOPHASI_FINE = 0,
     JAXHOPHASI_ENDS_EARLY = 1,         /* read, feed: the bytes end before the sheet or the feed's
@@ -167,7 +188,11 @@ enum {
     JAXHOPHASI_BAD_CONFIGURATION = 13, /* winning, receive, run, judge, receive_for and feed (that
                                         * client's alone; run_for passes over the event and counts
                                         * it): state not below n, over B held, a held event that is
-                                        * no controllable kind, or a nonzero unused place */
+                                        * no controllable kind, a nonzero unused place, held places
+                                        * that do not rise strictly, one not below the input count,
+                                        * or an output count plus held that is not the input count
+                                        * (the sum does not come round: 4,294,967,295 and one held
+                                        * against an input count of 0 is 13) */
     JAXHOPHASI_BAD_EVENT = 14,         /* receive, receive_for, feed: event not below m (a day
                                         * passes over it and counts it) */
     JAXHOPHASI_BUFFER_FULL = 15,       /* receive, receive_for, feed: controllable event, hold full
@@ -183,8 +208,11 @@ enum {
     JAXHOPHASI_BAD_COUNT = 20,         /* receive_for, run_for, feed: a list of no client or of
                                         * over 500 */
     JAXHOPHASI_BAD_SERIAL = 21,        /* feed: serial above 65,535 */
-    JAXHOPHASI_LATE_SERIAL = 22        /* feed: late or a repeat: a serial 32,768 or more forward
+    JAXHOPHASI_LATE_SERIAL = 22,       /* feed: late or a repeat: a serial 32,768 or more forward
                                         * of the expected one */
+    JAXHOPHASI_INPUT_COUNT_END = 23    /* receive, receive_for, feed: an event of any class that
+                                        * would be accepted, but the input count is at its end,
+                                        * 4,294,967,295 (a day passes over it and counts it) */
 };
 
 /* Reads and checks a sheet. Rows 1 to 10, left to right; place is where the faulty number begins,
@@ -204,7 +232,8 @@ uint8_t jaxhophasi_buffers_count(const uint8_t automaton[JAXHOPHASI_AUTOMATON_SI
 uint8_t jaxhophasi_solve(const uint8_t automaton[JAXHOPHASI_AUTOMATON_SIZE], uint32_t *table, size_t table_length,
     uint8_t rounds[JAXHOPHASI_NUMBER_SIZE]);
 
-/* The fresh carried state, into configuration. Row 11; refused, configuration stays as it was. */
+/* The fresh carried state, with both counts 0, into configuration. Row 11; refused, configuration
+ * stays as it was. */
 uint8_t jaxhophasi_initial(const uint8_t automaton[JAXHOPHASI_AUTOMATON_SIZE],
     uint8_t configuration[JAXHOPHASI_CONFIGURATION_SIZE]);
 
@@ -212,27 +241,34 @@ uint8_t jaxhophasi_initial(const uint8_t automaton[JAXHOPHASI_AUTOMATON_SIZE],
 uint8_t jaxhophasi_winning(const uint8_t automaton[JAXHOPHASI_AUTOMATON_SIZE], const uint32_t *table, size_t table_length,
     const uint8_t configuration[JAXHOPHASI_CONFIGURATION_SIZE], uint8_t answer[JAXHOPHASI_STATUS_SIZE]);
 
-/* One event: configuration becomes the next carried state. Rows 11 to 15. */
+/* One event: configuration becomes the next carried state. Rows 11 to 15, 23. The answer has the
+ * place in the input of each kind put out: of the event itself, if it is put out, the input count
+ * as it was before; of a released one the place that it had in the hold. With W's Page, Receipt
+ * and Sign, Sign puts out 0 2 3 from the places 2 0 1. The input count grows by 1, the output
+ * count by how many are put out. */
 uint8_t jaxhophasi_receive(const uint8_t automaton[JAXHOPHASI_AUTOMATON_SIZE], const uint32_t *table, size_t table_length,
     uint8_t configuration[JAXHOPHASI_CONFIGURATION_SIZE], uint32_t event, uint8_t answer[JAXHOPHASI_RECEIVED_SIZE]);
 
 /* A whole day: configuration becomes the next carried state, and out begins with the kinds put
- * out. Rows 11, 12, 13, 16. */
+ * out. Rows 11, 12, 13, 16; an event that 14, 15 or 23 refuses is passed over and counted. (Places
+ * and counts of the carried state move on as by jaxhophasi_receive, but neither out nor the answer
+ * says where a kind came from; who must know that calls jaxhophasi_receive for each event.) */
 uint8_t jaxhophasi_run(const uint8_t automaton[JAXHOPHASI_AUTOMATON_SIZE], const uint32_t *table, size_t table_length,
     uint8_t configuration[JAXHOPHASI_CONFIGURATION_SIZE], const uint32_t *events, size_t events_length, uint8_t *out,
     size_t out_length, uint8_t answer[JAXHOPHASI_RAN_SIZE]);
 
 /* One event for a client: its carried state in the list becomes the next one, all others stay.
- * Rows 11, 12, 20, 19, then 13 of that carried state alone, 14, 15. */
+ * Rows 11, 12, 20, 19, then 13 of that carried state alone, 14, 15, 23. The places in the answer
+ * are among that client's own accepted events. */
 uint8_t jaxhophasi_receive_for(const uint8_t automaton[JAXHOPHASI_AUTOMATON_SIZE], const uint32_t *table, size_t table_length,
     uint8_t configurations[][JAXHOPHASI_CONFIGURATION_SIZE], size_t configurations_length, uint32_t client, uint32_t event,
     uint8_t answer[JAXHOPHASI_RECEIVED_SIZE]);
 
 /* A whole day over the list, each event a JAXHOPHASI_CLIENT_EVENT: the carried states become the
  * next ones, and out begins with the kinds put out, in the order of the day's events. Rows 11, 12,
- * 20, 16; an event that 19, 13, 14 or 15 refuses is passed over and counted. (out does not say
- * whose a kind is, nor the answer which events were refused; who must know that calls
- * jaxhophasi_receive_for for each event.) */
+ * 20, 16; an event that 19, 13, 14, 15 or 23 refuses is passed over and counted. (out does not say
+ * whose a kind is or where it came from, nor the answer which events were refused; who must know
+ * that calls jaxhophasi_receive_for for each event.) */
 uint8_t jaxhophasi_run_for(const uint8_t automaton[JAXHOPHASI_AUTOMATON_SIZE], const uint32_t *table, size_t table_length,
     uint8_t configurations[][JAXHOPHASI_CONFIGURATION_SIZE], size_t configurations_length, const uint32_t *events,
     size_t events_length, uint8_t *out, size_t out_length, uint8_t answer[JAXHOPHASI_RAN_SIZE]);
@@ -243,7 +279,7 @@ uint8_t jaxhophasi_run_for(const uint8_t automaton[JAXHOPHASI_AUTOMATON_SIZE], c
  * own, and the answer has how many records were lost before it (0 where none was expected). Rows
  * 11, 12, 20; of the record 1 and 2, left to right, at the place where the number begins, 10 at
  * the first byte left, 21, 22; of the event 19, then 13 of that client's carried state alone, 14,
- * 15. Where one of the last four refuses the event, loss and expected are as if it had been
+ * 15, 23. Where one of the last five refuses the event, loss and expected are as if it had been
  * accepted; where any other row refuses, the loss is 0 and expected stays, byte for byte. */
 uint8_t jaxhophasi_feed(const uint8_t automaton[JAXHOPHASI_AUTOMATON_SIZE], const uint32_t *table, size_t table_length,
     uint8_t configurations[][JAXHOPHASI_CONFIGURATION_SIZE], size_t configurations_length, const uint8_t *bytes,

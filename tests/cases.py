@@ -1,11 +1,12 @@
 """The test program: runs each line of a file through the interface for C, and prints the line and
-what came out below it. Lines that begin with # are printed alone.
+what came out below it, numbers or groups of them. Lines that begin with # are printed alone.
 
     python3 tests/cases.py LIBRARY FILE
 
 LIBRARY is the shared object made from the archive. One record, one table, one carried state and
 one list of clients' carried states are kept from line to line. A line is a word and numbers;
-spaces and commas part them.
+spaces, commas and semicolons part them. A carried state (STATE) is sixteen numbers: the state, how
+many are held, six kinds, their six places in the input, how many came in and how many went out.
 
     sheet BYTES             reads a sheet:
                             = refusal, place, n, m, B, start, the sum of all bytes of the record
@@ -16,22 +17,23 @@ spaces and commas part them.
     bits WORDS              puts words at the front of the table
     table PLACES            solves into the table's first places:
                             = refusal, rounds, those places
-    initial                 = refusal, the carried state's eight bytes
-    at BYTES                sets the carried state
+    initial                 = refusal, the carried state
+    at STATE                sets the carried state
     guarded PLACES          = refusal, guarded
-    event PLACES KIND       = refusal, count put out, guarded, the carried state,
-                            the seven places of what is put out
+    event PLACES KIND       = refusal, count put out, guarded, the carried state, the seven kinds
+                            put out and their seven places in the input
     run PLACES ROOM KINDS   a day into ROOM bytes that were 9:
                             = refusal, length, refused, the carried state, those bytes
-    clients BYTES           sets the list of clients, eight bytes each
-    alike COUNT BYTES       sets a list of so many clients with the same eight bytes
+    clients STATE ..        sets the list of clients
+    alike COUNT STATE       sets a list of so many clients with the same carried state
     event_for PLACES CLIENT KIND
-                            = refusal, count put out, guarded, the seven places of what is put out;
-                            then each client whose carried state changed, with its eight bytes
+                            = refusal, count put out, guarded, the seven kinds put out and their
+                            seven places in that client's input; then each client whose carried
+                            state changed, with it
     run_for PLACES ROOM NUMBERS
                             a day over the list into ROOM bytes that were 9:
                             = refusal, length, refused, those bytes up to the last that is not 9;
-                            then each client whose carried state changed, with its eight bytes
+                            then each client whose carried state changed, with it
     feed PLACES EXPECTED BYTES
                             a record of a feed over the list, EXPECTED three bytes:
                             = refusal, place, loss, those three bytes, then as event_for from the
@@ -47,11 +49,11 @@ import re
 import sys
 
 sys.path.insert(0, str(pathlib.Path(__file__).resolve().parent.parent / "examples"))
-from day import AUTOMATON_SIZE, CONFIGURATION_SIZE, EXPECTED_SIZE, FED_SIZE, NUMBER_SIZE, RAN_SIZE, RECEIVED_SIZE, STATUS_SIZE
-from day import VERDICT_SIZE
-from day import filled, lent, library_at, number_at, numbers
+from day import AUTOMATON_SIZE, EXPECTED_SIZE, FED_SIZE, NUMBER_SIZE, RAN_SIZE, RECEIVED_SIZE, STATUS_SIZE, VERDICT_SIZE
+from day import Configuration, filled, lent, library_at, number_at, numbers, places_at
 
 TABLE_PLACES = 64
+STATE_NUMBERS = 16  # of a carried state
 
 
 def answer(size):
@@ -59,9 +61,23 @@ def answer(size):
     return filled([9] * size)
 
 
-def eights(values):
-    """The carried states of a list of clients, eight bytes each."""
-    return [values[i:i + CONFIGURATION_SIZE] for i in range(0, len(values), CONFIGURATION_SIZE)]
+def carried(values):
+    """The carried state of its sixteen numbers."""
+    if len(values) != STATE_NUMBERS:
+        sys.exit("no carried state: {}".format(values))
+    state, held, *rest = values
+    return Configuration(state, held, tuple(rest[:6]), tuple(rest[6:12]), *rest[12:])
+
+
+def said(configuration):
+    """The sixteen numbers of a carried state, in groups."""
+    eight = [configuration.state, configuration.held, *configuration.buffer]
+    return [eight, configuration.places[:], [configuration.received, configuration.emitted]]
+
+
+def put_out(answer):
+    """The kinds put out, and their places in the input, in the answer to an event."""
+    return [answer[:7], places_at(answer, 7)]
 
 
 def until_nines(values):
@@ -74,9 +90,9 @@ def until_nines(values):
 class Cases:
     def __init__(self, library):
         self.library = library
-        self.automaton, self.configuration = lent(AUTOMATON_SIZE), lent(CONFIGURATION_SIZE)
+        self.automaton, self.configuration = lent(AUTOMATON_SIZE), Configuration()
         self.table_words = numbers([0] * TABLE_PLACES)
-        self.list = []  # the clients' bytes
+        self.list = []  # the clients' carried states
 
     def sheet(self, *data):
         place = answer(NUMBER_SIZE)
@@ -104,10 +120,11 @@ class Cases:
         return [row, number_at(rounds)] + self.table_words[:places]
 
     def initial(self):
-        return [self.library.jaxhophasi_initial(self.automaton, self.configuration)] + self.configuration[:]
+        row = self.library.jaxhophasi_initial(self.automaton, self.configuration)
+        return [[row], *said(self.configuration)]
 
-    def at(self, *data):
-        self.configuration[:] = data
+    def at(self, *values):
+        self.configuration = carried(values)
 
     def guarded(self, places):
         status = answer(STATUS_SIZE)
@@ -116,29 +133,29 @@ class Cases:
     def event(self, places, kind):
         received = answer(RECEIVED_SIZE)
         row = self.library.jaxhophasi_receive(self.automaton, self.table_words, places, self.configuration, kind, received)
-        return [row, received[7], received[8]] + self.configuration[:] + received[:7]
+        return [[row, received[7], received[8]], *said(self.configuration), *put_out(received)]
 
     def run(self, places, room, *kinds):
         ran, out = answer(RAN_SIZE), filled([9] * room)
         row = self.library.jaxhophasi_run(
             self.automaton, self.table_words, places, self.configuration, numbers(kinds), len(kinds), out, room, ran)
-        return [row, number_at(ran), number_at(ran, 8)] + self.configuration[:] + out[:room]
+        return [[row, number_at(ran), number_at(ran, 8)], *said(self.configuration), out[:room]]
 
-    def clients(self, *data):
-        self.list = list(data)
+    def clients(self, *values):
+        self.list = [carried(values[i:i + STATE_NUMBERS]) for i in range(0, len(values), STATE_NUMBERS)]
 
-    def alike(self, count, *data):
-        self.list = list(data) * count
+    def alike(self, count, *values):
+        self.list = [carried(values)] * count
 
     def over_list(self, call):
-        """Lends the list, behind which stand the bytes of one client more: the refusal, and each
-        client whose bytes changed (one that is not there too)."""
-        before = self.list + [9] * CONFIGURATION_SIZE
-        lent_list = filled(before)
-        row = call(lent_list, len(self.list) // CONFIGURATION_SIZE)
+        """Lends the list, behind which stands the carried state of one client more: the refusal,
+        and each client whose carried state changed (one that is not there too)."""
+        before = self.list + [carried([9] * STATE_NUMBERS)]
+        lent_list = (Configuration * len(before))(*before)
+        row = call(lent_list, len(self.list))
         changed = []
-        for client, (old, new) in enumerate(zip(eights(before), eights(lent_list))):
-            changed += [] if old == new else [str(client) + ":", *new]
+        for client, (old, new) in enumerate(zip(map(said, before), map(said, lent_list))):
+            changed += [] if old == new else [[str(client) + ":", *new[0]], *new[1:]]
         self.list = lent_list[:len(self.list)]
         return row, changed
 
@@ -146,19 +163,20 @@ class Cases:
         received = answer(RECEIVED_SIZE)
         row, changed = self.over_list(lambda clients, count: self.library.jaxhophasi_receive_for(
             self.automaton, self.table_words, places, clients, count, client, kind, received))
-        return [row, received[7], received[8]] + received[:7] + changed
+        return [[row, received[7], received[8]], *put_out(received), *changed]
 
     def run_for(self, places, room, *events):
         ran, out = answer(RAN_SIZE), filled([9] * room)
         row, changed = self.over_list(lambda clients, count: self.library.jaxhophasi_run_for(
             self.automaton, self.table_words, places, clients, count, numbers(events), len(events), out, room, ran))
-        return [row, number_at(ran), number_at(ran, 8)] + until_nines(out[:room]) + changed
+        return [[row, number_at(ran), number_at(ran, 8)], until_nines(out[:room]), *changed]
 
     def feed(self, places, *data):
         fed, expected, record = answer(FED_SIZE), filled(data[:EXPECTED_SIZE]), data[EXPECTED_SIZE:]
         row, changed = self.over_list(lambda clients, count: self.library.jaxhophasi_feed(
             self.automaton, self.table_words, places, clients, count, filled(record), len(record), expected, fed))
-        return [row, number_at(fed, 17), number_at(fed, 9)] + expected[:EXPECTED_SIZE] + [fed[7], fed[8]] + fed[:7] + changed
+        told = [row, number_at(fed, 45), number_at(fed, 37)]
+        return [told, expected[:EXPECTED_SIZE], [fed[7], fed[8]], *put_out(fed), *changed]
 
     def judge(self):
         verdict = answer(VERDICT_SIZE)
@@ -176,7 +194,8 @@ class Cases:
                 solved = self.table(2 * len(buffers))[2:]
                 for place, held in enumerate(buffers):
                     for state in range(states):
-                        self.at(state, len(held), *held, *[0] * (6 - len(held)))
+                        unused = [0] * (6 - len(held))
+                        self.at(state, len(held), *held, *unused, *range(len(held)), *unused, len(held), 0)
                         rests, released = (solved[2 * place + i] >> state & 1 for i in range(2))
                         asked += 1
                         agreed += self.judge() == [0, rests, rests | released]
@@ -190,7 +209,8 @@ def main(library, path):
         word, _, text = line.rstrip("\n").partition(" ")
         printed = None if word == "#" else getattr(cases, word)(*map(int, re.findall("[0-9]+", text)))
         if printed is not None:
-            print("=", *printed)
+            groups = printed if isinstance(printed[0], list) else [printed]
+            print("=", ", ".join(" ".join(map(str, group)) for group in groups if group))
 
 
 if __name__ == "__main__":

@@ -46,8 +46,10 @@ static unsigned long agreeing(void)
 #define WRITTEN(CALL) \
     (memset(first, 0x55, ROOM), lent = first, (void)(CALL), memset(second, 0xaa, ROOM), lent = second, (void)(CALL), agreeing())
 
-/* What most calls are lent. */
-static uint8_t automaton[ROOM], configuration[ROOM], number[ROOM], answer[ROOM], out[ROOM];
+/* What most calls are lent. (A single carried state may begin anywhere: here at an odd place.) */
+static uint8_t automaton[ROOM], number[ROOM], answer[ROOM], out[ROOM];
+_Alignas(4) static uint8_t odd[ROOM + 1];
+static uint8_t *const configuration = odd + 1;
 static uint32_t *table;
 
 static uint8_t read_sheet(const uint8_t *bytes, size_t length)
@@ -55,9 +57,43 @@ static uint8_t read_sheet(const uint8_t *bytes, size_t length)
     return jaxhophasi_read(bytes, length, automaton, number);
 }
 
-static void set_configuration(const uint8_t bytes[8])
+/* The end of a count. */
+static const uint32_t end = 4294967295;
+
+/* The bytes of a carried state, 40 of them, with so many held, all of one kind, in the places just
+ * below the input count; the output count is what it must be. */
+static void put_configuration(uint8_t *bytes, uint8_t state, uint8_t held, uint8_t kind, uint32_t received)
 {
-    memcpy(configuration, bytes, 8);
+    uint32_t numbers[8] = { 0 };
+    memset(bytes, 0, 40);
+    bytes[0] = state;
+    bytes[1] = held;
+    memset(bytes + 2, kind, held);
+    for (unsigned i = 0; i < held; i++)
+        numbers[i] = received - held + i;
+    numbers[6] = received;
+    numbers[7] = received - held;
+    for (unsigned i = 0; i < 32; i++)
+        bytes[8 + i] = (uint8_t)(numbers[i / 4] >> 8 * (i % 4));
+}
+
+static void set_configuration(uint8_t state, uint8_t held, uint8_t kind, uint32_t received)
+{
+    put_configuration(configuration, state, held, kind, received);
+}
+
+/* Numbers of four bytes that lie one after the other, by the header's size and reading. */
+static void same_places(const char *what, const uint8_t *got, const uint32_t *expected, size_t count)
+{
+    for (size_t i = 0; i < count; i++)
+        same(what, jaxhophasi_place_at(got + i * JAXHOPHASI_PLACE_SIZE), expected[i]);
+}
+
+/* The two counts of a carried state. */
+static void same_counts(const char *what, const uint8_t *got, uint32_t received, uint32_t emitted)
+{
+    same(what, jaxhophasi_place_at(got + JAXHOPHASI_CONFIGURATION_RECEIVED), received);
+    same(what, jaxhophasi_place_at(got + JAXHOPHASI_CONFIGURATION_EMITTED), emitted);
 }
 
 /* ---- the record ---- */
@@ -135,6 +171,8 @@ static void check_numbers(void)
     static const uint8_t high[] = { 8, 7, 6, 5, 4, 3, 2, 129 };
     same("number_at", jaxhophasi_number_at(high) >> 32, 0x81020304);
     same("number_at, its low half", jaxhophasi_number_at(high) & 0xffffffff, 0x05060708);
+    same("place_at", jaxhophasi_place_at(high), 0x05060708);
+    same("place_at, the top bit set", jaxhophasi_place_at(high + 4), 0x81020304);
     read_sheet(v, sizeof v);
     same("NUMBER_SIZE", JAXHOPHASI_NUMBER_SIZE, WRITTEN(jaxhophasi_buffers_count(automaton, lent)));
     same("the place of a fault", read_sheet(v, sizeof v - 1), 1);
@@ -176,24 +214,54 @@ static uint8_t event(uint32_t kind)
 static void check_configuration(void)
 {
     static const uint8_t two_held[] = { 2, 3, 0, 0, 0, 0 }, one_held[] = { 2, 0, 0, 0, 0, 0 };
+    static const uint32_t places_of_two[] = { 0, 1, 0, 0, 0, 0 }, places_of_one[] = { 1, 0, 0, 0, 0, 0 };
     solve_w();
     same("CONFIGURATION_SIZE", JAXHOPHASI_CONFIGURATION_SIZE, WRITTEN(jaxhophasi_initial(automaton, lent)));
+    same_counts("counts, fresh", configuration, 0, 0);
     event(2);
     event(3);
     same("state after Page, Receipt", configuration[JAXHOPHASI_CONFIGURATION_STATE], 0);
     same("held after Page, Receipt", configuration[JAXHOPHASI_CONFIGURATION_HELD], 2);
     same_bytes("buffer after Page, Receipt", configuration + JAXHOPHASI_CONFIGURATION_BUFFER, two_held, 6);
+    same_places("places after Page, Receipt", configuration + JAXHOPHASI_CONFIGURATION_PLACES, places_of_two, 6);
+    same_counts("counts after Page, Receipt", configuration, 2, 0);
     jaxhophasi_initial(automaton, configuration);
     event(0);
     event(2);
     same("state after Sign, Page", configuration[JAXHOPHASI_CONFIGURATION_STATE], 1);
     same("held after Sign, Page", configuration[JAXHOPHASI_CONFIGURATION_HELD], 1);
     same_bytes("buffer after Sign, Page", configuration + JAXHOPHASI_CONFIGURATION_BUFFER, one_held, 6);
+    same_places("places after Sign, Page", configuration + JAXHOPHASI_CONFIGURATION_PLACES, places_of_one, 6);
+    same_counts("counts after Sign, Page", configuration, 2, 1);
+}
+
+/* Page at place 66050, where the input count becomes 66051, 3 2 1 0 in four bytes; and at the last
+ * place that there is, which the header's offsets lead up to. */
+static void check_places(void)
+{
+    static const uint32_t high[] = { 66049, 66050, 0, 0, 0, 0 }, last[] = { 66049, 4294967294, 0, 0, 0, 0 };
+    uint8_t whole[40];
+    solve_w();
+    set_configuration(0, 1, 2, 66050);
+    same("Page at place 66050", event(2), 0);
+    same_places("places up to 66050", configuration + JAXHOPHASI_CONFIGURATION_PLACES, high, 6);
+    same_counts("counts after place 66050", configuration, 66051, 66049);
+    put_configuration(whole, 0, 2, 2, 66051);
+    same_bytes("the carried state after place 66050", configuration, whole, 40);
+    set_configuration(0, 1, 2, 66050);
+    configuration[JAXHOPHASI_CONFIGURATION_RECEIVED] = 254;
+    memset(configuration + JAXHOPHASI_CONFIGURATION_RECEIVED + 1, 255, 3);
+    configuration[JAXHOPHASI_CONFIGURATION_EMITTED] = 253;
+    memset(configuration + JAXHOPHASI_CONFIGURATION_EMITTED + 1, 255, 3);
+    same("Page at the last place", event(2), 0);
+    same_places("places up to the last", configuration + JAXHOPHASI_CONFIGURATION_PLACES, last, 6);
+    same_counts("counts after the last place", configuration, end, end - 2);
 }
 
 static void check_received(void)
 {
     static const uint8_t emitted[] = { 0, 2, 3, 0, 0, 0, 0 };
+    static const uint32_t from[] = { 2, 0, 1, 0, 0, 0, 0 }, far[] = { 66051, 0, 0, 0, 0, 0, 0 };
     solve_w();
     same("RECEIVED_SIZE", JAXHOPHASI_RECEIVED_SIZE, WRITTEN(jaxhophasi_receive(automaton, table, 14, configuration, 4, lent)));
     event(2);
@@ -202,9 +270,12 @@ static void check_received(void)
     same_bytes("what is put out", answer + JAXHOPHASI_RECEIVED_EMITTED, emitted, 7);
     same("how many are put out", answer[JAXHOPHASI_RECEIVED_COUNT], 3);
     same("guarded after Sign", answer[JAXHOPHASI_RECEIVED_WINNING], 1);
+    same_places("where it came from", answer + JAXHOPHASI_RECEIVED_PLACES, from, 7);
+    same_counts("counts after Sign", configuration, 3, 3);
     /* in state 2, Sign leaves a page out with no receipt */
-    set_configuration((const uint8_t[]){ 2, 0, 0, 0, 0, 0, 0, 0 });
+    set_configuration(2, 0, 0, 66051);
     same("Sign in state 2", event(0), 0);
+    same_places("where Sign came from", answer + JAXHOPHASI_RECEIVED_PLACES, far, 7);
     same("how many are put out in state 2", answer[JAXHOPHASI_RECEIVED_COUNT], 1);
     same("guarded in state 2", answer[JAXHOPHASI_RECEIVED_WINNING], 0);
 }
@@ -221,6 +292,13 @@ static void check_ran(void)
     same("bytes written", jaxhophasi_number_at(answer + JAXHOPHASI_RAN_LENGTH), 4);
     same("events refused", jaxhophasi_number_at(answer + JAXHOPHASI_RAN_REFUSED), 2);
     same_bytes("the day's output", out, put_out, 4);
+    same_counts("counts after the day", configuration, 6, 4);
+    /* two more can be accepted: Page and Receipt are, and nothing after them */
+    set_configuration(0, 0, 0, end - 2);
+    same("a day to the end", jaxhophasi_run(automaton, table, 14, configuration, day, 8, out, 8, answer), 0);
+    same("bytes written to the end", jaxhophasi_number_at(answer + JAXHOPHASI_RAN_LENGTH), 0);
+    same("events refused to the end", jaxhophasi_number_at(answer + JAXHOPHASI_RAN_REFUSED), 6);
+    same_counts("counts at the end", configuration, end, end - 2);
 }
 
 /* With Receipt held W may not rest in state 2, and comes to rest in state 1; in state 0 it may
@@ -232,7 +310,7 @@ static void check_status_and_verdict(void)
     same("STATUS_SIZE", JAXHOPHASI_STATUS_SIZE, WRITTEN(jaxhophasi_winning(automaton, table, 14, configuration, lent)));
     same("VERDICT_SIZE", JAXHOPHASI_VERDICT_SIZE, WRITTEN(jaxhophasi_judge(automaton, configuration, lent)));
     for (int i = 0; i < 3; i++) {
-        set_configuration((const uint8_t[]){ states[i], 1, 3, 0, 0, 0, 0, 0 });
+        set_configuration(states[i], 1, 3, 1);
         same("winning", jaxhophasi_winning(automaton, table, 14, configuration, answer), 0);
         same("guarded", answer[0], may[i]);
         same("judge", jaxhophasi_judge(automaton, configuration, answer), 0);
@@ -243,7 +321,7 @@ static void check_status_and_verdict(void)
 
 /* ---- lists of clients, on W ---- */
 
-static uint8_t clients[JAXHOPHASI_MAX_CLIENTS + 1][JAXHOPHASI_CONFIGURATION_SIZE];
+_Alignas(4) static uint8_t clients[JAXHOPHASI_MAX_CLIENTS + 1][JAXHOPHASI_CONFIGURATION_SIZE];
 
 static void fresh_clients(void)
 {
@@ -272,25 +350,30 @@ static void check_client_events(void)
     same("a client over MAX_CLIENTS", event_for(JAXHOPHASI_MAX_CLIENTS + 1, 0, 0), 20);
 }
 
-/* Client 1 of three: Page, Receipt, Sign. The eight bytes before and after its own stay. */
+/* Client 1 of three: Page, Receipt, Sign. The 40 bytes before and after its own stay. */
 static void check_received_for(void)
 {
-    static const uint8_t before[] = { 0, 0, 0, 0, 0, 0, 0, 0, 0, 2, 2, 3, 0, 0, 0, 0, 0, 0, 0, 0, 0, 0, 0, 0 };
+    static const uint8_t before[120] = { [41] = 2, 2, 3, [52] = 1, [72] = 2 };
     static const uint8_t emitted[] = { 0, 2, 3, 0, 0, 0, 0 };
+    static const uint32_t from[] = { 2, 0, 1, 0, 0, 0, 0 };
     fresh_clients();
     same("RECEIVED_SIZE", JAXHOPHASI_RECEIVED_SIZE,
         WRITTEN(jaxhophasi_receive_for(automaton, table, 14, clients, 3, 1, 4, lent)));
     same("Page of client 1", event_for(3, 1, 2), 0);
     same("how many Page puts out", answer[JAXHOPHASI_RECEIVED_COUNT], 0);
     same("Receipt of client 1", event_for(3, 1, 3), 0);
-    same_bytes("the list after Page, Receipt", clients[0], before, 24);
+    same_bytes("the list after Page, Receipt", clients[0], before, 120);
     same("state of client 1", clients[1][JAXHOPHASI_CONFIGURATION_STATE], 0);
     same("held by client 1", clients[1][JAXHOPHASI_CONFIGURATION_HELD], 2);
-    same_bytes("buffer of client 1", clients[1] + JAXHOPHASI_CONFIGURATION_BUFFER, before + 10, 6);
+    same_bytes("buffer of client 1", clients[1] + JAXHOPHASI_CONFIGURATION_BUFFER, before + 42, 6);
+    same_places("places of client 1", clients[1] + JAXHOPHASI_CONFIGURATION_PLACES, (const uint32_t[]){ 0, 1 }, 2);
     same("Sign of client 1", event_for(3, 1, 0), 0);
     same_bytes("what client 1 puts out", answer + JAXHOPHASI_RECEIVED_EMITTED, emitted, 7);
     same("how many client 1 puts out", answer[JAXHOPHASI_RECEIVED_COUNT], 3);
     same("client 1 guarded", answer[JAXHOPHASI_RECEIVED_WINNING], 1);
+    same_places("where it came from, client 1", answer + JAXHOPHASI_RECEIVED_PLACES, from, 7);
+    same_counts("counts of client 0", clients[0], 0, 0);
+    same_counts("counts of client 1", clients[1], 3, 3);
     same("state of client 1 after Sign", clients[1][JAXHOPHASI_CONFIGURATION_STATE], 1);
     same("held by client 1 after Sign", clients[1][JAXHOPHASI_CONFIGURATION_HELD], 0);
 }
@@ -304,14 +387,15 @@ static void check_ran_for(void)
         JAXHOPHASI_CLIENT_EVENT(0, 3), JAXHOPHASI_CLIENT_EVENT(2, 0), JAXHOPHASI_CLIENT_EVENT(1, 4),
         JAXHOPHASI_CLIENT_EVENT(1, 0),
     };
-    static const uint8_t put_out[] = { 0, 2, 3, 0 }, after[] = { 1, 0, 0, 0, 0, 0, 0, 0, 1, 1, 2, 0, 0, 0, 0, 0 };
+    /* client 0: state 1, three came in and went out; client 1: Page held from place 0, and Sign */
+    static const uint8_t put_out[] = { 0, 2, 3, 0 }, after[80] = { 1, [32] = 3, [36] = 3, [40] = 1, 1, 2, [72] = 2, [76] = 1 };
     fresh_clients();
     same("RAN_SIZE", JAXHOPHASI_RAN_SIZE, WRITTEN(jaxhophasi_run_for(automaton, table, 14, clients, 2, day, 7, out, 6, lent)));
     same("a day of two clients", day_for(2, day, 7, 7), 0);
     same("bytes written for two clients", jaxhophasi_number_at(answer + JAXHOPHASI_RAN_LENGTH), 4);
     same("two clients' events refused", jaxhophasi_number_at(answer + JAXHOPHASI_RAN_REFUSED), 2);
     same_bytes("the output of two clients' day", out, put_out, 4);
-    same_bytes("the list after the day", clients[0], after, 16);
+    same_bytes("the list after the day", clients[0], after, 80);
     same("the next day, one held, no room", day_for(2, day, 0, 0), 16);
     same("the next day, one held", day_for(2, day, 0, 1), 0);
 }
@@ -356,6 +440,7 @@ static void check_fed_sizes(void)
 static void check_fed(void)
 {
     static const uint8_t emitted[] = { 0, 2, 3, 0, 0, 0, 0 };
+    static const uint32_t from[] = { 2, 0, 1, 0, 0, 0, 0 };
     fresh_clients();
     set_expected(0, 9, 9);
     same("the first record", FEED(3, 3, 1, 2), 0);
@@ -369,6 +454,7 @@ static void check_fed(void)
     same_bytes("what the record puts out", answer + JAXHOPHASI_RECEIVED_EMITTED, emitted, 7);
     same("how many the record puts out", answer[JAXHOPHASI_RECEIVED_COUNT], 3);
     same("guarded after the record", answer[JAXHOPHASI_RECEIVED_WINNING], 1);
+    same_places("where it came from, by the record", answer + JAXHOPHASI_RECEIVED_PLACES, from, 7);
     same("state of client 1 after the record", clients[1][JAXHOPHASI_CONFIGURATION_STATE], 1);
     same("a record cut short", FEED(3, 179, 2, 1), 1);
     same("its loss", jaxhophasi_number_at(answer + JAXHOPHASI_FED_LOSS), 0);
@@ -416,7 +502,7 @@ static void check_rows_of_calls(void)
     read_sheet(v, sizeof v);
     row(12, JAXHOPHASI_SHORT_TABLE, jaxhophasi_solve(automaton, table, 3, number));
     jaxhophasi_solve(automaton, table, 4, number);
-    set_configuration((const uint8_t[]){ 3, 0, 0, 0, 0, 0, 0, 0 });
+    set_configuration(3, 0, 0, 0);
     row(13, JAXHOPHASI_BAD_CONFIGURATION, jaxhophasi_winning(automaton, table, 4, configuration, answer));
     jaxhophasi_initial(automaton, configuration);
     row(14, JAXHOPHASI_BAD_EVENT, jaxhophasi_receive(automaton, table, 4, configuration, 2, answer));
@@ -425,6 +511,13 @@ static void check_rows_of_calls(void)
     event(2);
     event(2);
     row(15, JAXHOPHASI_BUFFER_FULL, event(2));
+    set_configuration(0, 1, 2, end);
+    row(23, JAXHOPHASI_INPUT_COUNT_END, event(2));
+    row(23, JAXHOPHASI_INPUT_COUNT_END, event(0));
+    row(14, JAXHOPHASI_BAD_EVENT, event(4));
+    set_configuration(0, 2, 2, end);
+    row(15, JAXHOPHASI_BUFFER_FULL, event(2));
+    row(23, JAXHOPHASI_INPUT_COUNT_END, event(1));
     READ(5, 1, 1, 0, 0, 1, 1, 1, 1, 1, 0, 0, 0, 0, 0);
     jaxhophasi_initial(automaton, configuration);
     row(17, JAXHOPHASI_TOO_LARGE, jaxhophasi_judge(automaton, configuration, answer));
@@ -449,10 +542,42 @@ static void check_rows_of_feeds(void)
     row(14, JAXHOPHASI_BAD_EVENT, FEED(3, 7, 0, 4));
     row(0, JAXHOPHASI_FINE, FEED(3, 8, 0, 2));
     row(15, JAXHOPHASI_BUFFER_FULL, FEED(3, 9, 0, 2));
+    put_configuration(clients[1], 0, 0, 0, end);
+    row(23, JAXHOPHASI_INPUT_COUNT_END, FEED(3, 10, 1, 0));
     clients[0][JAXHOPHASI_CONFIGURATION_STATE] = 4;
-    row(13, JAXHOPHASI_BAD_CONFIGURATION, FEED(3, 10, 0, 0));
+    row(13, JAXHOPHASI_BAD_CONFIGURATION, FEED(3, 11, 0, 0));
     automaton[0] = 40;
-    row(11, JAXHOPHASI_BAD_AUTOMATON, FEED(3, 11, 0, 0));
+    row(11, JAXHOPHASI_BAD_AUTOMATON, FEED(3, 12, 0, 0));
+}
+
+/* Row 13's new parts, each broken by the header's offsets in a carried state that passed. */
+static void broken(const char *what, size_t offset, uint8_t value)
+{
+    uint8_t kept = configuration[offset];
+    same("before it was broken", jaxhophasi_winning(automaton, table, 14, configuration, answer), 0);
+    configuration[offset] = value;
+    same(what, jaxhophasi_winning(automaton, table, 14, configuration, answer), 13);
+    configuration[offset] = kept;
+}
+
+static void check_broken_places(void)
+{
+    const size_t places = JAXHOPHASI_CONFIGURATION_PLACES, size = JAXHOPHASI_PLACE_SIZE;
+    solve_w();
+    set_configuration(0, 2, 2, 9); /* in the places 7 and 8 */
+    broken("two equal places", places, 8);
+    broken("places that fall", places + size, 6);
+    broken("a place at the input count", places + size, 9);
+    broken("a place above it", places + size + 3, 1);
+    broken("a place where nothing is held", places + 2 * size, 1);
+    broken("the last place where nothing is held", places + 6 * size - 1, 1);
+    broken("an input count too high", JAXHOPHASI_CONFIGURATION_RECEIVED, 10);
+    broken("an output count too high", JAXHOPHASI_CONFIGURATION_EMITTED, 8);
+    broken("an output count too low", JAXHOPHASI_CONFIGURATION_EMITTED, 6);
+    broken("an output count far too high", JAXHOPHASI_CONFIGURATION_EMITTED + 3, 1);
+    /* 4294967295 and one held, against an input count of 0 */
+    set_configuration(0, 1, 2, 0);
+    same("a sum that would come round", jaxhophasi_winning(automaton, table, 14, configuration, answer), 13);
 }
 
 int main(void)
@@ -467,6 +592,7 @@ int main(void)
     check_numbers();
     check_table();
     check_configuration();
+    check_places();
     check_received();
     check_ran();
     check_status_and_verdict();
@@ -478,6 +604,7 @@ int main(void)
     check_rows_of_reading();
     check_rows_of_calls();
     check_rows_of_feeds();
+    check_broken_places();
     free(table);
     return different;
 }
