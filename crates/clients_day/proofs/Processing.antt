@@ -3,14 +3,16 @@ use Prim.Native.Nat.{ℕ, _+_, _<_, _≤_}
 use mathlib.Core.Path.{_≡_, refl, sym, _∙_, ap}
 use mathlib.Core.Bool.{true}
 use mathlib.Core.List.{List}
+use native.Mathlib.Nat.{add-zero}
 use native.Mathlib.Omega.{arith}
 use lib.ListN.{length, getD, set, drop, length-set}
+use lib.Seq.{set-getD}
 use lib.Dec.{eqb}
 use Rattle.base.proofs.Bools.{by}
 use Rattle.automaton.specs.declared.Automaton.{Automaton}
 use Rattle.configuration.specs.declared.Configuration.{Configuration}
 use Rattle.configuration.specs.Configuration.{consistent}
-use Rattle.monitor_answers.specs.Turns.{turnRefusal, turnedBuffer}
+use Rattle.monitor_answers.specs.Turns.{turnRefusal, turnEmitted, turnNext, turnedBuffer}
 use Rattle.monitor_loop.specs.declared.Limits.{Limits}
 use Rattle.monitor_loop.specs.Lending.{Lends, TurnRequires}
 use Rattle.clients_answers.specs.Clients.{none, heldIn, heldInAll}
@@ -85,10 +87,6 @@ module _ (l : Limits) (classes next ranks t : List ℕ) (cs : List Configuration
             abbrev own : r ≡ takenOf (g .automaton) t c (d .symbol) (s .written)
             own = f (g .automaton) (g .lends) (g .classes-are) .0
 
-            pub refused-once : r .refused ≤ 1
-            unfolding takenOf
-            refused-once = rw own (by (eqb (turnRefusal (g .automaton) t c (d .symbol)) 0) (λ k. rw k (omega arith)) (λ k. rw k (omega arith)))
-
             abbrev clients-then : List Configuration
             clients-then = set (s .clients) (d .client) (r .configuration)
 
@@ -103,20 +101,47 @@ module _ (l : Limits) (classes next ranks t : List ℕ) (cs : List Configuration
             unfolding takenOf
             kept = rw own (turn-keeps (g .automaton) t (s .clients) (d .client) (d .symbol) (s .written) _ b (s .room))
 
-            unfoldable pub stand-in : length zs ≡ length (s .output) → Standing
-            stand-in long =
+            -- accepted: its configuration is stored
+            unfoldable pub stand-taken : length zs ≡ length (s .output) → r .refused ≡ 0 → Standing
+            stand-taken long z =
+                let none-more : s .refused + r .refused ≡ s .refused = omega (arith, z) in
                 record {
                   i = s .i + 1;
                   written = r .written;
-                  refused = s .refused + r .refused;
+                  refused = s .refused;
                   clients = clients-then;
                   output = zs;
                   upto = omega (arith, h);
-                  follows = λ a o e. s .follows a o e ∙ led a (f a o e .0) (f a o e .1);
+                  follows = λ a o e. s .follows a o e ∙ rw none-more at (led a (f a o e .0) (f a o e .1));
                   same-count = length-set (s .clients) (d .client) (r .configuration) ∙ s .same-count;
                   same-size = long ∙ s .same-size;
                   room = omega (arith, kept);
-                  counted = omega (arith, s .counted, refused-once);
+                  counted = omega (arith, s .counted);
+                }
+
+            -- refused: its client's configuration is the same, and so is the list
+            pub passes : (r .refused ≡ 0 → ⊥) → r ≡ record { configuration = c; written = s .written; refused = 1 }
+            unfolding takenOf turnNext turnEmitted
+            passes nz =
+                by (eqb (turnRefusal (g .automaton) t c (d .symbol)) 0)
+                (λ k. absurd (nz (ap (λ (x : Taken). x .refused) own ∙ rw k)))
+                (λ k. own ∙ rw (k, add-zero (s .written)))
+
+            unfoldable pub stand-passed : length zs ≡ length (s .output) → (r .refused ≡ 0 → ⊥) → Standing
+            stand-passed long nz =
+                let same = set-getD (s .clients) (d .client) none in
+                record {
+                  i = s .i + 1;
+                  written = s .written;
+                  refused = s .refused + 1;
+                  clients = s .clients;
+                  output = zs;
+                  upto = omega (arith, h);
+                  follows = λ a o e. s .follows a o e ∙ rw (passes nz, same) at (led a (f a o e .0) (f a o e .1));
+                  same-count = s .same-count;
+                  same-size = long ∙ s .same-size;
+                  room = omega (arith, s .room);
+                  counted = omega (arith, s .counted);
                 }
 
         -- of none

@@ -1,5 +1,5 @@
 // A whole day over a lent list of configurations, one for each client. One configuration is read
-// and one stored for each event, above the step by value.
+// for each event, and one stored for each accepted event, above the step by value.
 use automaton::Automaton;
 use clients_answers::RanFor;
 use clients_entry::Event;
@@ -69,9 +69,12 @@ fn process<'a>(
                 out,
                 written,
             );
-            configurations[at] = after.configuration;
-            written = after.written;
-            refused = refused + after.refused;
+            if after.refused == 0 {
+                configurations[at] = after.configuration;
+                written = after.written;
+            } else {
+                refused = refused + 1;
+            }
         } else {
             refused = refused + 1;
         }
