@@ -6,24 +6,43 @@ use mathlib.Core.List.{List}
 use native.Mathlib.Nat.{add-zero}
 use native.Mathlib.Omega.{arith}
 use lib.ListN.{length, getD, set, drop, length-set}
-use lib.Seq.{set-getD}
+use lib.Seq.{set-getD, getD-set-same, getD-set-other}
 use lib.Dec.{eqb}
+use borrow.Author.Tests.{eqb-true, eqb-false}
 use Rattle.base.proofs.Bools.{by}
 use Rattle.automaton.specs.declared.Automaton.{Automaton}
 use Rattle.configuration.specs.declared.Configuration.{Configuration}
 use Rattle.configuration.specs.Configuration.{consistent}
 use Rattle.monitor_answers.specs.Turns.{turnRefusal, turnEmitted, turnNext, turnedBuffer}
+use Rattle.monitor_answers.proofs.Turns.{turn-inconsistent, turn-unmoved, turn-keeps as turn-stands}
 use Rattle.monitor_loop.specs.declared.Limits.{Limits}
-use Rattle.monitor_loop.specs.Lending.{Lends, TurnRequires}
+use Rattle.monitor_loop.specs.Lending.{Lends}
 use Rattle.clients_answers.specs.Clients.{none, heldIn, heldInAll}
 use Rattle.clients_answers.specs.Loop.{Day, dayFrom}
 use Rattle.clients_answers.proofs.Loop.{step-in, step-out, step-end, held-one, turn-keeps}
 use Rattle.clients_entry.specs.declared.Taken.{Taken}
-use Rattle.clients_entry.specs.Entries.{takenOf, Taking, eventOf}
-use Rattle.clients_day.specs.Days.{DayRequires, Days}
+use Rattle.clients_entry.specs.Entries.{markOf, takenOf, TakeRequires, Taking, eventOf}
+use Rattle.clients_day.specs.Days.{Marked, DayRequires, Days}
 use Rattle.clients_entry.specs.declared.Event.{Event}
 
-module _ (l : Limits) (classes next ranks t : List ℕ) (cs : List Configuration) (vs out : List ℕ) where
+-- a mark is right all day: an event leaves row 13's answer, whether it is accepted or refused
+module _ (a : Automaton) (marks t : List ℕ) where
+  mark-stays : {l : Limits} {next ranks : List ℕ} → Lends a l next ranks t → (c : Configuration) (e : ℕ) → markOf a (turnNext a t c e) ≡ markOf a c
+  mark-stays o c e =
+      let thirteen : _≡_ {A = ℕ} 13 0 → ⊥ = λ z. omega arith in
+      by (consistent a c)
+      (λ k. rw (turn-stands a t c e (record { record-valid = o .record-valid; table-long = o .table-long }) k, k))
+      (λ k. ap (markOf a) (turn-unmoved a t c e 13 (turn-inconsistent a t c e k) thirteen))
+
+  mark-set : (cs : List Configuration) (i : ℕ) (c : Configuration) → i < length cs → Marked a marks cs → markOf a c ≡ markOf a (getD cs i none)
+      → Marked a marks (set cs i c)
+  mark-set cs i c b f same k h =
+      let low : k < length cs = omega (arith, h, length-set cs i c) in
+      by (eqb k i)
+      (λ q. let e = eqb-true k i q in f k low ∙ rw e (sym same ∙ ap (markOf a) (sym (getD-set-same cs i c none b))))
+      (λ q. f k low ∙ ap (markOf a) (sym (getD-set-other cs i k c none (eqb-false k i q))))
+
+module _ (l : Limits) (marks next ranks t : List ℕ) (cs : List Configuration) (vs out : List ℕ) where
   -- i events are passed; the list so far, and the output so far
   pub record Stand (own : Automaton) : Type 0 where
     pub i : ℕ
@@ -32,14 +51,15 @@ module _ (l : Limits) (classes next ranks t : List ℕ) (cs : List Configuration
     pub clients : List Configuration
     pub output : List ℕ
     pub upto : i ≤ length vs
-    pub follows : (a : Automaton) → Lends a l next ranks t → classes ≡ a .classes
+    pub follows : (a : Automaton) → Lends a l next ranks t → Marked a marks cs
         → dayFrom a t cs out 0 0 vs ≡ dayFrom a t clients output written refused (drop i vs)
+    pub marked : (a : Automaton) → Lends a l next ranks t → Marked a marks cs → Marked a marks clients
     pub same-count : length clients ≡ length cs
     pub same-size : length output ≡ length out
     pub room : written + heldInAll own clients ≤ i + heldInAll own cs
     pub counted : refused ≤ i
 
-  module _ (g : DayRequires l classes next ranks t cs vs (length out)) where
+  module _ (g : DayRequires l marks next ranks t cs vs (length out)) where
     abbrev pub Standing : Type 0
     Standing = Stand (g .automaton)
 
@@ -52,7 +72,8 @@ module _ (l : Limits) (classes next ranks t : List ℕ) (cs : List Configuration
           clients = cs;
           output = out;
           upto = omega arith;
-          follows = λ a o s. refl;
+          follows = λ a o m. refl;
+          marked = λ a o m. m;
           same-count = refl;
           same-size = refl;
           room = omega arith;
@@ -74,18 +95,26 @@ module _ (l : Limits) (classes next ranks t : List ℕ) (cs : List Configuration
           unfolding heldIn
           held-is k = rw k
 
-          pub take-asks : TurnRequires l classes next ranks t c (s .written) (length (s .output))
+          pub mark-is : (a : Automaton) → Lends a l next ranks t → Marked a marks cs → getD marks (d .client) 0 ≡ markOf a c
+          mark-is a o m = s .marked a o m (d .client) b
+
+          pub take-asks : TakeRequires l marks (d .client) next ranks t c (s .written) (length (s .output))
           take-asks =
               record {
                 automaton = g .automaton;
                 lends = g .lends;
-                classes-are = g .classes-are;
+                client-low = omega (arith, b, s .same-count, g .few);
+                marked = mark-is (g .automaton) (g .lends) (g .marked);
                 room = λ k. omega (arith, held-is k, held-one (g .automaton) t (s .clients) (d .client) b, s .room, g .room, s .same-size);
               }
 
-          module _ (r : Taken) (zs : List ℕ) (f : Taking l classes next ranks t c (d .symbol) (s .written) (s .output) r zs) where
+          module _ (r : Taken) (zs : List ℕ) (f : Taking l marks (d .client) next ranks t c (d .symbol) (s .written) (s .output) r zs) where
+            abbrev took : (a : Automaton) → Lends a l next ranks t → Marked a marks cs
+                → (r ≡ takenOf a t c (d .symbol) (s .written)) × (zs ≡ turnedBuffer a t c (d .symbol) (s .written) (s .output))
+            took a o m = f a o (mark-is a o m)
+
             abbrev own : r ≡ takenOf (g .automaton) t c (d .symbol) (s .written)
-            own = f (g .automaton) (g .lends) (g .classes-are) .0
+            own = took (g .automaton) (g .lends) (g .marked) .0
 
             abbrev clients-then : List Configuration
             clients-then = set (s .clients) (d .client) (r .configuration)
@@ -101,6 +130,12 @@ module _ (l : Limits) (classes next ranks t : List ℕ) (cs : List Configuration
             unfolding takenOf
             kept = rw own (turn-keeps (g .automaton) t (s .clients) (d .client) (d .symbol) (s .written) _ b (s .room))
 
+            pub marked-then : (a : Automaton) → Lends a l next ranks t → Marked a marks cs → Marked a marks clients-then
+            unfolding takenOf
+            marked-then a o m =
+                mark-set a marks t (s .clients) (d .client) (r .configuration) b (s .marked a o m)
+                (ap (λ (x : Taken). markOf a (x .configuration)) (took a o m .0) ∙ mark-stays a marks t o c (d .symbol))
+
             -- accepted: its configuration is stored
             unfoldable pub stand-taken : length zs ≡ length (s .output) → r .refused ≡ 0 → Standing
             stand-taken long z =
@@ -112,7 +147,8 @@ module _ (l : Limits) (classes next ranks t : List ℕ) (cs : List Configuration
                   clients = clients-then;
                   output = zs;
                   upto = omega (arith, h);
-                  follows = λ a o e. s .follows a o e ∙ rw none-more at (led a (f a o e .0) (f a o e .1));
+                  follows = λ a o m. s .follows a o m ∙ rw none-more at (led a (took a o m .0) (took a o m .1));
+                  marked = marked-then;
                   same-count = length-set (s .clients) (d .client) (r .configuration) ∙ s .same-count;
                   same-size = long ∙ s .same-size;
                   room = omega (arith, kept);
@@ -137,7 +173,8 @@ module _ (l : Limits) (classes next ranks t : List ℕ) (cs : List Configuration
                   clients = s .clients;
                   output = zs;
                   upto = omega (arith, h);
-                  follows = λ a o e. s .follows a o e ∙ rw (passes nz, same) at (led a (f a o e .0) (f a o e .1));
+                  follows = λ a o m. s .follows a o m ∙ rw (passes nz, same) at (led a (took a o m .0) (took a o m .1));
+                  marked = s .marked;
                   same-count = s .same-count;
                   same-size = long ∙ s .same-size;
                   room = omega (arith, s .room);
@@ -155,8 +192,9 @@ module _ (l : Limits) (classes next ranks t : List ℕ) (cs : List Configuration
               clients = s .clients;
               output = s .output;
               upto = omega (arith, h);
-              follows = λ a o e.
-                  s .follows a o e ∙ step-out a t vs (s .i) (s .clients) (s .output) (s .written) (s .refused) h (rw ed at b);
+              follows = λ a o m.
+                  s .follows a o m ∙ step-out a t vs (s .i) (s .clients) (s .output) (s .written) (s .refused) h (rw ed at b);
+              marked = s .marked;
               same-count = s .same-count;
               same-size = s .same-size;
               room = omega (arith, s .room);
@@ -165,7 +203,7 @@ module _ (l : Limits) (classes next ranks t : List ℕ) (cs : List Configuration
 
       -- the end
       pub stand-ends : length vs ≤ s .i
-          → Days l classes next ranks t cs vs out (record { refusal = 0; length = s .written; refused = s .refused }) (s .clients) (s .output)
-      stand-ends h a o e =
-          let w = s .follows a o e ∙ step-end a t vs (s .i) (s .clients) (s .output) (s .written) (s .refused) h in
+          → Days l marks next ranks t cs vs out (record { refusal = 0; length = s .written; refused = s .refused }) (s .clients) (s .output)
+      stand-ends h a o m =
+          let w = s .follows a o m ∙ step-end a t vs (s .i) (s .clients) (s .output) (s .written) (s .refused) h in
           (rw w, ap (λ (x : Day). x .clients) (sym w), ap (λ (x : Day). x .out) (sym w))

@@ -4,7 +4,8 @@ use mathlib.Core.Path.{_≡_, refl, sym, _∙_, ap}
 use mathlib.Core.Bool.{Bool, true, false, cond}
 use mathlib.Core.List.{List}
 use native.Mathlib.Omega.{arith}
-use lib.ListN.{length}
+use lib.ListN.{length, replicate, length-replicate}
+use lib.Seq.{sets}
 use lib.Dec.{ltb}
 use borrow.Author.Tests.{ltb-false}
 use Rattle.base.specs.Rows.{first}
@@ -22,8 +23,16 @@ use Rattle.clients_answers.proofs.Loop.{day-ran}
 use Rattle.clients_entry.specs.declared.ListEntry.{ListEntry}
 use Rattle.clients_entry.specs.Entries.{listEntryOf}
 use Rattle.clients_entry.proofs.Entering.{listed, listed-lends}
-use Rattle.clients_day.specs.Days.{heldInAllBy, DayRequires, Days}
-use Rattle.clients_day.proofs.Holding.{held-all-own}
+use Rattle.clients_day.specs.Days.{heldInAllBy, marksBy, Marked, DayRequires, Days}
+use Rattle.clients_day.proofs.Holding.{held-all-own, marks-own}
+
+-- no mark yet
+unfoldable pub unmarked : List ℕ
+unmarked = replicate 500 0
+
+unmarked-long : length unmarked ≡ 500
+unfolding unmarked
+unmarked-long = length-replicate {A = ℕ} 500 0
 
 module _ (a : Automaton) (t : List ℕ) (cs : List Configuration) (vs out : List ℕ) where
   -- the answer, the list and the output
@@ -55,9 +64,15 @@ module _ (a : Automaton) (t : List ℕ) (cs : List Configuration) (vs out : List
       run-lends = listed-lends a t (length cs) m em (clear-opened a t (length cs) clear)
 
       -- row 16 is asked
-      module _ (held : ℕ) (eh : held ≡ heldInAllBy (m .limits) (a .classes) cs) (b : Bool) (eb : b ≡ ltb (length out) (length vs + held)) where
+      module _ (held : ℕ) (marks : List ℕ)
+          (found : (held ≡ heldInAllBy (m .limits) (a .classes) cs) × (marks ≡ sets unmarked 0 (marksBy (m .limits) (a .classes) cs)))
+          (b : Bool) (eb : b ≡ ltb (length out) (length vs + held)) where
         all-held : held ≡ heldInAll a cs
-        all-held = eh ∙ held-all-own (m .limits) (a .classes) a (a .next) (m .ranks) t run-lends refl cs
+        all-held = found .0 ∙ held-all-own (m .limits) (a .classes) a (a .next) (m .ranks) t run-lends refl cs
+
+        all-marked : Marked a marks cs
+        all-marked =
+            rw (found .1) (marks-own (m .limits) (a .classes) a (a .next) (m .ranks) t run-lends refl unmarked cs (omega (arith, unmarked-long, run-few)))
 
         room-row : runForRefusal a t cs vs out ≡ cond b 16 0
         unfolding runForRefusal first room
@@ -69,20 +84,21 @@ module _ (a : Automaton) (t : List ℕ) (cs : List Configuration) (vs out : List
         run-short k r er = refused-answers 16 (room-row ∙ rw k) (λ h. omega arith) r er
 
         module _ (k : b ≡ false) where
-          pub run-asks : DayRequires (m .limits) (a .classes) (a .next) (m .ranks) t cs vs (length out)
+          pub run-asks : DayRequires (m .limits) marks (a .next) (m .ranks) t cs vs (length out)
           run-asks =
               record {
                 automaton = a;
                 lends = run-lends;
-                classes-are = refl;
+                few = run-few;
+                marked = all-marked;
                 room = omega (arith, ltb-false (length out) (length vs + held) (sym eb ∙ k), all-held);
               }
 
           pub run-answers : (r : RanFor) (cs′ : List Configuration) (out′ : List ℕ)
-              → Days (m .limits) (a .classes) (a .next) (m .ranks) t cs vs out r cs′ out′ → Answers r cs′ out′
+              → Days (m .limits) marks (a .next) (m .ranks) t cs vs out r cs′ out′ → Answers r cs′ out′
           unfolding ranFor
           run-answers r cs′ out′ days =
-              let w = days a run-lends refl in
+              let w = days a run-lends all-marked in
               let n : runForRefusal a t cs vs out ≡ 0 = room-row ∙ rw k in
               let d = day-ran a t cs vs out n in
               (w .0 ∙ rw (d, n), w .1 ∙ ap (λ (x : Day). x .clients) d, w .2 ∙ ap (λ (x : Day). x .out) d)

@@ -4,6 +4,7 @@ use automaton::Automaton;
 use clients_answers::RanFor;
 use clients_entry::Event;
 use clients_entry::ListEntry;
+use clients_entry::MAX_CLIENTS;
 use clients_entry::Taken;
 use clients_entry::enter_list;
 use clients_entry::event_at;
@@ -16,18 +17,26 @@ use monitor_loop::Limits;
 ghost use mathlib.Core.Path.{_≡_};
 ghost use Prim.Native.Nat.{_≤_};
 ghost use lib.ListN.{length};
+ghost use lib.Seq.{sets};
 ghost use Rattle.clients_answers.specs.Clients.{maxClients, ranFor, ranClients, ranForBuffer};
-ghost use Rattle.clients_day.specs.Days.{heldInAllBy, DayRequires, Days};
+ghost use Rattle.clients_day.specs.Days.{heldInAllBy, marksBy, DayRequires, Days};
 
-// How many events all of them hold for row 16.
-fn held_in_all<'a>(limits: Limits, classes: &'a [u8; 16], configurations: &[Configuration]) -> usize
+// How many events all of them hold for row 16, and the mark of each, by which an event reads row
+// 13's answer.
+fn held_in_all<'a>(
+    limits: Limits,
+    classes: &'a [u8; 16],
+    configurations: &[Configuration],
+    marks: &mut [u8; MAX_CLIENTS],
+) -> usize
     requires { ⌜ length (now configurations) ≤ maxClients ⌝ }
-    ensures { λ r. ⌜ r ≡ heldInAllBy limits (now (classes .entry)) (now (configurations .entry)) ⌝ }
+    ensures { λ r. let classed = now (classes .entry) in let cs = now (configurations .entry) in
+        ⌜ (r ≡ heldInAllBy limits classed cs) × (now (marks .exit) ≡ sets (now (marks .entry)) 0 (marksBy limits classed cs)) ⌝ }
 {
     let mut sum: usize = 0;
     let mut i: usize = 0;
     while i < configurations.len() {
-        sum = sum + held_in(limits, classes, configurations[i]);
+        sum = sum + held_in(limits, classes, configurations[i], marks, i);
         i = i + 1;
     }
     sum
@@ -36,7 +45,7 @@ fn held_in_all<'a>(limits: Limits, classes: &'a [u8; 16], configurations: &[Conf
 // A day's events in turn; those that are refused are passed over and counted.
 fn process<'a>(
     limits: Limits,
-    classes: &'a [u8; 16],
+    marks: &'a [u8; MAX_CLIENTS],
     next: &'a [u8; 512],
     ranks: &'a [u8; 16],
     table: &[u32],
@@ -45,9 +54,9 @@ fn process<'a>(
     out: &mut [u8],
 ) -> RanFor
     requires { let t = now table in
-        ⌜ DayRequires limits (now classes) (now next) (now ranks) t (now configurations) (now events) (length (now out)) ⌝ }
+        ⌜ DayRequires limits (now marks) (now next) (now ranks) t (now configurations) (now events) (length (now out)) ⌝ }
     ensures { λ r. let t = now (table .entry) in let vs = now (events .entry) in
-        ⌜ Days limits (now (classes .entry)) (now (next .entry)) (now (ranks .entry)) t (now (configurations .entry)) vs
+        ⌜ Days limits (now (marks .entry)) (now (next .entry)) (now (ranks .entry)) t (now (configurations .entry)) vs
         (now (out .entry)) r (now (configurations .exit)) (now (out .exit)) ⌝ }
 {
     let mut written: usize = 0;
@@ -60,7 +69,8 @@ fn process<'a>(
         if at < configurations.len() {
             let after = take(
                 limits,
-                classes,
+                marks,
+                at,
                 next,
                 ranks,
                 table,
@@ -104,7 +114,8 @@ pub fn run(
         return refused_run(entry.refusal);
     }
     let classes = a.classes;
-    let held = held_in_all(entry.limits, &classes, configurations);
+    let mut marks = [0u8; MAX_CLIENTS];
+    let held = held_in_all(entry.limits, &classes, configurations, &mut marks);
     if too_short(out.len(), events.len(), held) {
         return refused_run(16);
     }
@@ -112,7 +123,7 @@ pub fn run(
     let ranks = entry.ranks;
     process(
         entry.limits,
-        &classes,
+        &marks,
         &next,
         &ranks,
         table,

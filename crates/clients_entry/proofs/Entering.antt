@@ -5,27 +5,30 @@ use mathlib.Core.Bool.{true, false, _&&_}
 use mathlib.Core.List.{List, [], _∷_}
 use native.Mathlib.Omega.{arith}
 use lib.Dec.{eqb, leb, ltb}
-use lib.ListN.{length}
+use lib.ListN.{length, getD}
+use lib.Seq.{sets}
 use borrow.Author.Tests.{ne-eqb, eqb-true, eqb-false, ltb-true, ltb-false, lt-ltb, le-ltb}
 use Rattle.base.specs.Rows.{first}
 use Rattle.base.proofs.Bools.{by}
 use Rattle.automaton.specs.declared.Automaton.{Automaton}
 use Rattle.automaton.specs.Automaton.{valid}
 use Rattle.solver_sets.specs.Table.{short}
+use Rattle.configuration_places.specs.Places.{inputNumber}
 use Rattle.configuration.specs.declared.Configuration.{Configuration}
-use Rattle.configuration.specs.Configuration.{consistentIn, consistent}
+use Rattle.configuration.specs.Configuration.{consistent}
 use Rattle.monitor_answers.specs.Answers.{tableRows, tableRefusal, refusedEvent, received}
 use Rattle.monitor_answers.specs.declared.Turned.{Turned}
-use Rattle.monitor_answers.specs.Turns.{turnRefusal, turnEmitted, turnNext, turned}
-use Rattle.monitor_answers.proofs.Turns.{Opened, receive-unopened}
+use Rattle.monitor_answers.specs.Turns.{turnRefusal, turnEmitted, turnNext, turned, turnedBuffer}
+use Rattle.monitor_answers.proofs.Turns.{Opened, receive-unopened, turn-inconsistent, turn-refused, turn-silent}
+use Rattle.monitor_step.specs.Stepping.{eventRowBy}
 use Rattle.monitor_entry.specs.declared.Entry.{Entry}
 use Rattle.monitor_entry.specs.Entries.{entryOf}
 use Rattle.monitor_loop.specs.declared.Limits.{Limits}
-use Rattle.monitor_loop.specs.declared.Processed.{Processed}
-use Rattle.monitor_loop.specs.Lending.{Lends, processed, Turns, Takes}
+use Rattle.monitor_loop.specs.Lending.{Lends, ProcessRequires, processed, Takes}
+use Rattle.monitor_loop.proofs.Taking.{turn-row}
 use Rattle.clients_answers.specs.Clients.{rightCount, listRows, listRefusal, refusedFor}
 use Rattle.clients_answers.proofs.Refusals.{list-passes, list-clear, list-stands}
-use Rattle.clients_entry.specs.Entries.{ListEntry, Taken, countRow, listEntryOf, takenOf, Taking, presentOf, absentOf}
+use Rattle.clients_entry.specs.Entries.{ListEntry, Taken, countRow, listEntryOf, markOf, takenOf, TakeRequires, Taking, presentOf, absentOf}
 
 -- row 20
 module _ (count : ℕ) where
@@ -124,29 +127,63 @@ module _ (a : Automaton) (t : List ℕ) (count : ℕ) where
       (λ z. rw z)
       (λ z. rw (receive-unopened a t c e (eqb-false n 0 z), z)))
 
--- one event of a day: refused, as a turn is
-pub passes-over : (l : Limits) (classes next ranks t : List ℕ) (c : Configuration) (e at row : ℕ) (out : List ℕ) → (row ≡ 0 → ⊥)
-    → Turns l classes next ranks t c e at out (record { row = row; configuration = c; written = at }) out
-    → (r : Taken) → r ≡ record { configuration = c; written = at; refused = 1 }
-    → Taking l classes next ranks t c e at out r out
-unfolding takenOf turned
-passes-over l classes next ranks t c e at row out z f r er a o s =
-    let w = f a o s in
-    let n : turnRefusal a t c e ≡ 0 → ⊥ = λ h. z (ap (λ (x : Turned). x .row) (w .0) ∙ h) in
-    (er ∙ ap (λ (x : Turned). record { configuration = x .configuration; written = x .written; refused = 1 }) (w .0) ∙ rw (ne-eqb (turnRefusal a t c e) 0 n), w .1)
+-- what a mark says
+module _ (a : Automaton) (c : Configuration) (mark : ℕ) (s : mark ≡ markOf a c) where
+  pub mark-none : mark ≡ 0 → consistent a c ≡ false
+  mark-none z = by (consistent a c) (λ k. let n : 1 ≡ 0 = rw k at (sym s ∙ z) in absurd (omega arith)) (λ k. k)
 
--- accepted, as one is that a consistent configuration meets
-pub takes-event : (l : Limits) (classes next ranks t : List ℕ) (c : Configuration) (e at : ℕ) (out : List ℕ) (d : Configuration) (r : Processed) (out′ : List ℕ)
-    → consistentIn (l .states) (l .symbols) (l .capacity) classes c ≡ true → (s : Takes l next ranks t c e at out r out′) → r .row ≡ 0
-    → ((a : Automaton) → Lends a l next ranks t → consistent a c ≡ true → (d ≡ turnNext a t c e) × (r .written ≡ at + length (turnEmitted a t c e)))
-    → Taking l classes next ranks t c e at out (record { configuration = d; written = r .written; refused = 0 }) out′
-unfolding takenOf processed
-takes-event l classes next ranks t c e at out d r out′ k f z found a o s =
-    let same : consistentIn (l .states) (l .symbols) (l .capacity) classes c ≡ consistent a c = rw (o .limits-are, s) in
-    let w = f a o (sym same ∙ k) in
-    let x = found a o (sym same ∙ k) in
-    let n : turnRefusal a t c e ≡ 0 = sym (ap (λ (x : Processed). x .row) (w .0)) ∙ z in
-    (rw (x .0, x .1, n), w .1)
+  pub mark-some : (mark ≡ 0 → ⊥) → consistent a c ≡ true
+  mark-some z = by (consistent a c) (λ k. k) (λ k. absurd (z (s ∙ rw k)))
+
+-- one event of a day
+module _ (l : Limits) (marks : List ℕ) (client : ℕ) (next ranks t : List ℕ) (c : Configuration) (e at : ℕ) (out : List ℕ) where
+  -- refused, by some row
+  refuses : (row : ℕ) → (row ≡ 0 → ⊥)
+      → ((a : Automaton) → Lends a l next ranks t → getD marks client 0 ≡ markOf a c → turnRefusal a t c e ≡ row)
+      → (r : Taken) → r ≡ record { configuration = c; written = at; refused = 1 }
+      → Taking l marks client next ranks t c e at out r out
+  unfolding takenOf turned turnedBuffer
+  refuses row z f r er a o s =
+      let h = f a o s in
+      let w = turn-refused a t c e row h z at in
+      (er ∙ ap (λ (x : Turned). record { configuration = x .configuration; written = x .written; refused = 1 }) w ∙ rw (h, ne-eqb row 0 z), ap (sets out at) (sym (turn-silent a t c e row h z)))
+
+  -- row 13
+  pub takes-none : getD marks client 0 ≡ 0 → (r : Taken) → r ≡ record { configuration = c; written = at; refused = 1 }
+      → Taking l marks client next ranks t c e at out r out
+  takes-none k r er =
+      let thirteen : _≡_ {A = ℕ} 13 0 → ⊥ = λ z. omega arith in
+      refuses 13 thirteen (λ a o s. turn-inconsistent a t c e (mark-none a c (getD marks client 0) s k)) r er
+
+  -- row 13 passed
+  module _ (k : getD marks client 0 ≡ 0 → ⊥) where
+    pub take-enters : {size : ℕ} → TakeRequires l marks client next ranks t c at size → ProcessRequires l next ranks t c
+    take-enters g =
+        record { automaton = g .automaton; lends = g .lends; stands = mark-some (g .automaton) c (getD marks client 0) (g .marked) k }
+
+    pub take-room : {size : ℕ} → TakeRequires l marks client next ranks t c at size → at + c .held < size
+    take-room g = g .room (mark-some (g .automaton) c (getD marks client 0) (g .marked) k)
+
+    -- rows 14, 15 and 23
+    pub takes-refused : (capacity held n : ℕ) → capacity ≡ l .capacity → held ≡ c .held
+        → n ≡ eventRowBy ranks (l .symbols) capacity held (inputNumber (c .received)) e → (n ≡ 0 → ⊥)
+        → (r : Taken) → r ≡ record { configuration = c; written = at; refused = 1 } → Taking l marks client next ranks t c e at out r out
+    takes-refused capacity held n ec eh en z r er =
+        refuses n z
+        (λ a o s. turn-row l next ranks t c e capacity held n ec eh en a o (mark-some a c (getD marks client 0) s k))
+        r er
+
+    -- accepted
+    pub takes-event : (d : Configuration) (r : _) (out′ : List ℕ) → (s : Takes l next ranks t c e at out r out′) → r .row ≡ 0
+        → ((a : Automaton) → Lends a l next ranks t → consistent a c ≡ true → (d ≡ turnNext a t c e) × (r .written ≡ at + length (turnEmitted a t c e)))
+        → Taking l marks client next ranks t c e at out (record { configuration = d; written = r .written; refused = 0 }) out′
+    unfolding takenOf processed
+    takes-event d r out′ f z found a o s =
+        let own = mark-some a c (getD marks client 0) s k in
+        let w = f a o own in
+        let x = found a o own in
+        let n : turnRefusal a t c e ≡ 0 = rw (w .0) at z in
+        (rw (x .0, x .1, n), w .1)
 
 -- row 16: a test of a difference, and of a sum
 module _ (size events held : ℕ) where

@@ -1,15 +1,15 @@
 -- What the functions that need no list hand back, and what they promise over the parts of an
 -- automaton that they are lent.
-use Prim.Native.Nat.{ℕ, _+_}
+use Prim.Native.Nat.{ℕ, _+_, _<_}
 use mathlib.Core.Path.{_≡_}
 use mathlib.Core.Bool.{true, cond}
 use mathlib.Core.List.{List, [], _∷_, _++_}
-use lib.ListN.{length}
+use lib.ListN.{length, getD}
 use lib.Dec.{eqb}
 use Rattle.base.specs.Rows.{first}
 use Rattle.automaton.specs.declared.Automaton.{Automaton}
 use Rattle.configuration.specs.declared.Configuration.{Configuration}
-use Rattle.configuration.specs.Configuration.{consistentIn}
+use Rattle.configuration.specs.Configuration.{consistentIn, consistent}
 use Rattle.monitor_answers.specs.declared.Received.{Received}
 use Rattle.monitor_answers.specs.Answers.{refusedEvent, received}
 use Rattle.monitor_answers.specs.Turns.{turnRefusal, turnEmitted, turnNext, turnedBuffer}
@@ -40,6 +40,26 @@ listEntryOf a t count =
 unfoldable pub heldInBy : Limits → List ℕ → Configuration → ℕ
 heldInBy l classes c = cond (consistentIn (l .states) (l .symbols) (l .capacity) classes c) (c .held) 0
 
+-- a configuration's mark, row 13's answer kept for a day: 1 where it lets it pass, 0 where not; by
+-- the parts that row 13 reads
+unfoldable pub markBy : Limits → List ℕ → Configuration → ℕ
+markBy l classes c = cond (consistentIn (l .states) (l .symbols) (l .capacity) classes c) 1 0
+
+-- and by an automaton
+abbrev pub markOf : Automaton → Configuration → ℕ
+markOf a c = cond (consistent a c) 1 0
+
+-- what `take` asks: rows 11 and 12 passed, by some such automaton, at the client's place the mark
+-- of its configuration, and room from a place of the output on for one event more than what a
+-- consistent configuration holds
+pub record TakeRequires (l : Limits) (marks : List ℕ) (client : ℕ) (next ranks t : List ℕ) (c : Configuration) (at size : ℕ)
+    : Type 0 where
+  pub automaton : Automaton
+  pub lends : Lends automaton l next ranks t
+  pub client-low : client < 500
+  pub marked : getD marks client 0 ≡ markOf automaton c
+  pub room : consistent automaton c ≡ true → at + c .held < size
+
 -- one event of a day, where what is emitted is written from a place on
 unfoldable pub takenOf : Automaton → List ℕ → Configuration → ℕ → ℕ → Taken
 takenOf a t c e at =
@@ -49,10 +69,10 @@ takenOf a t c e at =
       refused = cond (eqb (turnRefusal a t c e) 0) 0 1;
     }
 
--- over lent parts, for any automaton whose parts these are
-abbrev pub Taking : Limits → List ℕ → List ℕ → List ℕ → List ℕ → Configuration → ℕ → ℕ → List ℕ → Taken → List ℕ → Type 0
-Taking l classes next ranks t c e at out r out′ =
-    (a : Automaton) → Lends a l next ranks t → classes ≡ a .classes
+-- over lent parts, for any automaton whose parts and whose mark of the client these are
+abbrev pub Taking : Limits → List ℕ → ℕ → List ℕ → List ℕ → List ℕ → Configuration → ℕ → ℕ → List ℕ → Taken → List ℕ → Type 0
+Taking l marks client next ranks t c e at out r out′ =
+    (a : Automaton) → Lends a l next ranks t → getD marks client 0 ≡ markOf a c
     → (r ≡ takenOf a t c e at) × (out′ ≡ turnedBuffer a t c e at out)
 
 -- a day's event, with its client's number first

@@ -18,11 +18,10 @@ use monitor_step::step;
 ghost use mathlib.Core.Path.{_≡_};
 ghost use Prim.Native.Nat.{_+_, _<_};
 ghost use lib.Dec.{ltb};
-ghost use lib.ListN.{length, getD};
-ghost use Rattle.monitor_loop.specs.Lending.{TurnRequires};
+ghost use lib.ListN.{length, getD, set};
 ghost use Rattle.clients_answers.specs.Clients.{rightCount, answerOf, refusedFor, refusedRunFor};
-ghost use Rattle.clients_entry.specs.Entries.{countRow, listEntryOf, heldInBy, Taking, eventOf};
-ghost use Rattle.clients_entry.specs.Entries.{presentOf, absentOf};
+ghost use Rattle.clients_entry.specs.Entries.{countRow, listEntryOf, heldInBy, markBy, eventOf};
+ghost use Rattle.clients_entry.specs.Entries.{TakeRequires, Taking, presentOf, absentOf};
 
 // The most clients of a list.
 pub const MAX_CLIENTS: usize = 500;
@@ -94,13 +93,24 @@ pub fn enter_list(a: Automaton, table: &[u32], count: usize) -> ListEntry
     }
 }
 
-// How many events a configuration holds for row 16: none where row 13 refuses it.
-pub fn held_in(limits: Limits, classes: &[u8; 16], c: Configuration) -> usize
-    ensures { λ r. ⌜ r ≡ heldInBy limits (now (classes .entry)) c ⌝ }
+// How many events a client's configuration holds for row 16: none where row 13 refuses it. Its
+// mark, 1 where row 13 lets it pass and 0 where not, is stored at the client's place.
+pub fn held_in(
+    limits: Limits,
+    classes: &[u8; 16],
+    c: Configuration,
+    marks: &mut [u8; MAX_CLIENTS],
+    client: usize,
+) -> usize
+    requires { ⌜ client < 500 ⌝ }
+    ensures { λ r. let classed = now (classes .entry) in
+        ⌜ (r ≡ heldInBy limits classed c) × (now (marks .exit) ≡ set (now (marks .entry)) client (markBy limits classed c)) ⌝ }
 {
     if !consistent(limits.states, limits.symbols, limits.capacity, classes, c) {
+        marks[client] = 0;
         return 0;
     }
+    marks[client] = 1;
     as_usize(c.held)
 }
 
@@ -115,12 +125,14 @@ fn passed_over(c: Configuration, at: usize) -> Taken
     }
 }
 
-// One event of a day, for any configuration: rows 13 to 15 and 23, and the step of an accepted
-// one, which writes from a place on. (The step is inlined here, as it is into the loop over one
-// configuration's events: with a call of `monitor_loop::turn` a day took 1.20 to 1.38 of C.)
+// One event of a day, for any client's configuration: row 13 by its mark, rows 14, 15 and 23, and
+// the step of an accepted event, which writes from a place on. (The step is inlined here, as it is
+// into the loop over one configuration's events: with a call of `monitor_loop::turn` a day took
+// 1.20 to 1.38 of C.)
 pub fn take<'a>(
     limits: Limits,
-    classes: &'a [u8; 16],
+    marks: &'a [u8; MAX_CLIENTS],
+    client: usize,
     next: &'a [u8; 512],
     ranks: &'a [u8; 16],
     table: &[u32],
@@ -129,12 +141,12 @@ pub fn take<'a>(
     out: &mut [u8],
     at: usize,
 ) -> Taken
-    requires { ⌜ TurnRequires limits (now classes) (now next) (now ranks) (now table) c at (length (now out)) ⌝ }
+    requires { ⌜ TakeRequires limits (now marks) client (now next) (now ranks) (now table) c at (length (now out)) ⌝ }
     ensures { λ r. let t = now (table .entry) in
-        ⌜ Taking limits (now (classes .entry)) (now (next .entry)) (now (ranks .entry)) t c event at (now (out .entry)) r
+        ⌜ Taking limits (now (marks .entry)) client (now (next .entry)) (now (ranks .entry)) t c event at (now (out .entry)) r
         (now (out .exit)) ⌝ }
 {
-    if !consistent(limits.states, limits.symbols, limits.capacity, classes, c) {
+    if marks[client] == 0 {
         return passed_over(c, at);
     }
     let held = as_usize(c.held);

@@ -63,11 +63,10 @@ use denote.Ref.{ShrRef, ptr-vals, shr-tells, shr-copy}
 use denote.Triple.Walked.{needs, stay-none-ref, goes-none-ref}
 use Rattle.configuration.specs.declared.Configuration.{Configuration}
 use Rattle.monitor_loop.specs.declared.Limits.{Limits}
-use Rattle.monitor_loop.specs.Lending.{TurnRequires}
 use Rattle.clients_answers.specs.declared.RanFor.{RanFor}
 use Rattle.clients_answers.specs.Clients.{none}
 use Rattle.clients_entry.specs.declared.Taken.{Taken}
-use Rattle.clients_entry.specs.Entries.{Taking, eventOf}
+use Rattle.clients_entry.specs.Entries.{TakeRequires, Taking, eventOf}
 use Rattle.clients_day.specs.Days.{DayRequires, Days}
 use Rattle.clients_entry.specs.declared.Event.{Event}
 use Rattle.base.proofs.Guards.{guards, nonzero}
@@ -101,7 +100,7 @@ abbrev stayed : Stays (f.ended .signature .params) (f.ended .kept)
 stayed = (
   stay-none (λ _. Li.the-row) yes,
   (
-    stay-none-ref (0 ∷ []) tt (ArrayOf (plain (λ _. u8)) (λ _. tt) 16) yes,
+    stay-none-ref (0 ∷ []) tt (ArrayOf (plain (λ _. u8)) (λ _. tt) 500) yes,
     (
       stay-none-ref (0 ∷ []) tt (ArrayOf (plain (λ _. u8)) (λ _. tt) 512) yes,
       (
@@ -121,6 +120,9 @@ stayed = (
 abbrev R16 : RattleType
 R16 = Array u8 16
 
+abbrev R500 : RattleType
+R500 = Array u8 500
+
 abbrev R512 : RattleType
 R512 = Array u8 512
 
@@ -129,6 +131,9 @@ word = tyInt w64
 
 abbrev arr : Ty
 arr = tyRef (named 0) imm (tyArray (tyInt w8) 16)
+
+abbrev arr500 : Ty
+arr500 = tyRef (named 0) imm (tyArray (tyInt w8) 500)
 
 abbrev arr512 : Ty
 arr512 = tyRef (named 0) imm (tyArray (tyInt w8) 512)
@@ -153,10 +158,10 @@ lends = sliceTy lend
 
 -- what the parameters of `take` are at its end
 abbrev Lasts : Type 0
-Lasts = Unit {0} × (Unit {0} × (Unit {0} × (Unit {0} × (Unit {0} × (Unit {0} × (Unit {0} × (List ℕ × (Unit {0} × Unit {0}))))))))
+Lasts = Unit {0} × (Unit {0} × (Unit {0} × (Unit {0} × (Unit {0} × (Unit {0} × (Unit {0} × (Unit {0} × (List ℕ × (Unit {0} × Unit {0})))))))))
 
 abbrev last : Lasts → List ℕ
-last zs = zs .1 .1 .1 .1 .1 .1 .1 .0
+last zs = zs .1 .1 .1 .1 .1 .1 .1 .1 .0
 
 module _ {M : Type 1} (𝓤 : URA M) (H : Heap 𝓤) (A : Atoms 𝓤) (at-mem : Memory → SProp 𝓤) (run : Routine → Fun 𝓤) where
   abbrev EventAt : Contract 𝓤
@@ -165,15 +170,15 @@ module _ {M : Type 1} (𝓤 : URA M) (H : Heap 𝓤) (A : Atoms 𝓤) (at-mem : 
   abbrev Take : Contract 𝓤
   Take = tripleOf 𝓤 H A tk.signature (tk.spec 𝓤 H A at-mem run)
 
--- The letters: L limits, C classes, N next states, K ranks, T table, R list, E events, O output.
+-- The letters: L limits, M marks, N next states, K ranks, T table, R list, E events, O output.
 -- v is a machine value, `ref` what a reference stands for, `Own` what a parameter owns.
 module _ {M : Type 1} (𝓤 : URA M) (H : Heap 𝓤) (A : Atoms 𝓤) (W : Given 𝓤 H A) (at-mem : Memory → SProp 𝓤) (run : Routine → Fun 𝓤) (κa κt κr κe κo : Lft) (qa qt qr qe qo : Share)
-    (l : Limits) (refC refN refK refT : RefT (List ℕ)) (b o : ℕ) (γ : GName) (ys : List Configuration) (refE : RefT (List ℕ)) (bo oo : ℕ) (γo : GName) (os₀ : List ℕ)
+    (l : Limits) (refM refN refK refT : RefT (List ℕ)) (b o : ℕ) (γ : GName) (ys : List Configuration) (refE : RefT (List ℕ)) (bo oo : ℕ) (γo : GName) (os₀ : List ℕ)
     (gl : Is Li.the-row l (LL.val Li.the-type Li′.the-laws l ∷ [])) (gT : Is (ShrSlice (named 1) κt u32) refT (sliceVal (refT .ptr) (length (refT .now)) ∷ []))
     (gn : Room T.the-row (length ys)) (ge : Is (ShrSlice (named 3) κe u32) refE (sliceVal (refE .ptr) (length (refE .now)) ∷ [])) (go : Room u8 (length os₀))
-    (asked : DayRequires l (refC .now) (refN .now) (refK .now) (refT .now) ys (refE .now) (length os₀)) where
-  abbrev cl : List ℕ
-  cl = refC .now
+    (asked : DayRequires l (refM .now) (refN .now) (refK .now) (refT .now) ys (refE .now) (length os₀)) where
+  abbrev mk : List ℕ
+  mk = refM .now
 
   abbrev nx : List ℕ
   nx = refN .now
@@ -193,8 +198,8 @@ module _ {M : Type 1} (𝓤 : URA M) (H : Heap 𝓤) (A : Atoms 𝓤) (W : Given
   abbrev vL : Val
   vL = LL.val Li.the-type Li′.the-laws l
 
-  abbrev vC : Val
-  vC = vptr (refC .ptr .0) (refC .ptr .1)
+  abbrev vM : Val
+  vM = vptr (refM .ptr .0) (refM .ptr .1)
 
   abbrev vN : Val
   vN = vptr (refN .ptr .0) (refN .ptr .1)
@@ -221,13 +226,13 @@ module _ {M : Type 1} (𝓤 : URA M) (H : Heap 𝓤) (A : Atoms 𝓤) (W : Given
   refO δ zs = record { ptr = (bo, oo); name = δ; now = zs }
 
   abbrev x : Args f.signature (κa, (κt, (κr, (κe, (κo, tt)))))
-  x = (l, (refC, (refN, (refK, (refT, (refR ys, (refE, (refO γo os₀, tt))))))))
+  x = (l, (refM, (refN, (refK, (refT, (refR ys, (refE, (refO γo os₀, tt))))))))
 
   abbrev at : Vals f.signature (κa, (κt, (κr, (κe, (κo, tt)))))
-  at = (vL ∷ [], (vC ∷ [], (vN ∷ [], (vK ∷ [], (vT ∷ [], (vR ∷ [], (vE ∷ [], (vO ∷ [], tt))))))))
+  at = (vL ∷ [], (vM ∷ [], (vN ∷ [], (vK ∷ [], (vT ∷ [], (vR ∷ [], (vE ∷ [], (vO ∷ [], tt))))))))
 
-  abbrev OwnC : Fml
-  OwnC = ShrRef (named 0) κa R16 .own refC (vC ∷ [])
+  abbrev OwnM : Fml
+  OwnM = ShrRef (named 0) κa R500 .own refM (vM ∷ [])
 
   abbrev OwnN : Fml
   OwnN = ShrRef (named 0) κa R512 .own refN (vN ∷ [])
@@ -258,11 +263,11 @@ module _ {M : Type 1} (𝓤 : URA M) (H : Heap 𝓤) (A : Atoms 𝓤) (W : Given
   Post = walkOf 𝓤 H A f.ended stayed (f.clauses 𝓤 H A at-mem run) .post called
 
   leaves : (r : RanFor) (zs : List Configuration) (os : List ℕ) → Is Rn.the-row r (LL.val Rn.the-type Rn′.the-laws r ∷ []) → length zs ≡ n → length os ≡ length os₀
-      → Days l cl nx rk t ys es os₀ r zs os
-      → ent 𝓤 (⋆ 𝓤 H A (‵ (flft κa qa) ∷ ‵ (flft κt qt) ∷ ‵ (flft κr qr) ∷ ‵ (flft κe qe) ∷ ‵ (flft κo qo) ∷ ‵ OwnC ∷ ‵ OwnN ∷ ‵ OwnK ∷ ‵ OwnT ∷ ‵ (OwnR zs) ∷ ‵ OwnE ∷
+      → Days l mk nx rk t ys es os₀ r zs os
+      → ent 𝓤 (⋆ 𝓤 H A (‵ (flft κa qa) ∷ ‵ (flft κt qt) ∷ ‵ (flft κr qr) ∷ ‵ (flft κe qe) ∷ ‵ (flft κo qo) ∷ ‵ OwnM ∷ ‵ OwnN ∷ ‵ OwnK ∷ ‵ OwnT ∷ ‵ (OwnR zs) ∷ ‵ OwnE ∷
       ‵ (OwnO os (length os₀)) ∷ [])) (Post (LL.val Rn.the-type Rn′.the-laws r))
   leaves r zs os is lz lo e =
-      qed W (‵ (flft κa qa) ∷ ‵ (flft κt qt) ∷ ‵ (flft κr qr) ∷ ‵ (flft κe qe) ∷ ‵ (flft κo qo) ∷ ‵ OwnC ∷ ‵ OwnN ∷ ‵ OwnK ∷ ‵ OwnT ∷ ‵ (OwnR zs) ∷ ‵ OwnE ∷ ‵ (OwnO os (length os₀)) ∷ []) ∵
+      qed W (‵ (flft κa qa) ∷ ‵ (flft κt qt) ∷ ‵ (flft κr qr) ∷ ‵ (flft κe qe) ∷ ‵ (flft κo qo) ∷ ‵ OwnM ∷ ‵ OwnN ∷ ‵ OwnK ∷ ‵ OwnT ∷ ‵ (OwnR zs) ∷ ‵ OwnE ∷ ‵ (OwnO os (length os₀)) ∷ []) ∵
       suffices ! _ (ends-at 𝓤 H A f.ended stayed (f.clauses 𝓤 H A at-mem run) W called (LL.val Rn.the-type Rn′.the-laws r) r (tt, (tt, (tt, (tt, (tt, (zs, (tt, (os, tt))))))))
       (tt, (tt, (tt, (tt, (tt, (lz, (tt, (lo, tt))))))))) $ says ! e $
       nothing ! $ move ! (5 ∷ 0 ∷ []) $ join ! $ move ! (4 ∷ 0 ∷ []) $ join ! $ move ! (3 ∷ 0 ∷ []) $ join ! $ move ! (2 ∷ 0 ∷ []) $ join ! $ move ! (1 ∷ 0 ∷ []) $ join ! $ frame ! $
@@ -285,28 +290,28 @@ module _ {M : Type 1} (𝓤 : URA M) (H : Heap 𝓤) (A : Atoms 𝓤) (W : Given
   abbrev mach : Configuration → Val
   mach c = LL.val T.the-type T′.the-laws c
 
-  abbrev argsT : Configuration → ℕ → GName → List ℕ → ℕ → Args tk.signature (κa, (κt, (0 ∷ [], tt)))
-  argsT c e δ os w = (l, (refC, (refN, (refK, (refT, (c, (e, (refO δ os, (w, tt)))))))))
+  abbrev argsT : ℕ → Configuration → ℕ → GName → List ℕ → ℕ → Args tk.signature (κa, (κt, (0 ∷ [], tt)))
+  argsT k c e δ os w = (l, (refM, (k, (refN, (refK, (refT, (c, (e, (refO δ os, (w, tt))))))))))
 
-  abbrev valsT : Configuration → ℕ → ℕ → Vals tk.signature (κa, (κt, (0 ∷ [], tt)))
-  valsT c e w = (vL ∷ [], (vC ∷ [], (vN ∷ [], (vK ∷ [], (vT ∷ [], (mach c ∷ [], (vint w32 e ∷ [], (vO ∷ [], (vint w64 w ∷ [], tt)))))))))
+  abbrev valsT : ℕ → Configuration → ℕ → ℕ → Vals tk.signature (κa, (κt, (0 ∷ [], tt)))
+  valsT k c e w = (vL ∷ [], (vM ∷ [], (vint w64 k ∷ [], (vN ∷ [], (vK ∷ [], (vT ∷ [], (mach c ∷ [], (vint w32 e ∷ [], (vO ∷ [], (vint w64 w ∷ [], tt))))))))))
 
-  abbrev toT : ℕ → Configuration → ℕ → GName → List ℕ → ℕ → Take 𝓤 H A at-mem run .Ghost
-  toT ν c e δ os w = (((κa, (κt, (ν ∷ [], tt))), (qa, (qt, (fullShare, tt))), tt, argsT c e δ os w, valsT c e w), tt)
+  abbrev toT : ℕ → ℕ → Configuration → ℕ → GName → List ℕ → ℕ → Take 𝓤 H A at-mem run .Ghost
+  toT ν k c e δ os w = (((κa, (κt, (ν ∷ [], tt))), (qa, (qt, (fullShare, tt))), tt, argsT k c e δ os w, valsT k c e w), tt)
 
-  goesT : (ν : ℕ) (c : Configuration) (e : ℕ) (δ : GName) (os : List ℕ) (w : ℕ) → TurnRequires l cl nx rk t c w (length os)
-      → ent 𝓤 (onEntry 𝓤 H A tk.signature (κa, (κt, (ν ∷ [], tt))) (qa, (qt, (fullShare, tt))) (argsT c e δ os w) (valsT c e w)) (Take 𝓤 H A at-mem run .pre (toT ν c e δ os w))
-  goesT ν c e δ os w k =
+  goesT : (ν k : ℕ) (c : Configuration) (e : ℕ) (δ : GName) (os : List ℕ) (w : ℕ) → TakeRequires l mk k nx rk t c w (length os)
+      → ent 𝓤 (onEntry 𝓤 H A tk.signature (κa, (κt, (ν ∷ [], tt))) (qa, (qt, (fullShare, tt))) (argsT k c e δ os w) (valsT k c e w)) (Take 𝓤 H A at-mem run .pre (toT ν k c e δ os w))
+  goesT ν k c e δ os w g =
       qed W ((‵ (flft κa qa) ⊛ (‵ (flft κt qt) ⊛ (‵ (flft (ν ∷ []) fullShare) ⊛ ‵ ftrue))) ∷
-      ‵ (owns (Li.the-row ∷ ShrRef (named 0) κa R16 ∷ ShrRef (named 0) κa R512 ∷ ShrRef (named 0) κa R16 ∷ ShrSlice (named 1) κt u32 ∷ T.the-row ∷ u32 ∷ MutSlice (named 2) (ν ∷ []) u8 ∷
-      usize ∷ [])
-      (argsT c e δ os w) (valsT c e w)) ∷ []) ∵ says ! k $ frame ! $ done !
+      ‵ (owns (Li.the-row ∷ ShrRef (named 0) κa R500 ∷ usize ∷ ShrRef (named 0) κa R512 ∷ ShrRef (named 0) κa R16 ∷ ShrSlice (named 1) κt u32 ∷ T.the-row ∷ u32 ∷
+      MutSlice (named 2) (ν ∷ []) u8 ∷ usize ∷ [])
+      (argsT k c e δ os w) (valsT k c e w)) ∷ []) ∵ says ! g $ frame ! $ done !
 
   abbrev Standing : Type 0
-  Standing = Stand l cl nx rk t ys es os₀ (asked .automaton)
+  Standing = Stand l mk nx rk t ys es os₀ (asked .automaton)
 
   abbrev Took : Standing → Event → Taken → List ℕ → Type 0
-  Took s d r zs = Taking l cl nx rk t (getD (s .clients) (d .client) none) (d .symbol) (s .written) (s .output) r zs
+  Took s d r zs = Taking l mk (d .client) nx rk t (getD (s .clients) (d .client) none) (d .symbol) (s .written) (s .output) r zs
 
   abbrev Nearer : Standing → Standing → Type 0
   Nearer s′ s = length es - s′ .i < length es - s .i
@@ -315,7 +320,7 @@ module _ {M : Type 1} (𝓤 : URA M) (H : Heap 𝓤) (A : Atoms 𝓤) (W : Given
   Nearer-wf = InvImage·wf (λ (s : Standing). length es - s .i) (Nat·lt-wfRel .wf)
 
   start : Standing
-  start = stand-begins l cl nx rk t ys es os₀ asked
+  start = stand-begins l mk nx rk t ys es os₀ asked
 
   module _ (𝓣 : Tables 𝓤 H) (known-d : Triple 𝓤 (𝓣 .C #clients-entry·event-at) (EventAt 𝓤 H A at-mem run)) (known-t : Triple 𝓤 (𝓣 .C #clients-entry·take) (Take 𝓤 H A at-mem run))
       (l0 l1 l2 l3 l4 l5 l6 l7 l8 l9 l10 l11 l12 l13 l14 l15 l16 l17 l18 l19 l20 l21 l22 l23 l24 : ℕ) where
@@ -326,11 +331,11 @@ module _ {M : Type 1} (𝓤 : URA M) (H : Heap 𝓤) (A : Atoms 𝓤) (W : Given
     Λ = 𝓣 .Λ
 
     abbrev En : Env 𝓤 H
-    En = (Rn′.mir, l0) ∷ (Li′.mir, l1) ∷ (arr, l2) ∷ (arr512, l3) ∷ (arr, l4) ∷ (tabs, l5) ∷ (recs, l6) ∷ (evs, l7) ∷ (outs, l8) ∷ (word, l9) ∷ (word, l10) ∷ (word, l11) ∷ (Ev′.mir, l12) ∷ (word, l13) ∷ (Ta′.mir, l14) ∷ (word, l15) ∷ (tyBool, l16) ∷ (word, l17) ∷ (tyPtr, l18) ∷ (T′.mir, l19) ∷ (lend, l20) ∷ (lends, l21) ∷ (tyBool, l22) ∷ (word, l23) ∷ (tyPtr, l24) ∷ []
+    En = (Rn′.mir, l0) ∷ (Li′.mir, l1) ∷ (arr500, l2) ∷ (arr512, l3) ∷ (arr, l4) ∷ (tabs, l5) ∷ (recs, l6) ∷ (evs, l7) ∷ (outs, l8) ∷ (word, l9) ∷ (word, l10) ∷ (word, l11) ∷ (Ev′.mir, l12) ∷ (word, l13) ∷ (Ta′.mir, l14) ∷ (word, l15) ∷ (tyBool, l16) ∷ (word, l17) ∷ (tyPtr, l18) ∷ (T′.mir, l19) ∷ (lend, l20) ∷ (lends, l21) ∷ (tyBool, l22) ∷ (word, l23) ∷ (tyPtr, l24) ∷ []
 
     -- what the loop has wherever it stands
     abbrev Head : Standing → List (Item 𝓤)
-    Head s = ‵ (flft κa qa) ∷ ‵ (flft κt qt) ∷ ‵ (flft κr qr) ∷ ‵ (flft κe qe) ∷ ‵ (flft κo qo) ∷ ‵ OwnC ∷ ‵ OwnN ∷ ‵ OwnK ∷ ‵ OwnT ∷ ‵ (OwnR (s .clients)) ∷ ‵ OwnE ∷ ‵ (OwnO (s .output) (length os₀)) ∷ ‵ (froom tyPtr l24 0) ∷ ‵ (fdies tyPtr l24) ∷ ‵ (froom word l23 0) ∷ ‵ (fdies word l23) ∷ ‵ (froom tyBool l22 0) ∷ ‵ (fdies tyBool l22) ∷ ‵ (froom lends l21 0) ∷ ‵ (fdies lends l21) ∷ ‵ (froom lend l20 0) ∷ ‵ (fdies lend l20) ∷ ‵ (froom T′.mir l19 0) ∷ ‵ (fdies T′.mir l19) ∷ ‵ (froom tyPtr l18 0) ∷ ‵ (fdies tyPtr l18) ∷ ‵ (froom word l17 0) ∷ ‵ (fdies word l17) ∷ ‵ (froom tyBool l16 0) ∷ ‵ (fdies tyBool l16) ∷ ‵ (froom word l15 0) ∷ ‵ (fdies word l15) ∷ ‵ (froom Ta′.mir l14 0) ∷ ‵ (fdies Ta′.mir l14) ∷ ‵ (froom word l13 0) ∷ ‵ (fdies word l13) ∷ ‵ (froom Ev′.mir l12 0) ∷ ‵ (fdies Ev′.mir l12) ∷ ‵ (fat fullShare word l11 0 (vint w64 (s .i))) ∷ ‵ (fdies word l11) ∷ ‵ (fat fullShare word l10 0 (vint w64 (s .refused))) ∷ ‵ (fdies word l10) ∷ ‵ (fat fullShare word l9 0 (vint w64 (s .written))) ∷ ‵ (fdies word l9) ∷ ‵ (fat fullShare outs l8 0 (vO)) ∷ ‵ (fdies outs l8) ∷ ‵ (fat fullShare evs l7 0 (vE)) ∷ ‵ (fdies evs l7) ∷ ‵ (fat fullShare recs l6 0 (vR)) ∷ ‵ (fdies recs l6) ∷ ‵ (fat fullShare tabs l5 0 (vT)) ∷ ‵ (fdies tabs l5) ∷ ‵ (fat fullShare arr l4 0 (vK)) ∷ ‵ (fdies arr l4) ∷ ‵ (fat fullShare arr512 l3 0 (vN)) ∷ ‵ (fdies arr512 l3) ∷ ‵ (fat fullShare arr l2 0 (vC)) ∷ ‵ (fdies arr l2) ∷ ‵ (fat fullShare Li′.mir l1 0 (vL)) ∷ ‵ (fdies Li′.mir l1) ∷ ‵ (froom Rn′.mir l0 0) ∷ ‵ (fdies Rn′.mir l0) ∷ []
+    Head s = ‵ (flft κa qa) ∷ ‵ (flft κt qt) ∷ ‵ (flft κr qr) ∷ ‵ (flft κe qe) ∷ ‵ (flft κo qo) ∷ ‵ OwnM ∷ ‵ OwnN ∷ ‵ OwnK ∷ ‵ OwnT ∷ ‵ (OwnR (s .clients)) ∷ ‵ OwnE ∷ ‵ (OwnO (s .output) (length os₀)) ∷ ‵ (froom tyPtr l24 0) ∷ ‵ (fdies tyPtr l24) ∷ ‵ (froom word l23 0) ∷ ‵ (fdies word l23) ∷ ‵ (froom tyBool l22 0) ∷ ‵ (fdies tyBool l22) ∷ ‵ (froom lends l21 0) ∷ ‵ (fdies lends l21) ∷ ‵ (froom lend l20 0) ∷ ‵ (fdies lend l20) ∷ ‵ (froom T′.mir l19 0) ∷ ‵ (fdies T′.mir l19) ∷ ‵ (froom tyPtr l18 0) ∷ ‵ (fdies tyPtr l18) ∷ ‵ (froom word l17 0) ∷ ‵ (fdies word l17) ∷ ‵ (froom tyBool l16 0) ∷ ‵ (fdies tyBool l16) ∷ ‵ (froom word l15 0) ∷ ‵ (fdies word l15) ∷ ‵ (froom Ta′.mir l14 0) ∷ ‵ (fdies Ta′.mir l14) ∷ ‵ (froom word l13 0) ∷ ‵ (fdies word l13) ∷ ‵ (froom Ev′.mir l12 0) ∷ ‵ (fdies Ev′.mir l12) ∷ ‵ (fat fullShare word l11 0 (vint w64 (s .i))) ∷ ‵ (fdies word l11) ∷ ‵ (fat fullShare word l10 0 (vint w64 (s .refused))) ∷ ‵ (fdies word l10) ∷ ‵ (fat fullShare word l9 0 (vint w64 (s .written))) ∷ ‵ (fdies word l9) ∷ ‵ (fat fullShare outs l8 0 (vO)) ∷ ‵ (fdies outs l8) ∷ ‵ (fat fullShare evs l7 0 (vE)) ∷ ‵ (fdies evs l7) ∷ ‵ (fat fullShare recs l6 0 (vR)) ∷ ‵ (fdies recs l6) ∷ ‵ (fat fullShare tabs l5 0 (vT)) ∷ ‵ (fdies tabs l5) ∷ ‵ (fat fullShare arr l4 0 (vK)) ∷ ‵ (fdies arr l4) ∷ ‵ (fat fullShare arr512 l3 0 (vN)) ∷ ‵ (fdies arr512 l3) ∷ ‵ (fat fullShare arr500 l2 0 (vM)) ∷ ‵ (fdies arr500 l2) ∷ ‵ (fat fullShare Li′.mir l1 0 (vL)) ∷ ‵ (fdies Li′.mir l1) ∷ ‵ (froom Rn′.mir l0 0) ∷ ‵ (fdies Rn′.mir l0) ∷ []
 
     -- after the last turn
     ends : (s : Standing) → length es ≤ s .i → Sq W (Head s) (runs C Λ En mir.t-5 (atRet En Post))
@@ -341,10 +346,10 @@ module _ {M : Type 1} (𝓤 : URA M) (H : Heap 𝓤) (A : Atoms 𝓤) (W : Given
         move ! (50 ∷ 51 ∷ []) $ free1 ! $ move ! (48 ∷ 49 ∷ []) $ free1 ! $ move ! (46 ∷ 47 ∷ []) $ free1 ! $ move ! (44 ∷ 45 ∷ []) $ free1 ! $ move ! (42 ∷ 43 ∷ []) $ free1 ! $ move ! (40 ∷ 41 ∷ []) $ free1 ! $ move ! (38 ∷ 39 ∷ []) $
         free1 ! $ move ! (36 ∷ 37 ∷ []) $ free1 ! $ move ! (34 ∷ 35 ∷ []) $ free1 ! $ move ! (32 ∷ 33 ∷ []) $ free1 ! $ move ! (30 ∷ 31 ∷ []) $ free1 ! $ move ! (28 ∷ 29 ∷ []) $ free1 ! $ move ! (26 ∷ 27 ∷ []) $ free1 ! $
         move ! (24 ∷ 25 ∷ []) $ free1 ! $ move ! (22 ∷ 23 ∷ []) $ free1 ! $ move ! (20 ∷ 21 ∷ []) $ free1 ! $ move ! (18 ∷ 19 ∷ []) $ free1 ! $ move ! (16 ∷ 17 ∷ []) $ free1 ! $ move ! (14 ∷ 15 ∷ []) $ free1 ! $ move ! (12 ∷ 13 ∷ []) $
-        free1 ! $ free0 ! $ keep ! (0 ∷ 1 ∷ 2 ∷ 3 ∷ 4 ∷ 5 ∷ 6 ∷ 7 ∷ 8 ∷ 9 ∷ 10 ∷ 11 ∷ []) $ by ! (leaves (ran-day s) (s .clients) (s .output) ran-is (s .same-count) (s .same-size) (stand-ends l cl nx rk t ys es os₀ asked s over))
+        free1 ! $ free0 ! $ keep ! (0 ∷ 1 ∷ 2 ∷ 3 ∷ 4 ∷ 5 ∷ 6 ∷ 7 ∷ 8 ∷ 9 ∷ 10 ∷ 11 ∷ []) $ by ! (leaves (ran-day s) (s .clients) (s .output) ran-is (s .same-count) (s .same-size) (stand-ends l mk nx rk t ys es os₀ asked s over))
       where
         w-fits : s .written < 2 ^ 64
-        w-fits = omega (arith, written-fits l cl nx rk t ys es os₀ asked s, go .0)
+        w-fits = omega (arith, written-fits l mk nx rk t ys es os₀ asked s, go .0)
 
         f-fits : s .refused < 2 ^ 64
         f-fits = omega (arith, s .counted, s .upto, ge .0 .1 .0)
@@ -389,19 +394,20 @@ module _ {M : Type 1} (𝓤 : URA M) (H : Heap 𝓤) (A : Atoms 𝓤) (W : Given
         -- `out` is lent again, for a lifetime ν of the call
         lft-new ! tt (λ ν. move ! (12 ∷ 7 ∷ []) $ rewrite ! 0 (λ (m : ℕ). ‵ (OwnO (s .output) m)) (sym (s .same-size)) refl $
         use2 W (later (some (λ (δ : GName). ‵ (Again ν δ (s .output) (length (s .output))) ⊛ ‵ (LentOn u8 κo qo γo bo oo (ν ∷ []) δ (s .output))))) (lends-on u8 κo qo γo bo oo 𝓤 H A W (named 4) (s .output) room-o (ν ∷ []) (named 2)) $ await ! tt $ pick ! (λ δ.
-        split ! $ rewrite ! 0 (λ (m : ℕ). ‵ (Again ν δ (s .output) m)) (s .same-size) refl $ move ! (9 ∷ []) $ use1 W (‵ OwnC ⊛ ‵ OwnC) (shr-copy 𝓤 H A W (named 0) κa R16 .twice refC (vC ∷ [])) $ split ! $ move ! (11 ∷ []) $
+        split ! $ rewrite ! 0 (λ (m : ℕ). ‵ (Again ν δ (s .output) m)) (s .same-size) refl $ move ! (9 ∷ []) $ use1 W (‵ OwnM ⊛ ‵ OwnM) (shr-copy 𝓤 H A W (named 0) κa R500 .twice refM (vM ∷ [])) $ split ! $ move ! (11 ∷ []) $
         use1 W (‵ OwnN ⊛ ‵ OwnN) (shr-copy 𝓤 H A W (named 0) κa R512 .twice refN (vN ∷ [])) $ split ! $ move ! (13 ∷ []) $ use1 W (‵ OwnK ⊛ ‵ OwnK) (shr-copy 𝓤 H A W (named 0) κa R16 .twice refK (vK ∷ [])) $ split ! $ move ! (15 ∷ []) $
         use1 W (‵ OwnT ⊛ ‵ OwnT) (shr-slice-copy 𝓤 H A W (named 1) κt u32 .twice refT (vT ∷ [])) $ split ! $ nothing ! $ owned ! usize (Is usize) (uint-makes 𝓤 H A W w64) (s .written) (vint w64 (s .written) ∷ []) (refl, w-fits) $
         fjoin ! $ move ! (9 ∷ 0 ∷ []) $ fjoin ! $ owned ! u32 (Is u32) (uint-makes 𝓤 H A W w32) (d .symbol) (vint w32 (d .symbol) ∷ []) (refl, symbol-fits d u isd) $ fjoin ! $
         owned ! T.the-row (Is T.the-row) (LL.makes T.the-type T′.the-plain 𝓤 H A) (old d) (mach (old d) ∷ []) gc $ fjoin ! $ move ! (2 ∷ 0 ∷ []) $ fjoin ! $ move ! (3 ∷ 0 ∷ []) $ fjoin ! $ move ! (4 ∷ 0 ∷ []) $ fjoin ! $
-        move ! (5 ∷ 0 ∷ []) $ fjoin ! $ owned ! Li.the-row (Is Li.the-row) (LL.makes Li.the-type Li′.the-plain 𝓤 H A) l (vL ∷ []) gl $ fjoin ! $ nothing ! $ move ! (7 ∷ 0 ∷ []) $ join ! $ move ! (12 ∷ 0 ∷ []) $ join ! $
-        move ! (11 ∷ 0 ∷ []) $ join ! $ use2 W (raw (Take 𝓤 H A at-mem run .pre (toT ν (old d) (d .symbol) δ (s .output) (s .written)))) (goesT ν (old d) (d .symbol) δ (s .output) (s .written) (room-now less d ed in-list)) $
-        calls-at ! (fmOf 𝓤 H (W .laws) 𝓣) (Take 𝓤 H A at-mem run) known-t (toT ν (old d) (d .symbol) δ (s .output) (s .written)) (and-then ! (load ! (from ! (stop !)) (look ! 56 refl)) (and-then ! (load ! (from ! (stop !)) (look ! 54 refl)) (and-then ! (load ! (from ! (stop !)) (look ! 52 refl)) (and-then ! (load ! (from ! (stop !)) (look ! 50 refl)) (and-then ! (load ! (from ! (stop !)) (look ! 48 refl)) (and-then ! (load ! (from ! (stop !)) (look ! 20 refl)) (and-then ! (load ! (from ! (fld ! refl (stop !))) (look-in ! 34 (sub ! 1 refl (whole !)))) (and-then ! (load ! (from ! (stop !)) (look ! 16 refl)) (and-then ! (load ! (from ! (stop !)) (look ! 40 refl)) (no-more !)))))))))) (λ v.
-        use1 W (later (some (λ (r : Taken). ((‵ (flft κa qa) ⊛ (‵ (flft κt qt) ⊛ (‵ (flft (ν ∷ []) fullShare) ⊛ ‵ ftrue))) ⊛ ‵ (Ta.the-row .own r (v ∷ []))) ⊛ raw (ensured 𝓤 H A tk.ended (tk.clauses 𝓤 H A at-mem run) (κa, (κt, (ν ∷ [], tt))) (argsT (old d) (d .symbol) δ (s .output) (s .written)) tt r)))) (id⊢ 𝓤 _) $ await ! tt $ pick ! (λ r.
+        owned ! usize (Is usize) (uint-makes 𝓤 H A W w64) (d .client) (vint w64 (d .client) ∷ []) (refl, client-fits d u isd) $ fjoin ! $ move ! (5 ∷ 0 ∷ []) $ fjoin ! $
+        owned ! Li.the-row (Is Li.the-row) (LL.makes Li.the-type Li′.the-plain 𝓤 H A) l (vL ∷ []) gl $ fjoin ! $ nothing ! $ move ! (7 ∷ 0 ∷ []) $ join ! $ move ! (12 ∷ 0 ∷ []) $ join ! $ move ! (11 ∷ 0 ∷ []) $ join ! $
+        use2 W (raw (Take 𝓤 H A at-mem run .pre (toT ν (d .client) (old d) (d .symbol) δ (s .output) (s .written)))) (goesT ν (d .client) (old d) (d .symbol) δ (s .output) (s .written) (room-now less d ed in-list)) $
+        calls-at ! (fmOf 𝓤 H (W .laws) 𝓣) (Take 𝓤 H A at-mem run) known-t (toT ν (d .client) (old d) (d .symbol) δ (s .output) (s .written)) (and-then ! (load ! (from ! (stop !)) (look ! 56 refl)) (and-then ! (load ! (from ! (stop !)) (look ! 54 refl)) (and-then ! (load ! (from ! (stop !)) (look ! 32 refl)) (and-then ! (load ! (from ! (stop !)) (look ! 52 refl)) (and-then ! (load ! (from ! (stop !)) (look ! 50 refl)) (and-then ! (load ! (from ! (stop !)) (look ! 48 refl)) (and-then ! (load ! (from ! (stop !)) (look ! 20 refl)) (and-then ! (load ! (from ! (fld ! refl (stop !))) (look-in ! 34 (sub ! 1 refl (whole !)))) (and-then ! (load ! (from ! (stop !)) (look ! 16 refl)) (and-then ! (load ! (from ! (stop !)) (look ! 40 refl)) (no-more !))))))))))) (λ v.
+        use1 W (later (some (λ (r : Taken). ((‵ (flft κa qa) ⊛ (‵ (flft κt qt) ⊛ (‵ (flft (ν ∷ []) fullShare) ⊛ ‵ ftrue))) ⊛ ‵ (Ta.the-row .own r (v ∷ []))) ⊛ raw (ensured 𝓤 H A tk.ended (tk.clauses 𝓤 H A at-mem run) (κa, (κt, (ν ∷ [], tt))) (argsT (d .client) (old d) (d .symbol) δ (s .output) (s .written)) tt r)))) (id⊢ 𝓤 _) $ await ! tt $ pick ! (λ r.
         split ! $ move ! (1 ∷ []) $
-        use1 W (some (λ (zs : Lasts). ‵ (lasts tk.ended (κa, (κt, (ν ∷ [], tt))) (argsT (old d) (d .symbol) δ (s .output) (s .written)) zs) ⊛ raw (fact 𝓤 (Taking l cl nx rk t (old d) (d .symbol) (s .written) (s .output) r (last zs))))) (id⊢ 𝓤 _) $ pick ! (λ zs.
-        split ! $ move ! (1 ∷ []) $ heard ! (Taking l cl nx rk t (old d) (d .symbol) (s .written) (s .output) r (last zs)) (λ e. fsplit ! $ let-go ! $ fsplit ! $ let-go ! $ fsplit ! $ let-go ! $ fsplit ! $ let-go ! $ fsplit ! $ let-go ! $
-        fsplit ! $ let-go ! $ fsplit ! $ let-go ! $ fsplit ! $ fsplit ! $ move ! (1 ∷ []) $ feqL ! (λ lz. move ! (1 ∷ []) $ let-go ! $ move ! (1 ∷ []) $ split ! $ move ! (1 ∷ []) $
+        use1 W (some (λ (zs : Lasts). ‵ (lasts tk.ended (κa, (κt, (ν ∷ [], tt))) (argsT (d .client) (old d) (d .symbol) δ (s .output) (s .written)) zs) ⊛ raw (fact 𝓤 (Taking l mk (d .client) nx rk t (old d) (d .symbol) (s .written) (s .output) r (last zs))))) (id⊢ 𝓤 _) $ pick ! (λ zs.
+        split ! $ move ! (1 ∷ []) $ heard ! (Taking l mk (d .client) nx rk t (old d) (d .symbol) (s .written) (s .output) r (last zs)) (λ e. fsplit ! $ let-go ! $ fsplit ! $ let-go ! $ fsplit ! $ let-go ! $ fsplit ! $ let-go ! $
+        fsplit ! $ let-go ! $ fsplit ! $ let-go ! $ fsplit ! $ let-go ! $ fsplit ! $ let-go ! $ fsplit ! $ fsplit ! $ move ! (1 ∷ []) $ feqL ! (λ lz. move ! (1 ∷ []) $ let-go ! $ move ! (1 ∷ []) $ split ! $ move ! (1 ∷ []) $
         peeks ! Ta.the-row (Is Ta.the-row) (shows 𝓤 H A Ta.the-row) r (v ∷ []) (λ is. let-go ! $ land ! (from ! (stop !)) (init ! 31 refl (LL.lawful Ta.the-type Ta′.the-laws 𝓤 H A W .typed r (v ∷ []) is .0)) $
         rewrite ! 31 (λ (u′ : Val). ‵ (fat fullShare Ta′.mir l14 0 u′)) (ap only (LL.tells Ta.the-type Ta′.the-laws r (v ∷ []) is)) refl $
         -- the lifetime is ended, and `out` comes back
@@ -438,7 +444,7 @@ module _ {M : Type 1} (𝓤 : URA M) (H : Heap 𝓤) (A : Atoms 𝓤) (W : Given
         i-fits = omega (arith, s .upto, ge .0 .1 .0)
 
         w-fits : s .written < 2 ^ 64
-        w-fits = omega (arith, written-fits l cl nx rk t ys es os₀ asked s, go .0)
+        w-fits = omega (arith, written-fits l mk nx rk t ys es os₀ asked s, go .0)
 
         room-o : Room u8 (length (s .output))
         room-o = subst (Room u8) (sym (s .same-size)) go
@@ -477,22 +483,22 @@ module _ {M : Type 1} (𝓤 : URA M) (H : Heap 𝓤) (A : Atoms 𝓤) (W : Given
         still d r = length-set (s .clients) (d .client) (r .configuration) ∙ s .same-count
 
         room-now : (less : Holds (ltb (s .i) (length es))) (d : Event) → d ≡ eventOf (getD es (s .i) 0) → Holds (ltb (d .client) n)
-            → TurnRequires l cl nx rk t (getD (s .clients) (d .client) none) (s .written) (length (s .output))
-        room-now less d ed h = take-asks l cl nx rk t ys es os₀ asked s (ltb→lt (s .i) (length es) less) d ed (low d h)
+            → TakeRequires l mk (d .client) nx rk t (getD (s .clients) (d .client) none) (s .written) (length (s .output))
+        room-now less d ed h = take-asks l mk nx rk t ys es os₀ asked s (ltb→lt (s .i) (length es) less) d ed (low d h)
 
         nearer : Holds (ltb (s .i) (length es)) → length es - (s .i + 1) < length es - s .i
         nearer less = let k = ltb→lt (s .i) (length es) less in omega (arith, k)
 
         taken : Holds (ltb (s .i) (length es)) → (d : Event) → d ≡ eventOf (getD es (s .i) 0) → Holds (ltb (d .client) n) → (r : Taken) (zs : List ℕ)
             → length zs ≡ length (s .output) → Took s d r zs → r .refused ≡ 0 → Standing
-        taken less d ed h r zs lz e z = stand-taken l cl nx rk t ys es os₀ asked s (ltb→lt (s .i) (length es) less) d ed (low d h) r zs e lz z
+        taken less d ed h r zs lz e z = stand-taken l mk nx rk t ys es os₀ asked s (ltb→lt (s .i) (length es) less) d ed (low d h) r zs e lz z
 
         kept : Holds (ltb (s .i) (length es)) → (d : Event) → d ≡ eventOf (getD es (s .i) 0) → Holds (ltb (d .client) n) → (r : Taken) (zs : List ℕ)
             → length zs ≡ length (s .output) → Took s d r zs → (r .refused ≡ 0 → ⊥) → Standing
-        kept less d ed h r zs lz e nz = stand-passed l cl nx rk t ys es os₀ asked s (ltb→lt (s .i) (length es) less) d ed (low d h) r zs e lz nz
+        kept less d ed h r zs lz e nz = stand-passed l mk nx rk t ys es os₀ asked s (ltb→lt (s .i) (length es) less) d ed (low d h) r zs e lz nz
 
         passed : Holds (ltb (s .i) (length es)) → (d : Event) → d ≡ eventOf (getD es (s .i) 0) → Holds (not (ltb (d .client) n)) → Standing
-        passed less d ed h = stand-out l cl nx rk t ys es os₀ asked s (ltb→lt (s .i) (length es) less) d ed (beyond d h)
+        passed less d ed h = stand-out l mk nx rk t ys es os₀ asked s (ltb→lt (s .i) (length es) less) d ed (beyond d h)
 
     abbrev Q : Out → SProp 𝓤
     Q = afterBlock 𝓤 H (afterSeq 𝓤 H (Wp 𝓤 H C Λ En mir.t-5 (atReturn 𝓤 H En Post)) (atReturn 𝓤 H En Post))
@@ -502,12 +508,12 @@ module _ {M : Type 1} (𝓤 : URA M) (H : Heap 𝓤) (A : Atoms 𝓤) (W : Given
 
   walk : (𝓣 : Tables 𝓤 H) → Triple 𝓤 (𝓣 .C #clients-entry·event-at) (EventAt 𝓤 H A at-mem run) → Triple 𝓤 (𝓣 .C #clients-entry·take) (Take 𝓤 H A at-mem run)
       → ent 𝓤 (onEntry 𝓤 H A f.signature (κa, (κt, (κr, (κe, (κo, tt))))) (qa, (qt, (qr, (qe, (qo, tt))))) x at)
-      (WpFn 𝓤 H (𝓣 .C) (𝓣 .Λ) code.function (vL ∷ vC ∷ vN ∷ vK ∷ vT ∷ vR ∷ vE ∷ vO ∷ []) Post)
+      (WpFn 𝓤 H (𝓣 .C) (𝓣 .Λ) code.function (vL ∷ vM ∷ vN ∷ vK ∷ vT ∷ vR ∷ vE ∷ vO ∷ []) Post)
   unfolding start stand-begins
   walk 𝓣 known-d known-t =
       qed W ((‵ (flft κa qa) ⊛ (‵ (flft κt qt) ⊛ (‵ (flft κr qr) ⊛ (‵ (flft κe qe) ⊛ (‵ (flft κo qo) ⊛ ‵ ftrue))))) ∷
-      ‵ (owns (Li.the-row ∷ ShrRef (named 0) κa R16 ∷ ShrRef (named 0) κa R512 ∷ ShrRef (named 0) κa R16 ∷ ShrSlice (named 1) κt u32 ∷ MutSlice (named 2) κr T.the-row
-      ∷ ShrSlice (named 3) κe u32 ∷ MutSlice (named 4) κo u8 ∷ []) x at) ∷ []) ∵ enter ! (𝓣 .C) (𝓣 .Λ) code.function (vL ∷ vC ∷ vN ∷ vK ∷ vT ∷ vR ∷ vE ∷ vO ∷ []) _ $
+      ‵ (owns (Li.the-row ∷ ShrRef (named 0) κa R500 ∷ ShrRef (named 0) κa R512 ∷ ShrRef (named 0) κa R16 ∷ ShrSlice (named 1) κt u32 ∷ MutSlice (named 2) κr T.the-row
+      ∷ ShrSlice (named 3) κe u32 ∷ MutSlice (named 4) κo u8 ∷ []) x at) ∷ []) ∵ enter ! (𝓣 .C) (𝓣 .Λ) code.function (vL ∷ vM ∷ vN ∷ vK ∷ vT ∷ vR ∷ vE ∷ vO ∷ []) _ $
       alloc1 ! (λ l0. alloc1 ! (λ l1. alloc1 ! (λ l2. alloc1 ! (λ l3. alloc1 ! (λ l4. alloc1 ! (λ l5. alloc1 ! (λ l6. alloc1 ! (λ l7. alloc1 ! (λ l8. alloc1 ! (λ l9. alloc1 ! (λ l10. alloc1 ! (λ l11. alloc1 ! (λ l12. alloc1 ! (λ l13. alloc1 ! (λ l14. alloc1 ! (λ l15. alloc1 ! (λ l16. alloc1 ! (λ l17. alloc1 ! (λ l18. alloc1 ! (λ l19. alloc1 ! (λ l20. alloc1 ! (λ l21. alloc1 ! (λ l22. alloc1 ! (λ l23. alloc1 ! (λ l24. alloc0 ! $ params1 ! $
       pass1 ! (init ! 46 refl (LL.lawful Li.the-type Li′.the-laws 𝓤 H A W .typed l (vL ∷ []) gl .0)) $ pass1 ! (init ! 44 refl (tt, tt)) $ pass1 ! (init ! 42 refl (tt, tt)) $ pass1 ! (init ! 40 refl (tt, tt)) $
       pass1 ! (init ! 38 refl (tt, (tt, (record { fits = gT .0 .1 .0 }, tt)))) $ pass1 ! (init ! 36 refl (tt, (tt, (record { fits = gn .0 }, tt)))) $ pass1 ! (init ! 34 refl (tt, (tt, (record { fits = ge .0 .1 .0 }, tt)))) $
@@ -527,7 +533,7 @@ module _ {M : Type 1} (𝓤 : URA M) (H : Heap 𝓤) (A : Atoms 𝓤) (W : Given
       (λ κs. (
         LL.tells Li.the-type Li′.the-laws,
         (
-          shr-tells (named 0) (κs .0) R16,
+          shr-tells (named 0) (κs .0) R500,
           (
             shr-tells (named 0) (κs .0) R512,
             (
@@ -557,7 +563,7 @@ process-meets 𝓤 H A W at-mem run 𝓣 known-d known-t =
     walk-meets 𝓤 H A f.ended stayed W (
       goes-none 𝓤 H A W 5 (λ _. Li.the-row) yes (λ κs x f. refl),
       (
-        goes-none-ref 𝓤 H A W 5 (0 ∷ []) tt (ArrayOf (plain (λ _. u8)) (λ _. tt) 16) yes,
+        goes-none-ref 𝓤 H A W 5 (0 ∷ []) tt (ArrayOf (plain (λ _. u8)) (λ _. tt) 500) yes,
         (
           goes-none-ref 𝓤 H A W 5 (0 ∷ []) tt (ArrayOf (plain (λ _. u8)) (λ _. tt) 512) yes,
           (

@@ -1,19 +1,14 @@
-use Prim.Native.Nat.{ℕ, _<_}
-use mathlib.Core.Path.{_≡_, refl, _∙_, sym}
+use Prim.Native.Nat.{_<_}
+use mathlib.Core.Path.{_≡_, refl, _∙_}
 use mathlib.Core.Logic.{inl, inr, ⊎-elim}
-use mathlib.Core.Bool.{true}
-use lib.ListN.{length}
+use lib.ListN.{length, getD}
 use native.Mathlib.Omega.{arith}
-use borrow.Author.Tests.{not-true, not-false}
 use borrow.Author.Needs.{needs}
-use Rattle.configuration.specs.Configuration.{consistentIn}
-use Rattle.monitor_loop.specs.declared.Processed.{Processed}
 use Rattle.monitor_loop.specs.Lending.{ProcessRequires, Takes}
 use Rattle.monitor_loop.proofs.Accepting.{accepted-counts, accepted-few, accepted-gone, accepted-derives, accepted-found}
 use Rattle.monitor_loop.proofs.Taking.{place, symbols-small, event-low, take-ready, state-fits, takes-accepted}
 use Rattle.monitor_loop.proofs.Running.{counts-fit}
-use Rattle.monitor_loop.proofs.Turning.{turns-inconsistent, opens-enters, opens-room, turns-refused}
-use Rattle.clients_entry.proofs.Entering.{passes-over, takes-event}
+use Rattle.clients_entry.proofs.Entering.{takes-none, take-enters, take-room, takes-refused, takes-event}
 use Rattle.clients_entry.proofs.take.Statement.{statement}
 use Rattle.clients_entry.proofs.take.Tie as tie
 
@@ -27,8 +22,8 @@ abbrev start : tie.Else1 → tie.Start
 start c = c .before .before .before .before
 
 stands : (c : tie.Else1) → let x = start c .args in
-    consistentIn (x .limits .states) (x .limits .symbols) (x .limits .capacity) (x .classes .now) (x .c) ≡ true
-stands c = sym (c .before .consistent .ensures) ∙ not-false _ (c .if1 .left)
+    getD (x .marks .now) (x .client) 0 ≡ 0 → ⊥
+stands c = c .if1 .left
 
 -- rows 14, 15 and 23 are asked
 abbrev passed : tie.After-event-row → tie.Else1
@@ -40,12 +35,6 @@ asked c = c .before .before .before
 abbrev stepped : tie.After-struct-known → tie.After-step
 stepped c = c .before .before .before .before .before
 
--- what the step left, as one event leaves it
-abbrev leaves : tie.After-step → Processed
-leaves p =
-    let s = p .step .result in
-    record { row = 0; state = s .state; held = s .held; buffer = s .buffer; released = s .released; written = s .written }
-
 held : (p : tie.After-step) → let r = asked (p .before .before) in r .before .before .as-usize .result ≡ start (passed r) .args .c .held
 held p = asked (p .before .before) .before .before .as-usize .ensures .0
 
@@ -55,10 +44,15 @@ found c = c .before .before
 
 entered : (p : tie.After-step) → let x = start (passed (asked (p .before .before))) .args in
     ProcessRequires (x .limits) (x .next .now) (x .ranks .now) (x .table .now) (x .c)
-entered p = let g = passed (asked (p .before .before)) in opens-enters _ _ _ _ _ _ _ (stands g) (start g .pre)
+entered p = let g = passed (asked (p .before .before)) in take-enters _ _ _ _ _ _ _ (start g .args .event) _ (start g .args .out .now) (stands g) (start g .pre)
+
+-- what the step left, as one event leaves it
 
 took : (p : tie.After-step) → let x = start (passed (asked (p .before .before))) .args in
-    Takes (x .limits) (x .next .now) (x .ranks .now) (x .table .now) (x .c) (x .event) (x .at) (x .out .now) (leaves p) (p .step .last .1 .1 .1 .1 .1 .1 .1 .1 .0)
+    let s = p .step .result in
+    Takes (x .limits) (x .next .now) (x .ranks .now) (x .table .now) (x .c) (x .event) (x .at) (x .out .now)
+    (record { row = 0; state = s .state; held = s .held; buffer = s .buffer; released = s .released; written = s .written })
+    (p .step .last .1 .1 .1 .1 .1 .1 .1 .1 .0)
 took p =
     let n = p .before .before in
     let r = asked n in
@@ -66,19 +60,16 @@ took p =
     takes-accepted _ _ _ _ _ _ _ _ _ (s .as-usize2 .ensures .0) (s .before .as-usize .ensures .0) (r .event-row .ensures) (n .before .before .if2 .left)
     _ (n .as-usize3 .ensures .0) _ _ (p .step .ensures .0) _ _ (p .step .ensures .1)
 
-consistent-requires : tie.Need-consistent-requires
-consistent-requires c κs = search needs
+element-copy-out-if1 : tie.Need-element-copy-out-if1
+element-copy-out-if1 c = c .before .before .pre .client-low
 
 passed-over-requires : tie.Need-passed-over-requires
 passed-over-requires c κs = search needs
 
 returns : tie.Need-returns
 returns c =
-    let n = c .before in
-    let thirteen : _≡_ {A = ℕ} 13 0 → ⊥ = λ z. omega arith in
-    passes-over _ _ _ _ _ _ _ _ 13 _ thirteen
-    (turns-inconsistent _ _ _ _ _ _ _ _ _ (sym (n .before .consistent .ensures) ∙ not-true _ (n .if1 .taken)))
-    _ (c .passed-over .ensures)
+    let x = c .before .before .before .before .before .args in
+    takes-none _ (x .marks .now) (x .client) _ _ _ _ _ _ _ (c .before .if1 .taken) _ (c .passed-over .ensures)
 
 as-usize-requires : tie.Need-as-usize-requires
 as-usize-requires c κs = search needs
@@ -96,10 +87,9 @@ returns-2 : tie.Need-returns-2
 returns-2 c =
     let n = c .before in
     let r = n .before in
-    passes-over _ _ _ _ _ _ _ _ _ _ (n .if2 .taken)
-    (turns-refused _ _ _ _ _ _ _ (stands (passed r)) _ _ _ _ (r .before .as-usize2 .ensures .0) (r .before .before .as-usize .ensures .0) (r .event-row .ensures)
-    _ (n .if2 .taken))
-    _ (c .passed-over2 .ensures)
+    let x = start (passed r) .args in
+    takes-refused _ (x .marks .now) (x .client) _ _ _ _ _ _ _ (stands (passed r)) _ _ _ (r .before .as-usize2 .ensures .0) (r .before .before .as-usize .ensures .0) (r .event-row .ensures)
+    (n .if2 .taken) _ (c .passed-over2 .ensures)
 
 as-usize-requires-3 : tie.Need-as-usize-requires-3
 as-usize-requires-3 c κs = search needs
@@ -110,7 +100,7 @@ cast-step c =
     let s = r .before in
     let g = passed r in
     let l = event-low _ _ _ _ _ _ _ _ _ (s .as-usize2 .ensures .0) (s .before .as-usize .ensures .0) (r .event-row .ensures) (c .before .before .if2 .left)
-    (opens-enters _ _ _ _ _ _ _ (stands g) (start g .pre))
+    (take-enters _ _ _ _ _ _ _ (start g .args .event) _ (start g .args .out .now) (stands g) (start g .pre))
     in omega arith
 
 step-requires : tie.Need-step-requires
@@ -120,8 +110,8 @@ step-requires c κs =
     let s = r .before in
     let g = passed r in
     take-ready _ _ _ _ _ _ _ _ _ (s .as-usize2 .ensures .0) (s .before .as-usize .ensures .0) (r .event-row .ensures) (n .before .before .if2 .left)
-    _ (n .as-usize3 .ensures .0) _ (opens-enters _ _ _ _ _ _ _ (stands g) (start g .pre)) (length (start g .args .out .now))
-    (opens-room _ _ _ _ _ _ _ (stands g) (start g .pre)) (indexed (g .before .before))
+    _ (n .as-usize3 .ensures .0) _ (take-enters _ _ _ _ _ _ _ (start g .args .event) _ (start g .args .out .now) (stands g) (start g .pre)) (length (start g .args .out .now))
+    (take-room _ _ _ _ _ _ _ (start g .args .event) _ (start g .args .out .now) (stands g) (start g .pre)) (indexed (g .before .before))
 
 mul-places : tie.Need-mul-places
 mul-places c = search needs
@@ -140,8 +130,8 @@ places-left-requires c κs =
       accepted-gone (entered p) _ _ _ _ _ (took p) refl,
     )
 
-add-t30 : tie.Need-add-t30
-add-t30 c =
+add-t32 : tie.Need-add-t32
+add-t32 c =
     let p = stepped (found c .before) in
     let low : start (passed (asked (p .before .before))) .args .c .received .0 < 4294967296 = omega arith in
     let next = counts-fit _ low (accepted-counts (entered p) _ _ _ _ _ (took p) refl) in
@@ -175,7 +165,8 @@ returns-3 c =
     let j = found (c .before .before .before) in
     let p = stepped (j .before) in
     let g = passed (asked (p .before .before)) in
-    takes-event _ _ _ _ _ _ _ _ _ _ (leaves p) _ (stands g) (took p) refl
+    let x = start g .args in
+    takes-event _ (x .marks .now) (x .client) _ _ _ _ _ _ _ (stands g) _ _ _ (took p) refl
     (rw (c .derive .ensures)
     (accepted-found (entered p) _ _ _ _ _ (took p) refl _
     (⊎-elim
@@ -199,7 +190,7 @@ pub take-spec : {M : Type 1} → statement M
 take-spec =
     tie.close
     (tie.spec
-    consistent-requires
+    element-copy-out-if1
     passed-over-requires
     returns
     as-usize-requires
@@ -213,7 +204,7 @@ take-spec =
     mul-places
     array-set-from-places
     places-left-requires
-    add-t30
+    add-t32
     cast-derive
     cast-derive-2
     derive-requires
