@@ -25,18 +25,18 @@ use Rattle.clients_entry.specs.Entries.{markOf, takenOf, TakeRequires, Taking, 
 use Rattle.clients_day.specs.Days.{Marked, DayRequires, Days}
 use Rattle.clients_entry.specs.declared.Event.{Event}
 
--- a mark is right all day: an event leaves row 13's answer, whether it is accepted or refused
-module _ (a : Automaton) (marks t : List ℕ) where
-  mark-stays : {l : Limits} {next ranks : List ℕ} → Lends a l next ranks t → (c : Configuration) (e : ℕ) → markOf a (turnNext a t c e) ≡ markOf a c
-  mark-stays o c e =
+-- marks stay right all day: an event, accepted or refused, leaves row 13's answer
+module _ (a : Automaton) where
+  mark-stays : {l : Limits} {next ranks t : List ℕ} → Lends a l next ranks t → (c : Configuration) (e : ℕ) → markOf a (turnNext a t c e) ≡ markOf a c
+  mark-stays {t = t} o c e =
       let thirteen : _≡_ {A = ℕ} 13 0 → ⊥ = λ z. omega arith in
       by (consistent a c)
       (λ k. rw (turn-stands a t c e (record { record-valid = o .record-valid; table-long = o .table-long }) k, k))
       (λ k. ap (markOf a) (turn-unmoved a t c e 13 (turn-inconsistent a t c e k) thirteen))
 
-  mark-set : (cs : List Configuration) (i : ℕ) (c : Configuration) → i < length cs → Marked a marks cs → markOf a c ≡ markOf a (getD cs i none)
+  mark-set : (marks : List ℕ) (cs : List Configuration) (i : ℕ) (c : Configuration) → i < length cs → Marked a marks cs → markOf a c ≡ markOf a (getD cs i none)
       → Marked a marks (set cs i c)
-  mark-set cs i c b f same k h =
+  mark-set marks cs i c b f same k h =
       let low : k < length cs = omega (arith, h, length-set cs i c) in
       by (eqb k i)
       (λ q. let e = eqb-true k i q in f k low ∙ rw e (sym same ∙ ap (markOf a) (sym (getD-set-same cs i c none b))))
@@ -133,8 +133,8 @@ module _ (l : Limits) (marks next ranks t : List ℕ) (cs : List Configuration) 
             pub marked-then : (a : Automaton) → Lends a l next ranks t → Marked a marks cs → Marked a marks clients-then
             unfolding takenOf
             marked-then a o m =
-                mark-set a marks t (s .clients) (d .client) (r .configuration) b (s .marked a o m)
-                (ap (λ (x : Taken). markOf a (x .configuration)) (took a o m .0) ∙ mark-stays a marks t o c (d .symbol))
+                mark-set a marks (s .clients) (d .client) (r .configuration) b (s .marked a o m)
+                (ap (λ (x : Taken). markOf a (x .configuration)) (took a o m .0) ∙ mark-stays a o c (d .symbol))
 
             -- accepted: its configuration is stored
             unfoldable pub stand-taken : length zs ≡ length (s .output) → r .refused ≡ 0 → Standing

@@ -26,7 +26,7 @@ use Rattle.clients_entry.proofs.Entering.{listed, listed-lends}
 use Rattle.clients_day.specs.Days.{heldInAllBy, marksBy, Marked, DayRequires, Days}
 use Rattle.clients_day.proofs.Holding.{held-all-own, marks-own}
 
--- no mark yet
+-- the marks before any is stored
 unfoldable pub unmarked : List ℕ
 unmarked = replicate 500 0
 

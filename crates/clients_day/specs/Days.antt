@@ -1,5 +1,5 @@
 -- What the functions over a lent list of configurations ask and promise: over the parts of an
--- automaton, for any automaton whose parts these are.
+-- automaton and marks, for any automaton whose parts and marks these are.
 use Prim.Native.Nat.{ℕ, _+_, _<_, _≤_}
 use mathlib.Core.Path.{_≡_}
 use mathlib.Core.List.{List, [], _∷_, map}

@@ -17,7 +17,7 @@ use Rattle.monitor_entry.specs.Entries.{entryOf}
 use Rattle.monitor_loop.specs.declared.Limits.{Limits}
 use Rattle.monitor_loop.specs.Lending.{Lends}
 use Rattle.clients_answers.specs.declared.ReceivedFor.{ReceivedFor}
-use Rattle.clients_answers.specs.Clients.{clientOf, symbolOf, rightCount, listRows, listRefusal, refusedFor}
+use Rattle.clients_answers.specs.Clients.{maxClients, clientOf, symbolOf, rightCount, listRows, listRefusal, refusedFor}
 pub use Rattle.clients_entry.specs.declared.ListEntry.{ListEntry}
 pub use Rattle.clients_entry.specs.declared.Taken.{Taken}
 pub use Rattle.clients_entry.specs.declared.Event.{Event}
@@ -56,7 +56,7 @@ pub record TakeRequires (l : Limits) (marks : List ℕ) (client : ℕ) (next ran
     : Type 0 where
   pub automaton : Automaton
   pub lends : Lends automaton l next ranks t
-  pub client-low : client < 500
+  pub client-low : client < maxClients
   pub marked : getD marks client 0 ≡ markOf automaton c
   pub room : consistent automaton c ≡ true → at + c .held < size
 

@@ -1,5 +1,6 @@
 // The calls over a list of clients as far as they need no list: rows 11, 12 and 20, what a
-// configuration holds for row 16, and one event for one configuration, by value.
+// configuration holds for row 16 and its mark for row 13, and one event for one configuration, by
+// value.
 use automaton::Automaton;
 use base::as_usize;
 use clients_answers::RanFor;
@@ -19,7 +20,7 @@ ghost use mathlib.Core.Path.{_≡_};
 ghost use Prim.Native.Nat.{_+_, _<_};
 ghost use lib.Dec.{ltb};
 ghost use lib.ListN.{length, getD, set};
-ghost use Rattle.clients_answers.specs.Clients.{rightCount, answerOf, refusedFor, refusedRunFor};
+ghost use Rattle.clients_answers.specs.Clients.{maxClients, rightCount, answerOf, refusedFor, refusedRunFor};
 ghost use Rattle.clients_entry.specs.Entries.{countRow, listEntryOf, heldInBy, markBy, eventOf};
 ghost use Rattle.clients_entry.specs.Entries.{TakeRequires, Taking, presentOf, absentOf};
 
@@ -102,7 +103,7 @@ pub fn held_in(
     marks: &mut [u8; MAX_CLIENTS],
     client: usize,
 ) -> usize
-    requires { ⌜ client < 500 ⌝ }
+    requires { ⌜ client < maxClients ⌝ }
     ensures { λ r. let classed = now (classes .entry) in
         ⌜ (r ≡ heldInBy limits classed c) × (now (marks .exit) ≡ set (now (marks .entry)) client (markBy limits classed c)) ⌝ }
 {

@@ -146,7 +146,7 @@ copied-same : (xs : List ℕ) → copied xs ≡ xs
 copied-same [] = refl
 copied-same (x ∷ xs) = ap (λ (ys : List ℕ). x ∷ ys) (copied-same xs)
 
--- an array of zeros, and the marks before any is stored
+-- an array of zeros, as the marks are before any is stored
 zero-each : (n : ℕ) → shadow (each ℕ (u8 .own) (replicate n 0) (replicate n (vint w8 0)))
 zero-each zero = tt
 zero-each (suc n) = ((refl, lit< tt), zero-each n)
