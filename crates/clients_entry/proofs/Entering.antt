@@ -136,54 +136,58 @@ module _ (a : Automaton) (c : Configuration) (mark : ℕ) (s : mark ≡ markOf a
   mark-some z = by (consistent a c) (λ k. k) (λ k. absurd (z (s ∙ rw k)))
 
 -- one event of a day
-module _ (l : Limits) (marks : List ℕ) (client : ℕ) (next ranks t : List ℕ) (c : Configuration) (e at : ℕ) (out : List ℕ) where
-  -- refused, by some row
-  refuses : (row : ℕ) → (row ≡ 0 → ⊥)
-      → ((a : Automaton) → Lends a l next ranks t → getD marks client 0 ≡ markOf a c → turnRefusal a t c e ≡ row)
-      → (r : Taken) → r ≡ record { configuration = c; written = at; refused = 1 }
-      → Taking l marks client next ranks t c e at out r out
-  unfolding takenOf turned turnedBuffer
-  refuses row z f r er a o s =
-      let h = f a o s in
-      let w = turn-refused a t c e row h z at in
-      (er ∙ ap (λ (x : Turned). record { configuration = x .configuration; written = x .written; refused = 1 }) w ∙ rw (h, ne-eqb row 0 z), ap (sets out at) (sym (turn-silent a t c e row h z)))
-
-  -- row 13
-  pub takes-none : getD marks client 0 ≡ 0 → (r : Taken) → r ≡ record { configuration = c; written = at; refused = 1 }
-      → Taking l marks client next ranks t c e at out r out
-  takes-none k r er =
-      let thirteen : _≡_ {A = ℕ} 13 0 → ⊥ = λ z. omega arith in
-      refuses 13 thirteen (λ a o s. turn-inconsistent a t c e (mark-none a c (getD marks client 0) s k)) r er
+module _ (l : Limits) (marks : List ℕ) (client : ℕ) (next ranks t : List ℕ) (c : Configuration) (at : ℕ) where
+  abbrev mark : ℕ
+  mark = getD marks client 0
 
   -- row 13 passed
-  module _ (k : getD marks client 0 ≡ 0 → ⊥) where
-    pub take-enters : {size : ℕ} → TakeRequires l marks client next ranks t c at size → ProcessRequires l next ranks t c
-    take-enters g =
-        record { automaton = g .automaton; lends = g .lends; stands = mark-some (g .automaton) c (getD marks client 0) (g .marked) k }
+  module _ (k : mark ≡ 0 → ⊥) {size : ℕ} (g : TakeRequires l marks client next ranks t c at size) where
+    own : consistent (g .automaton) c ≡ true
+    own = mark-some (g .automaton) c mark (g .marked) k
 
-    pub take-room : {size : ℕ} → TakeRequires l marks client next ranks t c at size → at + c .held < size
-    take-room g = g .room (mark-some (g .automaton) c (getD marks client 0) (g .marked) k)
+    pub take-enters : ProcessRequires l next ranks t c
+    take-enters = record { automaton = g .automaton; lends = g .lends; stands = own }
 
-    -- rows 14, 15 and 23
-    pub takes-refused : (capacity held n : ℕ) → capacity ≡ l .capacity → held ≡ c .held
-        → n ≡ eventRowBy ranks (l .symbols) capacity held (inputNumber (c .received)) e → (n ≡ 0 → ⊥)
+    pub take-room : at + c .held < size
+    take-room = g .room own
+
+  module _ (e : ℕ) (out : List ℕ) where
+    -- refused, by any row
+    refuses : (row : ℕ) → (row ≡ 0 → ⊥) → ((a : Automaton) → Lends a l next ranks t → mark ≡ markOf a c → turnRefusal a t c e ≡ row)
         → (r : Taken) → r ≡ record { configuration = c; written = at; refused = 1 } → Taking l marks client next ranks t c e at out r out
-    takes-refused capacity held n ec eh en z r er =
-        refuses n z
-        (λ a o s. turn-row l next ranks t c e capacity held n ec eh en a o (mark-some a c (getD marks client 0) s k))
-        r er
+    unfolding takenOf turned turnedBuffer
+    refuses row z f r er a o s =
+        let h = f a o s in
+        let w = turn-refused a t c e row h z at in (
+          er ∙ ap (λ (x : Turned). record { configuration = x .configuration; written = x .written; refused = 1 }) w ∙ rw (h, ne-eqb row 0 z),
+          ap (sets out at) (sym (turn-silent a t c e row h z)),
+        )
 
-    -- accepted
-    pub takes-event : (d : Configuration) (r : _) (out′ : List ℕ) → (s : Takes l next ranks t c e at out r out′) → r .row ≡ 0
-        → ((a : Automaton) → Lends a l next ranks t → consistent a c ≡ true → (d ≡ turnNext a t c e) × (r .written ≡ at + length (turnEmitted a t c e)))
-        → Taking l marks client next ranks t c e at out (record { configuration = d; written = r .written; refused = 0 }) out′
-    unfolding takenOf processed
-    takes-event d r out′ f z found a o s =
-        let own = mark-some a c (getD marks client 0) s k in
-        let w = f a o own in
-        let x = found a o own in
-        let n : turnRefusal a t c e ≡ 0 = rw (w .0) at z in
-        (rw (x .0, x .1, n), w .1)
+    -- by row 13
+    pub takes-none : mark ≡ 0 → (r : Taken) → r ≡ record { configuration = c; written = at; refused = 1 } → Taking l marks client next ranks t c e at out r out
+    takes-none k r er =
+        let thirteen : _≡_ {A = ℕ} 13 0 → ⊥ = λ z. omega arith in
+        refuses 13 thirteen (λ a o s. turn-inconsistent a t c e (mark-none a c mark s k)) r er
+
+    module _ (k : mark ≡ 0 → ⊥) where
+      -- by rows 14, 15 and 23
+      pub takes-refused : (capacity held n : ℕ) → capacity ≡ l .capacity → held ≡ c .held
+          → n ≡ eventRowBy ranks (l .symbols) capacity held (inputNumber (c .received)) e → (n ≡ 0 → ⊥)
+          → (r : Taken) → r ≡ record { configuration = c; written = at; refused = 1 } → Taking l marks client next ranks t c e at out r out
+      takes-refused capacity held n ec eh en z r er =
+          refuses n z (λ a o s. turn-row l next ranks t c e capacity held n ec eh en a o (mark-some a c mark s k)) r er
+
+      -- accepted
+      pub takes-event : (d : Configuration) (r : _) (out′ : List ℕ) → (s : Takes l next ranks t c e at out r out′) → r .row ≡ 0
+          → ((a : Automaton) → Lends a l next ranks t → consistent a c ≡ true → (d ≡ turnNext a t c e) × (r .written ≡ at + length (turnEmitted a t c e)))
+          → Taking l marks client next ranks t c e at out (record { configuration = d; written = r .written; refused = 0 }) out′
+      unfolding takenOf processed
+      takes-event d r out′ f z found a o s =
+          let stands = mark-some a c mark s k in
+          let w = f a o stands in
+          let x = found a o stands in
+          let n : turnRefusal a t c e ≡ 0 = rw (w .0) at z in
+          (rw (x .0, x .1, n), w .1)
 
 -- row 16: a test of a difference, and of a sum
 module _ (size events held : ℕ) where

@@ -44,10 +44,9 @@ found c = c .before .before
 
 entered : (p : tie.After-step) → let x = start (passed (asked (p .before .before))) .args in
     ProcessRequires (x .limits) (x .next .now) (x .ranks .now) (x .table .now) (x .c)
-entered p = let g = passed (asked (p .before .before)) in take-enters _ _ _ _ _ _ _ (start g .args .event) _ (start g .args .out .now) (stands g) (start g .pre)
+entered p = let g = passed (asked (p .before .before)) in take-enters _ _ _ _ _ _ _ _ (stands g) (start g .pre)
 
 -- what the step left, as one event leaves it
-
 took : (p : tie.After-step) → let x = start (passed (asked (p .before .before))) .args in
     let s = p .step .result in
     Takes (x .limits) (x .next .now) (x .ranks .now) (x .table .now) (x .c) (x .event) (x .at) (x .out .now)
@@ -100,7 +99,7 @@ cast-step c =
     let s = r .before in
     let g = passed r in
     let l = event-low _ _ _ _ _ _ _ _ _ (s .as-usize2 .ensures .0) (s .before .as-usize .ensures .0) (r .event-row .ensures) (c .before .before .if2 .left)
-    (take-enters _ _ _ _ _ _ _ (start g .args .event) _ (start g .args .out .now) (stands g) (start g .pre))
+    (take-enters _ _ _ _ _ _ _ _ (stands g) (start g .pre))
     in omega arith
 
 step-requires : tie.Need-step-requires
@@ -110,8 +109,8 @@ step-requires c κs =
     let s = r .before in
     let g = passed r in
     take-ready _ _ _ _ _ _ _ _ _ (s .as-usize2 .ensures .0) (s .before .as-usize .ensures .0) (r .event-row .ensures) (n .before .before .if2 .left)
-    _ (n .as-usize3 .ensures .0) _ (take-enters _ _ _ _ _ _ _ (start g .args .event) _ (start g .args .out .now) (stands g) (start g .pre)) (length (start g .args .out .now))
-    (take-room _ _ _ _ _ _ _ (start g .args .event) _ (start g .args .out .now) (stands g) (start g .pre)) (indexed (g .before .before))
+    _ (n .as-usize3 .ensures .0) _ (take-enters _ _ _ _ _ _ _ _ (stands g) (start g .pre)) (length (start g .args .out .now))
+    (take-room _ _ _ _ _ _ _ _ (stands g) (start g .pre)) (indexed (g .before .before))
 
 mul-places : tie.Need-mul-places
 mul-places c = search needs
