@@ -11,7 +11,7 @@ use lib.Bits.{bitOr, or-shr, or-mod}
 use borrow.Author.Tests.{eqb-true, eqb-false, ltb-true, ltb-false, not-false}
 use Rattle.base.specs.Each.{each, count}
 use Rattle.base.specs.Masks.{has, mask}
-use Rattle.base.proofs.Bools.{by, and-left, and-right, or-neither, same-test}
+use Rattle.base.proofs.Bools.{by, clash, and-left, and-right, or-neither, same-test}
 use Rattle.base.proofs.Ranges.{each-at, each-fails, count-same, count-fewer}
 
 -- the empty set
@@ -59,6 +59,20 @@ module _ (n x : ℕ) (h : x < 2 ^ n) where
   pub added-lt : (b : Bool) → plus b < 2 ^ suc n
   added-lt true = omega arith
   added-lt false = omega arith
+
+-- the set of one state
+pub has-one : (n q : ℕ) → has (2 ^ n) q ≡ true → q ≡ n
+has-one n q h =
+    let start : 0 ≤ n = omega arith in
+    let some : 0 < 2 ^ n = omega (arith, pow-mono start) in
+    by (ltb q n)
+    (λ l.
+    let e : 2 ^ n ≡ 0 + 2 ^ n = omega arith in
+    absurd (clash h (ap (λ y. has y q) e ∙ has-before n 0 some true q (ltb-true q n l) ∙ has-nothing q)))
+    (λ l.
+    by (ltb n q)
+    (λ m. absurd (clash h (has-beyond (suc n) (2 ^ n) q (omega (arith, added-lt n 0 some true)) (ltb-true n q m))))
+    (λ m. omega (arith, ltb-false q n l, ltb-false n q m)))
 
 pub mask-lt : (n : ℕ) (p : ℕ → Bool) → mask n p < 2 ^ n
 unfolding mask

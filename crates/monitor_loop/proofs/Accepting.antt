@@ -2,12 +2,15 @@
 -- code finds them, is the configuration that the rule says.
 use Prim.Native.Nat.{ℕ, _+_, _-_, _<_, _≤_}
 use mathlib.Core.Path.{_≡_, refl, sym, _∙_, ap}
-use mathlib.Core.Bool.{true}
-use mathlib.Core.Logic.{_⊎_, ⊎-elim}
-use mathlib.Core.List.{List}
+use mathlib.Core.Bool.{true, false, not, _&&_}
+use mathlib.Core.Logic.{_⊎_, inl, inr, ⊎-elim}
+use mathlib.Core.List.{List, []}
 use native.Mathlib.Omega.{arith}
-use lib.ListN.{length, set, take, drop}
+use lib.ListN.{length, set, take, drop, drop-of-length-le}
+use lib.Dec.{eqb}
+use borrow.Author.Tests.{eqb-true, eqb-false, not-true}
 use Rattle.base.specs.Pad.{pad}
+use Rattle.base.proofs.Bools.{by, clash, and-right}
 use Rattle.automaton.specs.declared.Automaton.{Automaton}
 use Rattle.configuration_places.specs.declared.InputPlace.{InputPlace}
 use Rattle.configuration_places.specs.Places.{inputPlace, inputNumber, padPlaces}
@@ -49,6 +52,45 @@ pub record Stay (c : Configuration) (r : Processed) (ps : List InputPlace) : Typ
 
 abbrev pub Found : Configuration → Processed → List InputPlace → Type 0
 Found c r ps = Waits c r ps ⊎ Goes c r ps ⊎ Stay c r ps
+
+-- where the places move, some are released
+pub some-released : (held released : ℕ) → (not (eqb held 0) && not (eqb released 0)) ≡ true → 0 < released
+some-released held released h =
+    let z = eqb-false released 0 (not-true (eqb released 0) (and-right (not (eqb held 0)) (not (eqb released 0)) h)) in omega arith
+
+-- where none are held or none are released, they need not move
+module _ {l : Limits} {next ranks t : List ℕ} {c : Configuration} (g : ProcessRequires l next ranks t c) (r : Processed) (no-more : r .held ≤ c .held)
+    (ps : List InputPlace) (kept : ps ≡ c .places) where
+  unheld : c .held ≡ 0 → c .places ≡ padPlaces 6 []
+  unfolding padPlaces pad
+  unheld z =
+      let k = place (g .lends) c (g .stands) in
+      let few : length (positionOf c .places) ≤ 0 = omega (arith, k .placed .each-has, k .held-length) in
+      let none : positionOf c .places ≡ [] = drop-of-length-le (positionOf c .places) few in
+      ap (λ (d : Configuration). d .places) (k .whole) ∙ ap (places 6) none
+
+  found-unheld : c .held ≡ 0 → 0 < r .released → Found c r ps
+  found-unheld z some =
+      let none : r .held ≡ 0 = omega arith in
+      inr (inl (record {
+        no-more = no-more;
+        some-go = some;
+        before = c .held;
+        held = r .held;
+        were = refl;
+        are = refl;
+        moved = kept ∙ unheld z ∙ rw none;
+      }))
+
+  pub found-still : (not (eqb (c .held) 0) && not (eqb (r .released) 0)) ≡ false → Found c r ps
+  found-still h =
+      by (eqb (r .released) 0)
+      (λ z. let none = eqb-true (r .released) 0 z in inr (inr (record { no-more = no-more; none-go = omega arith; kept = kept })))
+      (λ z.
+      let some = eqb-false (r .released) 0 z in
+      by (eqb (c .held) 0)
+      (λ y. found-unheld (eqb-true (c .held) 0 y) (omega arith))
+      (λ y. absurd (clash {b = true} refl (rw (y, z) at h))))
 
 module _ {l : Limits} {next ranks t : List ℕ} {c : Configuration} (g : ProcessRequires l next ranks t c) (e at : ℕ) (out : List ℕ) (r : Processed)
     (out′ : List ℕ) (s : Takes l next ranks t c e at out r out′) (z : r .row ≡ 0) where

@@ -1,5 +1,6 @@
 pub mod Taking
 pub mod Placing
+pub mod Quiet
 pub mod Accepting
 pub mod Running
 pub mod Turning

@@ -26,9 +26,9 @@ use Rattle.monitor_answers.specs.Answers.{ranOf, ranBufferOf}
 use Rattle.monitor_answers.specs.Turns.{turnRefusal, turnEmitted, turnNext, turnedBuffer}
 use Rattle.monitor_answers.proofs.Turns.{turn-consistent, turn-silent, turn-emits, turn-moves, turn-keeps, turn-room}
 use Rattle.monitor_loop.specs.Lending.{Limits, Lends, Processed, ProcessRequires, derived, processed, Takes, Runs}
-use Rattle.monitor_loop.proofs.Taking.{opens, place}
+use Rattle.monitor_loop.proofs.Taking.{opens, facts, place}
 use Rattle.monitor_loop.proofs.Placing.{derived-is}
-use Rattle.monitor_loop.proofs.Accepting.{Found, accepted-counts, accepted-few, accepted-gone, accepted-found}
+use Rattle.monitor_loop.proofs.Accepting.{Found, accepted-few, accepted-gone, accepted-found}
 
 -- a run after what was done before it
 abbrev pub joined : List ℕ → ℕ → Run → Run
@@ -177,11 +177,7 @@ module _ {l : Limits} {next ranks t events out₀ : List ℕ} {c₀ : Configurat
     pub going-room : written + c .held < length out
     going-room = omega (arith, going-kept, own .fits, g .enough)
 
-    module _ (r : Processed) (out′ : List ℕ) (here : Configuration) (same : here ≡ c)
-        (taken : Takes l next ranks t here (getD events i 0) written out r out′) where
-      s : Takes l next ranks t c (getD events i 0) written out r out′
-      s = subst (λ d. Takes l next ranks t d (getD events i 0) written out r out′) same taken
-
+    module _ (r : Processed) (out′ : List ℕ) (s : Takes l next ranks t c (getD events i 0) written out r out′) where
       row-of : (a : Automaton) → Lends a l next ranks t → consistent a c ≡ true → turnRefusal a t c (getD events i 0) ≡ r .row
       unfolding processed
       row-of a o k = sym (ap (λ (y : Processed). y .row) (s a o k .0))
@@ -203,10 +199,6 @@ module _ {l : Limits} {next ranks t events out₀ : List ℕ} {c₀ : Configurat
       module _ (z : r .row ≡ 0) where
         abbrev event : ℕ
         event = getD events i 0
-
-        -- the input count goes on
-        pub going-counts : inputNumber (c .received) ≡ 4294967295 → ⊥
-        going-counts = accepted-counts going-enters event written out r out′ s z
 
         pub going-few : r .held ≤ 6
         going-few = accepted-few going-enters event written out r out′ s z
@@ -231,6 +223,9 @@ module _ {l : Limits} {next ranks t events out₀ : List ℕ} {c₀ : Configurat
                   running-accepted o f h (row-of a o (f .stands) ∙ z) _ (next .0) (r .written) (next .1) out′ (s a o (f .stands) .1);
             }
 
+  pub going-state : c .state < 32
+  going-state = omega (arith, place (g .enters .lends) c (own .stands) .state-below, facts (g .enters .lends) .states-high)
+
   pub going-held : c .held ≤ 6
   going-held = place (g .enters .lends) c (own .stands) .held-small
 
@@ -244,12 +239,13 @@ module _ {l : Limits} {next ranks t events out₀ : List ℕ} {c₀ : Configurat
   going-ends h a o k = running-answer o (g .follows a o k) (omega (arith, g .within)) (g .enough)
 
 -- The loop keeps a configuration without its output count.
-module _ {l : Limits} {next ranks t : List ℕ} {c : Configuration} (g : ProcessRequires l next ranks t c) where
+module _ {l : Limits} {next ranks t : List ℕ} {c : Configuration} (g : ProcessRequires l next ranks t c) {state held : ℕ} (es : state ≡ c .state)
+    (eh : held ≡ c .held) where
   abbrev kept : Configuration
-  kept = derived (c .state) (c .held) (c .buffer) (c .places) (c .received)
+  kept = derived state held (c .buffer) (c .places) (c .received)
 
   kept-is : kept ≡ c
-  kept-is = derived-is (g .automaton) c (place (g .lends) c (g .stands))
+  kept-is = rw (es, eh) (derived-is (g .automaton) c (place (g .lends) c (g .stands)))
 
   pub going-begins : (events out : List ℕ) → length events + c .held ≤ length out → length out < 18446744073709551616
       → Going l next ranks t events out kept out kept 0 0 0

@@ -123,7 +123,7 @@ module _ (l : Limits) (next ranks t : List ℕ) (c : Configuration) (e capacity 
             es ∙ rw (o .limits-are, o .next-are, o .ranks-are, eq, eh)
             (stepped-tabled a (facts o) t (c .state) (heldEvents c) e (occurs o c k .occurs) (accepts a o k) at)
 
-        pub state-fits : ProcessRequires l next ranks t c → s .state < 256
+        pub state-fits : ProcessRequires l next ranks t c → s .state < 32
         unfolding stepped
         state-fits g =
             let i = step-is (g .automaton) (g .lends) (g .stands) in

@@ -21,7 +21,6 @@ use Rattle.monitor_rule.specs.Step.{byTable}
 use Rattle.monitor_step.specs.Stepping.{released}
 use Rattle.monitor_answers.specs.Turns.{turnRefusal, turnEmitted, turnNext, turned, turnedBuffer}
 pub use Rattle.monitor_loop.specs.declared.Limits.{Limits}
-pub use Rattle.monitor_loop.specs.declared.Processed.{Processed}
 
 abbrev pub limitsOf : Automaton → Limits
 limitsOf a =
@@ -48,7 +47,7 @@ pub record TurnRequires (l : Limits) (classes next ranks t : List ℕ) (c : Conf
   pub classes-are : classes ≡ automaton .classes
   pub room : consistent automaton c ≡ true → at + c .held < size
 
--- what `process` and `process_event` ask beside room: rows 11 to 13 passed
+-- what `process` asks beside room: rows 11 to 13 passed
 pub record ProcessRequires (l : Limits) (next ranks t : List ℕ) (c : Configuration) : Type 0 where
   pub automaton : Automaton
   pub lends : Lends automaton l next ranks t
@@ -72,7 +71,18 @@ derived state held buffer places received =
       emitted = outputPlace (inputNumber received - held);
     }
 
--- what an event leaves beside places and counts: none is released where it is refused
+-- what an event leaves of a consistent configuration beside places and counts: the row that refuses
+-- it (0: none), the state, the buffer and how many it holds, how many held events were released,
+-- and the place after what was written
+pub record Processed : Type 0 where
+  pub row : ℕ
+  pub state : ℕ
+  pub held : ℕ
+  pub buffer : List ℕ
+  pub released : ℕ
+  pub written : ℕ
+
+-- none is released where it is refused
 unfoldable pub processed : Automaton → List ℕ → Configuration → ℕ → ℕ → Processed
 processed a t c e at =
     let next = turnNext a t c e in

@@ -2,6 +2,8 @@
 // let pass: one event for any configuration, and the loop over a list of events.
 use base::as_u32;
 use base::as_usize;
+use base::bit;
+use base::has;
 use configuration::Configuration;
 use configuration_check::consistent;
 use configuration_places::InputPlace;
@@ -12,10 +14,14 @@ use monitor_places::places_left;
 use monitor_step::event_row;
 use monitor_step::step;
 ghost use mathlib.Core.Path.{_≡_};
-ghost use Prim.Native.Nat.{_+_, _≤_, _<_};
-ghost use lib.ListN.{length};
-ghost use Rattle.configuration_places.specs.Places.{inputNumber};
-ghost use Rattle.monitor_loop.specs.Lending.{TurnRequires, ProcessRequires, Turns, Takes, Runs, derived};
+ghost use mathlib.Core.Bool.{not, _&&_};
+ghost use Prim.Native.Nat.{ℕ, _+_, _*_, _≤_, _<_};
+ghost use lib.Dec.{eqb};
+ghost use lib.ListN.{length, getD};
+ghost use Rattle.base.specs.Masks.{has};
+ghost use Rattle.configuration_places.specs.Places.{inputPlace, inputNumber};
+ghost use Rattle.monitor_loop.specs.Lending.{TurnRequires, ProcessRequires, Turns, Runs, derived};
+ghost use Rattle.monitor_loop.specs.Quiet.{quietAfter};
 
 // How many symbols of an automaton are controllable, and the numbers that an event is held to.
 pub struct Limits {
@@ -23,18 +29,6 @@ pub struct Limits {
     pub states: u8,
     pub symbols: u8,
     pub capacity: u8,
-}
-
-// What one event leaves of a consistent configuration beside places and counts: the row that
-// refuses it (0: none), the state, the buffer and how many it holds, how many held events were
-// released, and the place after what was written.
-pub struct Processed {
-    pub row: u8,
-    pub state: u8,
-    pub held: u8,
-    pub buffer: [u8; 6],
-    pub released: usize,
-    pub written: usize,
 }
 
 // A configuration whose output count is worked out: what came in and is not held went out.
@@ -58,68 +52,67 @@ pub fn derive(
     }
 }
 
-// One event for a consistent configuration: rows 14, 15 and 23, and the step of an accepted one,
-// which writes from a place on. (The body of the loop below, and called there only, so that it is
-// inlined. It has no part in the places, which are so written only where an event is held or some
-// are released.)
-fn process_event<'a>(
-    limits: Limits,
-    next: &'a [u8; 512],
-    ranks: &'a [u8; 16],
-    table: &[u32],
-    c: Configuration,
-    event: u32,
-    out: &mut [u8],
-    at: usize,
-) -> Processed
-    requires { ⌜ ProcessRequires limits (now next) (now ranks) (now table) c × (at + c .held < length (now out)) ⌝ }
-    ensures { λ r. let t = now (table .entry) in
-        ⌜ Takes limits (now (next .entry)) (now (ranks .entry)) t c event at (now (out .entry)) r (now (out .exit)) ⌝ }
+// The input count after one more accepted event.
+pub fn counted(received: InputPlace) -> InputPlace
+    requires { ⌜ (inputNumber received ≡ 4294967295 → ⊥) ⌝ }
+    ensures { λ r. ⌜ r ≡ inputPlace (inputNumber received + 1) ⌝ }
 {
-    let held = as_usize(c.held);
-    let row = event_row(
-        ranks,
-        limits.symbols,
-        as_usize(limits.capacity),
-        held,
-        c.received,
-        event,
-    );
-    let buffer = c.buffer;
-    if row != 0 {
-        return Processed {
-            row,
-            state: c.state,
-            held: c.held,
-            buffer,
-            released: 0,
-            written: at,
-        };
-    }
-    let after = step(
-        next,
-        ranks,
-        limits.controllables,
-        table,
-        as_usize(c.state),
-        buffer,
-        held,
-        event as u8,
-        out,
-        at,
-    );
-    let left = after.buffer;
-    Processed {
-        row: 0,
-        state: after.state as u8,
-        held: after.held as u8,
-        buffer: left,
-        released: after.released,
-        written: after.written,
-    }
+    InputPlace(received.0 + 1)
 }
 
-// The events in turn; those that are refused are passed over and counted.
+// Every state.
+const ALL_STATES: u32 = 4294967295;
+
+// Whether an event is uncontrollable and leads to a state of `quiet`.
+fn is_quiet<'a>(
+    next: &'a [u8; 512],
+    ranks: &'a [u8; 16],
+    quiet: u32,
+    state: usize,
+    event: usize,
+) -> bool
+    requires { ⌜ (state < 32) × (event < 16) × ((i : ℕ) → getD (now next) i 0 < 32) ⌝ }
+    ensures { λ r. ⌜ r ≡ eqb (getD (now (ranks .entry)) event 0) 0 && has quiet (getD (now (next .entry)) (state * 16 + event) 0) ⌝ }
+{
+    if ranks[event] != 0 {
+        return false;
+    }
+    has(quiet, as_usize(next[state * 16 + event]))
+}
+
+// The quiet states after a step that came from this number held to this state, number held and
+// number released: all where nothing is held; the state too where the same events are held as
+// before; else none is known.
+fn quiet_after(quiet: u32, before: usize, state: usize, held: usize, released: usize) -> u32
+    requires { ⌜ state < 32 ⌝ }
+    ensures { λ r. ⌜ r ≡ quietAfter quiet before state held released ⌝ }
+{
+    if held == 0 {
+        return ALL_STATES;
+    }
+    if 0 < released {
+        return 0;
+    }
+    if before < held {
+        return 0;
+    }
+    quiet | bit(state)
+}
+
+// Whether a release moves places: some are held, and some events are released.
+fn moves(held: usize, released: usize) -> bool
+    ensures { λ r. ⌜ r ≡ not (eqb held 0) && not (eqb released 0) ⌝ }
+{
+    if held == 0 {
+        return false;
+    }
+    released != 0
+}
+
+// The events in turn; those that are refused are passed over and counted. The output count is not
+// kept but worked out at the end, and the places are written only where an event is held or some
+// are released. `quiet` has states from which the buffer as it stands releases nothing: an
+// uncontrollable event that leads to one of them is written and moves the state, no more.
 pub fn process<'a>(
     limits: Limits,
     next: &'a [u8; 512],
@@ -135,46 +128,64 @@ pub fn process<'a>(
         ⌜ Runs limits (now (next .entry)) (now (ranks .entry)) t c (now (events .entry)) (now (out .entry)) r (now (out .exit)) ⌝ }
 {
     let own = *ranks;
-    let mut state = c.state;
-    let mut held = c.held;
+    let mut state = as_usize(c.state);
+    let mut held = as_usize(c.held);
     let mut buffer = c.buffer;
     let mut places = c.places;
     let mut received = c.received;
+    let mut quiet: u32 = 0;
     let mut written: usize = 0;
     let mut refused: usize = 0;
     let mut i: usize = 0;
     while i < events.len() {
         let event = events[i];
         i = i + 1;
-        let here = derive(state, held, buffer, places, received);
-        let after = process_event(limits, next, &own, table, here, event, out, written);
-        if after.row != 0 {
+        let row = event_row(
+            &own,
+            limits.symbols,
+            as_usize(limits.capacity),
+            held,
+            received,
+            event,
+        );
+        if row != 0 {
             refused = refused + 1;
+        } else if is_quiet(next, &own, quiet, state, event as usize) {
+            out[written] = event as u8;
+            state = as_usize(next[state * 16 + event as usize]);
+            received = counted(received);
+            written = written + 1;
         } else {
+            let after = step(
+                next,
+                &own,
+                limits.controllables,
+                table,
+                state,
+                buffer,
+                held,
+                event as u8,
+                out,
+                written,
+            );
             if held < after.held {
-                places[as_usize(held)] = received;
-            } else if 0 < after.released {
-                let kept = places_left(
-                    places,
-                    as_usize(held),
-                    received,
-                    after.released,
-                    as_usize(after.held),
-                );
+                places[held] = received;
+            } else if moves(held, after.released) {
+                let kept = places_left(places, held, received, after.released, after.held);
                 places = kept;
             }
+            quiet = quiet_after(quiet, held, after.state, after.held, after.released);
             let left = after.buffer;
-            let next_place = InputPlace(received.0 + 1);
             state = after.state;
             held = after.held;
             buffer = left;
-            received = next_place;
+            received = counted(received);
             written = after.written;
         }
     }
     Ran {
         refusal: 0,
-        configuration: derive(state, held, buffer, places, received),
+        configuration: derive(state as u8, held as u8, buffer, places, received),
         length: written,
         refused,
     }

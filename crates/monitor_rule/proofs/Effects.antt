@@ -122,6 +122,12 @@ module _ (rest : Rest) (a : Automaton) (q : ℕ) (w : List ℕ) (e : ℕ) where
       let few = release-le rest a (x .state) (x .buffer) in
       omega (arith, length-append (x .emitted) (take k (x .buffer)), length-take-le k (x .buffer) few, length-drop k (x .buffer), arrival-length a q w e)
 
+  -- an uncontrollable event that releases nothing is emitted and moves the state
+  pub effect-alone : controllable a e ≡ false → release rest a (step a q e) w ≡ 0
+      → effect rest a q w e ≡ record { emitted = e ∷ []; state = step a q e; buffer = w }
+  unfolding effect arrival remaining reached
+  effect-alone c none = rw (c, none)
+
   -- the rest test is asked only where it may be
   pub effect-same : (other : Rest) → Agree a rest other → Total a → Occurs a q w → Accepts a w e → effect rest a q w e ≡ effect other a q w e
   unfolding effect

@@ -1,21 +1,29 @@
-use Prim.Native.Nat.{_-_, _<_, _≤_}
-use mathlib.Core.Path.{_≡_, _∙_}
+use Prim.Native.Nat.{_+_, _-_, _*_, _<_, _≤_}
+use mathlib.Core.Path.{_≡_, refl, sym, _∙_, ap}
 use mathlib.Core.Logic.{inl, inr, ⊎-elim}
-use lib.ListN.{length}
+use lib.ListN.{length, getD, set}
+use lib.Seq.{sets}
 use native.Mathlib.Omega.{arith}
 use borrow.Author.Needs.{needs}
-use Rattle.monitor_loop.specs.Lending.{Takes, derived}
-use Rattle.monitor_loop.proofs.Running.{Going, going-begins, going-enters, going-kept, going-room, going-held, going-derives, going-refuses, going-counts, going-few, going-gone, going-accepts, going-ends, going-finishes, counts-fit}
+use Rattle.monitor_step.specs.Stepping.{StepRequires}
+use Rattle.monitor_step.proofs.Steps.{many}
+use Rattle.monitor_loop.specs.Lending.{Processed, Takes, derived}
+use Rattle.monitor_loop.specs.Quiet.{Quiet}
+use Rattle.monitor_loop.proofs.Taking.{symbols-small, takes-refused, counts-on, take-ready, state-fits, takes-accepted}
+use Rattle.monitor_loop.proofs.Quiet.{quiet-none, quiet-emits, quiet-steps, quiet-goes-on}
+use Rattle.monitor_loop.proofs.Accepting.{some-released, found-still}
+use Rattle.monitor_loop.proofs.Running.{Going, going-begins, going-enters, going-kept, going-room, going-state, going-held, going-derives, going-refuses, going-few, going-gone, going-accepts, going-ends, going-finishes}
 use Rattle.monitor_loop.proofs.process.Statement.{statement}
 use Rattle.monitor_loop.proofs.process.Tie as tie
 
 abbrev Inv-loop : tie.InvT-loop
-Inv-loop limits next ranks table events out₀ own state₀ held₀ buffer₀ places₀ received₀ written₀ refused₀ i₀ out state held buffer places received written refused i =
+Inv-loop limits next ranks table events out₀ own state₀ held₀ buffer₀ places₀ received₀ quiet₀ written₀ refused₀ i₀ out state held buffer places received quiet written refused i =
     Going limits next ranks table events out₀ (derived state₀ held₀ buffer₀ places₀ received₀) out
     (derived state held buffer places received) written refused i
+    × Quiet next ranks (limits .controllables) table buffer held quiet
 
 abbrev μ-loop : tie.MeasureT-loop
-μ-loop limits next ranks table events out₀ own state₀ held₀ buffer₀ places₀ received₀ written₀ refused₀ i₀ out state held buffer places received written refused i =
+μ-loop limits next ranks table events out₀ own state₀ held₀ buffer₀ places₀ received₀ quiet₀ written₀ refused₀ i₀ out state held buffer places received quiet written refused i =
     length events - i
 
 -- The places that later needs look back to.
@@ -23,32 +31,97 @@ abbrev μ-loop : tie.MeasureT-loop
 indexed : (c : tie.After-slice-known Inv-loop μ-loop) → length (c .before .before .before .args .out .now) < 18446744073709551616
 indexed c = search needs
 
-abbrev body : tie.After-process-event-arg Inv-loop μ-loop → tie.In-loop Inv-loop μ-loop
+abbrev body : tie.After-event-row Inv-loop μ-loop → tie.In-loop Inv-loop μ-loop
 body c = c .before .before .before .before
 
-abbrev taken : tie.After-struct-known Inv-loop μ-loop → tie.After-process-event Inv-loop μ-loop
-taken c = c .before .before .before
+abbrev start : tie.At-loop Inv-loop μ-loop → tie.Start Inv-loop μ-loop
+start c = c .before .before .before .before .before .before .before .before .before .before
 
--- the configuration that the event meets
-made : (t : tie.After-process-event Inv-loop μ-loop) → let l = body (t .before) .before .loop in
-    t .before .before .before .derive .result ≡ derived (l .state) (l .held) (l .buffer) (l .places) (l .received)
-made t = t .before .before .before .derive .ensures
+-- rows 14, 15 and 23 passed: a step may be taken
+ready : (c : tie.Else1 Inv-loop μ-loop) → let a = body (c .before) .before in
+    let l = a .loop in
+    let x = start a .args in
+    StepRequires (x .next .now) (x .ranks .now) (x .limits .controllables) (x .table .now) (l .state) (l .buffer) (l .held)
+    (getD (x .events .now) (l .i) 0) (length (l .out)) (l .written)
+ready c =
+    let r = c .before in
+    let b = body r in
+    let g = b .before .loop .inv .0 in
+    take-ready _ _ _ _ _ _ _ _ _ (r .before .as-usize3 .ensures .0) refl (r .event-row .ensures) (c .if1 .left) _ refl _
+    (going-enters g) _ (going-room g (b .loop-test .taken)) (rw (going-kept g) (g .indexed))
 
--- an accepted event
-abbrev accepted : tie.Else1 Inv-loop μ-loop → tie.After-process-event Inv-loop μ-loop
-accepted c = taken (c .before)
+-- the input count is not at its end
+counts : (c : tie.Else1 Inv-loop μ-loop) → body (c .before) .before .loop .received .0 ≡ 4294967295 → ⊥
+counts c =
+    let r = c .before in
+    counts-on _ _ _ _ _ _ _ _ _ (r .before .as-usize3 .ensures .0) refl (r .event-row .ensures) (c .if1 .left) (going-enters (body r .before .loop .inv .0))
 
-few : (c : tie.Else1 Inv-loop μ-loop) → accepted c .process-event .result .held ≤ 6
-few c =
-    let t = accepted c in
-    let b = body (t .before) in
-    going-few (b .before .loop .inv) (b .loop-test .taken) _ _ _ (made t) (t .process-event .ensures) (c .if1 .left)
+-- an event that leads to a quiet state
+abbrev silent : tie.Then2 Inv-loop μ-loop → tie.Else1 Inv-loop μ-loop
+silent c = c .before .before .before
+
+quietly : (t : tie.Then2 Inv-loop μ-loop) → let a = body (silent t .before) .before in
+    let l = a .loop in
+    let x = start a .args in
+    let e = getD (x .events .now) (l .i) 0 in
+    Takes (x .limits) (x .next .now) (x .ranks .now) (x .table .now) (derived (l .state) (l .held) (l .buffer) (l .places) (l .received)) e (l .written) (l .out)
+    (record { row = 0; state = getD (x .next .now) (l .state * 16 + e) 0; held = l .held; buffer = l .buffer; released = 0; written = l .written + 1 })
+    (set (l .out) (l .written) e)
+quietly t =
+    let c = silent t in
+    let r = c .before in
+    let known = body r .before .loop .inv .1 in
+    let y = ready c in
+    let h = sym (t .before .is-quiet .ensures) ∙ t .if2 .taken in
+    takes-accepted _ _ _ _ _ _ _ _ _ (r .before .as-usize3 .ensures .0) refl (r .event-row .ensures) (c .if1 .left) _ refl _ _
+    (quiet-steps known (many y) _ _ _ h (y .padded)) _ _ (ap (sets _ _) (quiet-emits known (many y) _ _ 0 h))
+
+abbrev passed : tie.After-counted Inv-loop μ-loop → tie.Then2 Inv-loop μ-loop
+passed c = c .before .before .before
+
+-- any other
+abbrev stepping : tie.After-own4 Inv-loop μ-loop → tie.Else1 Inv-loop μ-loop
+stepping c = c .before .before .before .before
+
+abbrev stepped : tie.After-struct-known Inv-loop μ-loop → tie.After-step Inv-loop μ-loop
+stepped c = c .before .before .before
+
+-- what the step left, as one event leaves it
+abbrev leaves : tie.After-step Inv-loop μ-loop → Processed
+leaves p =
+    let s = p .step .result in
+    record { row = 0; state = s .state; held = s .held; buffer = s .buffer; released = s .released; written = s .written }
+
+took : (p : tie.After-step Inv-loop μ-loop) → let a = body (stepping (p .before .before) .before) .before in
+    let l = a .loop in
+    let x = start a .args in
+    Takes (x .limits) (x .next .now) (x .ranks .now) (x .table .now) (derived (l .state) (l .held) (l .buffer) (l .places) (l .received))
+    (getD (x .events .now) (l .i) 0) (l .written) (l .out) (leaves p) (p .step .last .1 .1 .1 .1 .1 .1 .1 .1 .0)
+took p =
+    let c = stepping (p .before .before) in
+    let r = c .before in
+    takes-accepted _ _ _ _ _ _ _ _ _ (r .before .as-usize3 .ensures .0) refl (r .event-row .ensures) (c .if1 .left) _ refl _ _ (p .step .ensures .0) _ _ (p .step .ensures .1)
+
+few : (p : tie.After-step Inv-loop μ-loop) → p .step .result .held ≤ 6
+few p =
+    let b = body (stepping (p .before .before) .before) in
+    going-few (b .before .loop .inv .0) (b .loop-test .taken) (leaves p) _ (took p) refl
+
+abbrev moved : tie.Joined3 Inv-loop μ-loop → tie.After-step Inv-loop μ-loop
+moved c = stepped (c .before)
+
+as-usize-requires : tie.Need-as-usize-requires Inv-loop μ-loop
+as-usize-requires c κs = search needs
+
+as-usize-requires-2 : tie.Need-as-usize-requires-2 Inv-loop μ-loop
+as-usize-requires-2 c κs = search needs
 
 loop-holds : tie.Need-loop-holds Inv-loop μ-loop
 loop-holds c =
-    let s = c .before .before .before .before in
+    let n = c .before .before .before in
+    let s = n .before .before .before in
     let p = s .before .before .before .pre in
-    going-begins (p .0) _ _ (p .1) (indexed s)
+    (going-begins (p .0) (n .before .as-usize .ensures .0) (n .as-usize2 .ensures .0) _ _ (p .1) (indexed s), quiet-none _ _ _ _ _ _)
 
 mul-event : tie.Need-mul-event Inv-loop μ-loop
 mul-event c = search needs
@@ -59,103 +132,161 @@ shared-slice-read-event c = search needs
 add-i : tie.Need-add-i Inv-loop μ-loop
 add-i c = search needs
 
-derive-requires : tie.Need-derive-requires Inv-loop μ-loop
-derive-requires c κs = going-derives (c .before .before .loop .inv)
-
-process-event-requires : tie.Need-process-event-requires Inv-loop μ-loop
-process-event-requires c κs =
-    let b = body c in
-    let g = b .before .loop .inv in
-    rw (c .before .before .derive .ensures) (going-enters g, going-room g (b .loop-test .taken))
-
-add-refused : tie.Need-add-refused Inv-loop μ-loop
-add-refused c =
-    let b = body (taken (c .before) .before) in
-    omega (arith, b .before .loop .inv .passed-over, b .before .loop .inv .indexed, b .before .loop .inv .enough, b .loop-test .taken)
-
-loop-less : tie.Need-loop-less Inv-loop μ-loop
-loop-less c = omega (arith, body (taken (c .before) .before) .loop-test .taken)
-
-loop-again : tie.Need-loop-again Inv-loop μ-loop
-loop-again c =
-    let t = taken (c .before) in
-    let b = body (t .before) in
-    going-refuses (b .before .loop .inv) (b .loop-test .taken) _ _ _ (made t) (t .process-event .ensures) (c .if1 .taken)
-
-as-usize-requires : tie.Need-as-usize-requires Inv-loop μ-loop
-as-usize-requires c κs = search needs
-
-mul-places : tie.Need-mul-places Inv-loop μ-loop
-mul-places c = let l = few (c .before .before .before) in omega (arith, c .as-usize .ensures .0, c .before .if2 .taken)
-
-array-set-from-places : tie.Need-array-set-from-places Inv-loop μ-loop
-array-set-from-places c = omega (arith, few (c .before .before .before), c .as-usize .ensures .0, c .before .if2 .taken)
-
-as-usize-requires-2 : tie.Need-as-usize-requires-2 Inv-loop μ-loop
-as-usize-requires-2 c κs = search needs
-
 as-usize-requires-3 : tie.Need-as-usize-requires-3 Inv-loop μ-loop
 as-usize-requires-3 c κs = search needs
 
-places-left-requires : tie.Need-places-left-requires Inv-loop μ-loop
-places-left-requires c κs =
-    let n = c .before .before in
-    let e = n .before .before .before .before in
-    let t = accepted e in
-    let b = body (t .before) in
-    let gone = going-gone (b .before .loop .inv) (b .loop-test .taken) _ _ _ (made t) (t .process-event .ensures) (e .if1 .left) in
-    let high = going-held (b .before .loop .inv) in (
-      omega (arith, high, c .before .as-usize2 .ensures .0),
-      omega (arith, c .as-usize3 .ensures .0, c .before .as-usize2 .ensures .0, n .before .before .if2 .left),
-      gone,
+event-row-requires : tie.Need-event-row-requires Inv-loop μ-loop
+event-row-requires c κs = symbols-small (c .before .before .before .before .loop .inv .0 .enters .lends)
+
+add-refused : tie.Need-add-refused Inv-loop μ-loop
+add-refused c =
+    let b = body (c .before) in
+    let g = b .before .loop .inv .0 in
+    omega (arith, g .passed-over, g .indexed, g .enough, b .loop-test .taken)
+
+loop-less : tie.Need-loop-less Inv-loop μ-loop
+loop-less c = omega (arith, body (c .before) .loop-test .taken)
+
+loop-again : tie.Need-loop-again Inv-loop μ-loop
+loop-again c =
+    let r = c .before in
+    let b = body r in
+    let v = b .before .loop .inv in (
+      going-refuses (v .0) (b .loop-test .taken) _ _
+          (takes-refused _ _ _ _ _ _ _ _ _ (r .before .as-usize3 .ensures .0) refl (r .event-row .ensures) (c .if1 .taken) _ _)
+          (c .if1 .taken),
+      v .1,
     )
 
-add-t41 : tie.Need-add-t41 Inv-loop μ-loop
-add-t41 c =
-    let e = c .before .before .before .before in
-    let t = accepted e in
-    let b = body (t .before) in
-    let low : b .before .loop .received .0 < 4294967296 = omega arith in
-    let next = counts-fit _ low (going-counts (b .before .loop .inv) (b .loop-test .taken) _ _ _ (made t) (t .process-event .ensures) (e .if1 .left)) in
-    omega arith
+cast-is-quiet : tie.Need-cast-is-quiet Inv-loop μ-loop
+cast-is-quiet c = let y = ready (c .before) in omega (arith, y .symbol-low)
+
+is-quiet-requires : tie.Need-is-quiet-requires Inv-loop μ-loop
+is-quiet-requires c κs = let y = ready (c .before) in (y .state-low, y .symbol-low, y .lent _ refl .next-low)
+
+cast-out : tie.Need-cast-out Inv-loop μ-loop
+cast-out c = let y = ready (silent c) in omega (arith, y .symbol-low)
+
+slice-write-out : tie.Need-slice-write-out Inv-loop μ-loop
+slice-write-out c = let y = ready (silent c) in omega (arith, y .room)
+
+mul-as-usize : tie.Need-mul-as-usize Inv-loop μ-loop
+mul-as-usize c = let y = ready (silent c) in omega (arith, y .state-low)
+
+cast-as-usize : tie.Need-cast-as-usize Inv-loop μ-loop
+cast-as-usize c = let y = ready (silent c) in omega (arith, y .symbol-low)
+
+add-as-usize : tie.Need-add-as-usize Inv-loop μ-loop
+add-as-usize c = let y = ready (silent c) in omega (arith, y .state-low, y .symbol-low)
+
+element-copy-out-as-usize : tie.Need-element-copy-out-as-usize Inv-loop μ-loop
+element-copy-out-as-usize c = let y = ready (silent c) in omega (arith, y .state-low, y .symbol-low)
+
+as-usize-requires-4 : tie.Need-as-usize-requires-4 Inv-loop μ-loop
+as-usize-requires-4 c κs = search needs
+
+counted-requires : tie.Need-counted-requires Inv-loop μ-loop
+counted-requires c κs = counts (silent (c .before .before))
+
+add-written : tie.Need-add-written Inv-loop μ-loop
+add-written c = let y = ready (silent (passed c)) in omega (arith, y .room, y .indexed)
 
 loop-less-2 : tie.Need-loop-less-2 Inv-loop μ-loop
-loop-less-2 c = omega (arith, body (accepted (c .before .before .before .before) .before) .loop-test .taken)
+loop-less-2 c = omega (arith, body (silent (passed c) .before) .loop-test .taken)
 
 loop-again-2 : tie.Need-loop-again-2 Inv-loop μ-loop
 loop-again-2 c =
-    let e = c .before .before .before .before in
-    let t = accepted e in
-    let b = body (t .before) in
-    going-accepts (b .before .loop .inv) (b .loop-test .taken) _ _ _ (made t) (t .process-event .ensures) (e .if1 .left) _
-    (⊎-elim
-    (λ w. inl (record { more = w .0 .taken; at = _; at-end = w .1 .ensures .0; laid = w .2 }))
-    (λ v. ⊎-elim
-    (λ w.
-    inr (inl (record {
-      no-more = w .0 .left;
-      some-go = w .2 .taken;
-      before = _;
-      held = _;
-      were = w .3 .ensures .0;
-      are = w .4 .ensures .0;
-      moved = w .6 ∙ w .5 .ensures;
-    })))
-    (λ w. inr (inr (record { no-more = w .0 .left; none-go = w .2 .left; kept = w .3 })))
-    v)
-    (c .before .before .if2 .came))
+    let t = passed c in
+    let b = body (silent t .before) in
+    let v = b .before .loop .inv in
+    let none : _≤_ 0 0 = omega arith in
+    let all : b .before .loop .held ≤ b .before .loop .held = omega arith in
+    (rw (c .counted .ensures, c .before .as-usize4 .ensures .0) (going-accepts (v .0) (b .loop-test .taken) _ _ (quietly t) refl _ (inr (inr (record { no-more = all; none-go = none; kept = refl })))), v .1)
 
-derive-requires-2 : tie.Need-derive-requires-2 Inv-loop μ-loop
-derive-requires-2 c κs = going-derives (c .before .loop .inv)
+cast-step : tie.Need-cast-step Inv-loop μ-loop
+cast-step c = let y = ready (stepping c) in omega (arith, y .symbol-low)
+
+step-requires : tie.Need-step-requires Inv-loop μ-loop
+step-requires c κs = ready (stepping (c .before))
+
+mul-places : tie.Need-mul-places Inv-loop μ-loop
+mul-places c = let l = few (stepped (c .before)) in omega (arith, c .if3 .taken)
+
+array-set-from-places : tie.Need-array-set-from-places Inv-loop μ-loop
+array-set-from-places c = omega (arith, few (stepped (c .before)), c .if3 .taken)
+
+moves-requires : tie.Need-moves-requires Inv-loop μ-loop
+moves-requires c κs = search needs
+
+places-left-requires : tie.Need-places-left-requires Inv-loop μ-loop
+places-left-requires c κs =
+    let k = c .before .before in
+    let p = stepped (k .before) in
+    let b = body (stepping (p .before .before) .before) in
+    let g = b .before .loop .inv .0 in
+    (going-held g, k .if3 .left, going-gone g (b .loop-test .taken) (leaves p) _ (took p) refl)
+
+quiet-after-requires : tie.Need-quiet-after-requires Inv-loop μ-loop
+quiet-after-requires c κs =
+    let p = moved c in
+    let e = stepping (p .before .before) in
+    let r = e .before in
+    state-fits _ _ _ _ _ _ _ _ _ (r .before .as-usize3 .ensures .0) refl (r .event-row .ensures) (e .if1 .left) _ refl _ _ (p .step .ensures .0)
+    (going-enters (body r .before .loop .inv .0))
+
+counted-requires-2 : tie.Need-counted-requires-2 Inv-loop μ-loop
+counted-requires-2 c κs = counts (stepping (moved (c .before .before) .before .before))
+
+loop-less-3 : tie.Need-loop-less-3 Inv-loop μ-loop
+loop-less-3 c = omega (arith, body (stepping (moved (c .before .before .before) .before .before) .before) .loop-test .taken)
+
+loop-again-3 : tie.Need-loop-again-3 Inv-loop μ-loop
+loop-again-3 c =
+    let q = c .before .before in
+    let j = q .before in
+    let p = moved j in
+    let e = stepping (p .before .before) in
+    let b = body (e .before) in
+    let v = b .before .loop .inv in (
+      rw (c .counted2 .ensures)
+          (going-accepts (v .0) (b .loop-test .taken) (leaves p) _ (took p) refl _
+          (⊎-elim
+          (λ w. inl (record { more = w .0 .taken; at = _; at-end = refl; laid = w .1 }))
+          (λ u. ⊎-elim
+          (λ w.
+          inr (inl (record {
+            no-more = w .0 .left;
+            some-go = some-released (b .before .loop .held) (leaves p .released) (sym (w .1 .ensures) ∙ w .2 .taken);
+            before = _;
+            held = _;
+            were = refl;
+            are = refl;
+            moved = w .4 ∙ w .3 .ensures;
+          })))
+          (λ w. found-still (going-enters (v .0)) (leaves p) (w .0 .left) _ (w .3) (sym (w .1 .ensures) ∙ w .2 .left))
+          u)
+          (j .if3 .came))),
+      rw (q .quiet-after .ensures) (quiet-goes-on (v .1) (many (ready e)) _ _ _ _ (p .step .ensures .0)),
+    )
+
+cast-derive : tie.Need-cast-derive Inv-loop μ-loop
+cast-derive c = let l = going-state (c .before .loop .inv .0) in omega arith
+
+cast-derive-2 : tie.Need-cast-derive-2 Inv-loop μ-loop
+cast-derive-2 c = let l = going-held (c .before .loop .inv .0) in omega arith
+
+derive-requires : tie.Need-derive-requires Inv-loop μ-loop
+derive-requires c κs = going-derives (c .before .loop .inv .0)
 
 same-length : tie.Need-same-length Inv-loop μ-loop
-same-length c = going-kept (c .before .before .loop .inv)
+same-length c = going-kept (c .before .before .loop .inv .0)
 
 returns : tie.Need-returns Inv-loop μ-loop
 returns c =
-    let s = c .before .before .before .before .before .before .before in
-    let p = s .before .before .before .pre in
-    going-finishes (p .0) _ _ _ _ (rw (c .derive2 .ensures) (going-ends (c .before .before .loop .inv) (c .before .loop-test .left)))
+    let a = c .before .before in
+    let n = a .before .before .before .before in
+    going-finishes (start a .pre .0) (n .before .as-usize .ensures .0) (n .as-usize2 .ensures .0) _ _ _ _
+    (rw (c .derive .ensures) (going-ends (a .loop .inv .0) (c .before .loop-test .left)))
 
 pub process-spec : {M : Type 1} → statement M
 process-spec =
@@ -163,24 +294,42 @@ process-spec =
     (tie.spec
     Inv-loop
     μ-loop
+    as-usize-requires
+    as-usize-requires-2
     loop-holds
     mul-event
     shared-slice-read-event
     add-i
-    derive-requires
-    process-event-requires
+    as-usize-requires-3
+    event-row-requires
     add-refused
     loop-less
     loop-again
-    as-usize-requires
-    mul-places
-    array-set-from-places
-    as-usize-requires-2
-    as-usize-requires-3
-    places-left-requires
-    add-t41
+    cast-is-quiet
+    is-quiet-requires
+    cast-out
+    slice-write-out
+    mul-as-usize
+    cast-as-usize
+    add-as-usize
+    element-copy-out-as-usize
+    as-usize-requires-4
+    counted-requires
+    add-written
     loop-less-2
     loop-again-2
-    derive-requires-2
+    cast-step
+    step-requires
+    mul-places
+    array-set-from-places
+    moves-requires
+    places-left-requires
+    quiet-after-requires
+    counted-requires-2
+    loop-less-3
+    loop-again-3
+    cast-derive
+    cast-derive-2
+    derive-requires
     same-length
     returns)
