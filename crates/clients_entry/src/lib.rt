@@ -12,8 +12,9 @@ use monitor::receive_in;
 use monitor_answers::Received;
 use monitor_entry::enter;
 use monitor_loop::Limits;
+use monitor_loop::counted;
 use monitor_loop::derive;
-use monitor_places::places_left;
+use monitor_places::places_after;
 use monitor_step::event_row;
 use monitor_step::step;
 ghost use mathlib.Core.Path.{_≡_};
@@ -175,16 +176,10 @@ pub fn take<'a>(
         out,
         at,
     );
-    let own = c.received;
-    let mut places = c.places;
-    if held < after.held {
-        places[held] = own;
-    } else if 0 < after.released {
-        let kept = places_left(places, held, own, after.released, after.held);
-        places = kept;
-    }
+    let held_places = c.places;
+    let places = places_after(held_places, held, c.received, after.released, after.held);
     let left = after.buffer;
-    let received = InputPlace(own.0 + 1);
+    let received = counted(c.received);
     Taken {
         configuration: derive(after.state as u8, after.held as u8, left, places, received),
         written: after.written,

@@ -18,8 +18,8 @@ use Rattle.configuration.proofs.Facts.{Consistent}
 use Rattle.monitor_rule.specs.Step.{Rest, release, remaining, Effect, arrival, effect, effectFrom, inLine, advance}
 use Rattle.monitor_rule.proofs.Effects.{effect-length}
 use Rattle.monitor_rule.proofs.Longest.{release-le}
-use Rattle.monitor_places.specs.Lines.{joinedBy, ownIndex}
-use Rattle.monitor_places.proofs.Laws.{places, waiting-end, left-passing, left-waiting}
+use Rattle.monitor_places.specs.Lines.{placesAfter, AfterRequires}
+use Rattle.monitor_places.proofs.Laws.{places, left-passing, left-waiting}
 use Rattle.monitor_step.specs.Stepping.{released}
 use Rattle.monitor_loop.specs.Lending.{derived}
 
@@ -66,47 +66,44 @@ module _ (a : Automaton) (c : Configuration) (k : Consistent a c) (rest : Rest) 
   sum : length (f .emitted) + many ≡ c .held + 1
   sum = omega (arith, effect-length rest a (c .state) (heldEvents c) e, k .held-length)
 
-  -- a newcomer that waits with all others
-  pub place-waits : c .held < many → many ≤ 6 → set (c .places) (c .held) (c .received) ≡ target
-  unfolding inLine
-  place-waits l high =
-      let none : length (f .emitted) ≡ 0 = omega (arith, sum) in
-      by (controllable a e)
-      (λ y.
-      rw (none, y)
-      (ap (λ l. set l (c .held) (c .received)) lie ∙ ap (λ i. set (places 6 (p .places)) i (c .received)) (sym have) ∙
-      waiting-end (p .places) (p .received) (omega (arith, have))))
-      (λ y. absurd (omega (arith, none, rw y at (emitted-many rest a (c .state) (heldEvents c) e))))
-
-  -- nothing waits or goes but an event that passes
-  pub places-stay : many ≤ c .held → gone ≡ 0 → c .places ≡ target
+  -- the places that the code finds
+  pub places-go : (left : List InputPlace) → left ≡ placesAfter (c .places) (c .held) (c .received) gone many → left ≡ target
   unfolding inLine remaining
-  places-stay l z =
-      by (controllable a e)
-      (λ y. absurd (omega (arith, sum, z, rw y at (emitted-many rest a (c .state) (heldEvents c) e))))
-      (λ y.
-      let one : length (f .emitted) ≡ 1 = omega (arith, z, rw y at (emitted-many rest a (c .state) (heldEvents c) e)) in
-      rw (one, y) lie)
-
-  -- a release
-  pub places-go : many ≤ c .held → 0 < gone → (left : List InputPlace)
-      → left ≡ padPlaces 6 (take many (drop (c .held + 1 - many) (joinedBy (ownIndex (c .held) gone many) (c .received) (c .places))))
-      → left ≡ target
-  unfolding inLine remaining
-  places-go l z left el =
+  places-go left el =
       let m : c .held + 1 - many ≡ length (f .emitted) = omega (arith, sum) in
-      let found : left ≡ padPlaces 6 (take many (drop (length (p .places) + 1 - many) (joinedBy (ownIndex (length (p .places)) gone many) (c .received) (places 6 (p .places))))) =
-      el ∙ ap (λ ps. padPlaces 6 (take many (drop (c .held + 1 - many) (joinedBy (ownIndex (c .held) gone many) (c .received) ps)))) lie ∙
-      ap (λ i. padPlaces 6 (take many (drop (i + 1 - many) (joinedBy (ownIndex i gone many) (c .received) (places 6 (p .places)))))) (sym have)
+      let found : left ≡ placesAfter (places 6 (p .places)) (length (p .places)) (c .received) gone many =
+      el ∙ ap (λ ps. placesAfter ps (c .held) (c .received) gone many) lie ∙
+      ap (λ i. placesAfter (places 6 (p .places)) i (c .received) gone many) (sym have)
       in
       let same : length (p .places) + 1 - many ≡ length (f .emitted) = ap (λ i. i + 1 - many) have ∙ m in
+      let few : many ≤ length (p .places) + 1 = omega (arith, sum, have) in
       by (controllable a e)
       (λ y.
-      let n : gone + many ≡ length (p .places) + 1 = omega (arith, sum, have, rw y at (emitted-many rest a (c .state) (heldEvents c) e)) in
-      found ∙ left-waiting (p .places) (p .received) gone many (omega (arith, have)) (omega arith) ∙ rw (same, y))
+      let n : gone + many ≡ length (p .places) → ⊥ = λ z. omega (arith, z, sum, have, rw y at (emitted-many rest a (c .state) (heldEvents c) e)) in
+      found ∙ left-waiting (p .places) (p .received) gone many few n ∙ rw (same, y))
       (λ y.
       let n : gone + many ≡ length (p .places) = omega (arith, sum, have, rw y at (emitted-many rest a (c .state) (heldEvents c) e)) in
-      found ∙ left-passing (p .places) (p .received) gone many (omega (arith, have)) n ∙ rw (same, y))
+      found ∙ left-passing (p .places) (p .received) gone many few n ∙ rw (same, y))
+
+  -- they are found so
+  pub places-ask : many ≤ 6 → AfterRequires (c .places) (c .held) gone many
+  places-ask high =
+      record {
+        numbers = p .places;
+        each-has = have;
+        laid = lie;
+        before-few = k .held-small;
+        held-few = high;
+        released-few = omega (arith, released-few rest a (c .state) (heldEvents c) e, k .held-length, k .held-small);
+        one-more = omega (arith, sum);
+        none-lost = omega (arith, sum, emitted-at-most);
+      }
+    where
+      emitted-at-most : length (f .emitted) ≤ gone + 1
+      emitted-at-most =
+          by (controllable a e)
+          (λ y. omega (arith, rw y at (emitted-many rest a (c .state) (heldEvents c) e)))
+          (λ y. omega (arith, rw y at (emitted-many rest a (c .state) (heldEvents c) e)))
 
   -- the whole configuration then
   pub next-is : (state held : ℕ) (buffer : List ℕ) (ps : List InputPlace) → state ≡ f .state → held ≡ many → buffer ≡ pad 6 (f .buffer) → ps ≡ target

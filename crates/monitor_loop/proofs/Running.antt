@@ -21,6 +21,7 @@ use Rattle.configuration.proofs.Facts.{position-made}
 use Rattle.monitor_rule.specs.Step.{byTable, Effect, effectFrom, advance, eventRefusal, Run, runOf}
 use Rattle.monitor_rule.proofs.Effects.{places-as-worded}
 use Rattle.monitor_rule.proofs.Runs.{run-accepts, run-refuses}
+use Rattle.monitor_places.specs.Lines.{placesAfter, AfterRequires}
 use Rattle.monitor_answers.specs.declared.Ran.{Ran}
 use Rattle.monitor_answers.specs.Answers.{ranOf, ranBufferOf}
 use Rattle.monitor_answers.specs.Turns.{turnRefusal, turnEmitted, turnNext, turnedBuffer}
@@ -28,7 +29,7 @@ use Rattle.monitor_answers.proofs.Turns.{turn-consistent, turn-silent, turn-emi
 use Rattle.monitor_loop.specs.Lending.{Limits, Lends, Processed, ProcessRequires, derived, processed, Takes, Runs}
 use Rattle.monitor_loop.proofs.Taking.{opens, facts, place}
 use Rattle.monitor_loop.proofs.Placing.{derived-is}
-use Rattle.monitor_loop.proofs.Accepting.{Found, accepted-few, accepted-gone, accepted-found}
+use Rattle.monitor_loop.proofs.Accepting.{accepted-asks, accepted-found}
 
 -- a run after what was done before it
 abbrev pub joined : List ℕ → ℕ → Run → Run
@@ -200,13 +201,10 @@ module _ {l : Limits} {next ranks t events out₀ : List ℕ} {c₀ : Configurat
         abbrev event : ℕ
         event = getD events i 0
 
-        pub going-few : r .held ≤ 6
-        going-few = accepted-few going-enters event written out r out′ s z
+        pub going-asks : AfterRequires (c .places) (c .held) (r .released) (r .held)
+        going-asks = accepted-asks going-enters event written out r out′ s z
 
-        pub going-gone : r .released ≤ 7
-        going-gone = accepted-gone going-enters event written out r out′ s z
-
-        pub going-accepts : (ps : List InputPlace) → Found c r ps
+        pub going-accepts : (ps : List InputPlace) → ps ≡ placesAfter (c .places) (c .held) (c .received) (r .released) (r .held)
             → Going l next ranks t events out₀ c₀ out′
             (derived (r .state) (r .held) (r .buffer) ps (inputPlace (inputNumber (c .received) + 1))) (r .written) refused (i + 1)
         going-accepts ps w =

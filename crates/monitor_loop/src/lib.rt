@@ -10,11 +10,11 @@ use configuration_places::InputPlace;
 use configuration_places::OutputPlace;
 use monitor_answers::Ran;
 use monitor_answers::Turned;
-use monitor_places::places_left;
+use monitor_places::places_after;
 use monitor_step::event_row;
 use monitor_step::step;
 ghost use mathlib.Core.Path.{_≡_};
-ghost use mathlib.Core.Bool.{not, _&&_};
+ghost use mathlib.Core.Bool.{_&&_};
 ghost use Prim.Native.Nat.{ℕ, _+_, _*_, _≤_, _<_};
 ghost use lib.Dec.{eqb};
 ghost use lib.ListN.{length, getD};
@@ -99,20 +99,9 @@ fn quiet_after(quiet: u32, before: usize, state: usize, held: usize, released: u
     quiet | bit(state)
 }
 
-// Whether a release moves places: some are held, and some events are released.
-fn moves(held: usize, released: usize) -> bool
-    ensures { λ r. ⌜ r ≡ not (eqb held 0) && not (eqb released 0) ⌝ }
-{
-    if held == 0 {
-        return false;
-    }
-    released != 0
-}
-
-// The events in turn; those that are refused are passed over and counted. The output count is not
-// kept but worked out at the end, and the places are written only where an event is held or some
-// are released. `quiet` has states from which the buffer as it stands releases nothing: an
-// uncontrollable event that leads to one of them is written and moves the state, no more.
+// The events in turn; those that are refused are passed over and counted. `quiet` has states from
+// which the buffer as it stands releases nothing: an uncontrollable event that leads to one of
+// them is written and moves the state, no more. The output count is worked out at the end.
 pub fn process<'a>(
     limits: Limits,
     next: &'a [u8; 512],
@@ -168,17 +157,13 @@ pub fn process<'a>(
                 out,
                 written,
             );
-            if held < after.held {
-                places[held] = received;
-            } else if moves(held, after.released) {
-                let kept = places_left(places, held, received, after.released, after.held);
-                places = kept;
-            }
+            let kept = places_after(places, held, received, after.released, after.held);
             quiet = quiet_after(quiet, held, after.state, after.held, after.released);
             let left = after.buffer;
             state = after.state;
             held = after.held;
             buffer = left;
+            places = kept;
             received = counted(received);
             written = after.written;
         }

@@ -1,17 +1,19 @@
 -- Laws of places in line: what the loops lay down, and that it is what the rule says.
 use Prim.Native.Nat.{ℕ, zero, suc, _+_, _-_, _<_, _≤_}
 use mathlib.Core.Path.{_≡_, refl, sym, _∙_, ap, ap₂}
+use mathlib.Core.Bool.{true, false, not, _&&_}
 use mathlib.Core.List.{List, [], _∷_, _++_, map, map-append, append-assoc, append-nil}
 use native.Mathlib.Omega.{arith}
-use lib.ListN.{length, getD, set, take, drop, replicate, length-append, length-drop, length-take, length-map, List·getD-append}
+use lib.ListN.{length, getD, set, take, drop, replicate, length-append, length-drop, length-take, length-map, List·getD-append, drop-of-length-le}
 use lib.Seq.{length-take-le, take-append-le, drop-append-le, take-at, drop-at, getD-take, getD-drop, getD-append-seam, getD-append-add}
 use lib.Dec.{eqb}
-use borrow.Author.Tests.{eq-eqb, ne-eqb}
+use borrow.Author.Tests.{eq-eqb, ne-eqb, eqb-true}
 use Rattle.base.specs.Pad.{pad}
+use Rattle.base.proofs.Bools.{by, clash}
 use Rattle.base.proofs.Padding.{pad-set}
 use Rattle.configuration_places.specs.declared.InputPlace.{InputPlace}
 use Rattle.configuration_places.specs.Places.{inputPlace, padPlaces}
-use Rattle.monitor_places.specs.Lines.{joinedBy, ownIndex}
+use Rattle.monitor_places.specs.Lines.{joinedBy, ownIndex, placesAfter, AfterRequires}
 
 abbrev none : InputPlace
 none = inputPlace 0
@@ -133,17 +135,62 @@ module _ (ps : List ℕ) (n : ℕ) where
   pub waiting-end : length ps < 6 → set (places 6 ps) (length ps) (inputPlace n) ≡ places 6 (ps ++ n ∷ [])
   waiting-end h = map-set (pad 6 ps) (length ps) n ∙ ap (map inputPlace) (pad-set 6 ps n h)
 
-  -- what is left after a release: the newcomer passed ..
-  module _ (released held : ℕ) (few : held ≤ length ps) where
+  -- what is held after an event: the newcomer passed ..
+  module _ (released held : ℕ) (few : held ≤ length ps + 1) where
     abbrev left : List InputPlace
-    left = padPlaces 6 (take held (drop (length ps + 1 - held) (joinedBy (ownIndex (length ps) released held) (inputPlace n) (places 6 ps))))
+    left = placesAfter (places 6 ps) (length ps) (inputPlace n) released held
 
     pub left-passing : released + held ≡ length ps → left ≡ places 6 (drop (length ps + 1 - held) (n ∷ ps))
     unfolding ownIndex
     left-passing e = rw (eq-eqb (released + held) (length ps) e) (passing-back (length ps + 1 - held) held (omega arith))
 
     -- .. or waited
-    pub left-waiting : released + held ≡ suc (length ps) → left ≡ places 6 (drop (length ps + 1 - held) (ps ++ n ∷ []))
+    pub left-waiting : (released + held ≡ length ps → ⊥) → left ≡ places 6 (drop (length ps + 1 - held) (ps ++ n ∷ []))
     unfolding ownIndex
     left-waiting e =
-        rw (ne-eqb (released + held) (length ps) (λ y. omega arith)) (waiting-back (length ps + 1 - held) held (omega arith))
+        rw (ne-eqb (released + held) (length ps) e) (waiting-back (length ps + 1 - held) held (omega arith))
+
+-- where the places need not be gone over
+module _ {ps : List InputPlace} {before released held : ℕ} (g : AfterRequires ps before released held) (newcomer : InputPlace) where
+  abbrev numbers : List ℕ
+  numbers = g .numbers
+
+  abbrev n : ℕ
+  n = newcomer .0
+
+  by-numbers : placesAfter (places 6 numbers) (length numbers) newcomer released held ≡ placesAfter ps before newcomer released held
+  by-numbers = ap₂ (λ x i. placesAfter x i newcomer released held) (sym (g .laid)) (g .each-has)
+
+  few : held ≤ length numbers + 1
+  few = omega (arith, g .each-has, g .one-more)
+
+  -- the newcomer waits with all others
+  pub after-waits : before < held → set ps before newcomer ≡ placesAfter ps before newcomer released held
+  after-waits l =
+      let all : length numbers + 1 - held ≡ 0 = omega (arith, g .each-has) in
+      let put : set (places 6 numbers) (length numbers) newcomer ≡ places 6 (numbers ++ n ∷ []) = waiting-end numbers n (omega (arith, g .each-has, g .held-few)) in
+      let left = left-waiting numbers n released held few (λ y. omega (arith, y, g .each-has)) in
+      ap₂ (λ x i. set x i newcomer) (g .laid) (sym (g .each-has)) ∙ put ∙ ap (λ i. places 6 (drop i (numbers ++ n ∷ []))) (sym all) ∙ sym left ∙ by-numbers
+
+  -- none were held ..
+  after-none : before ≡ 0 → held ≡ 0 → ps ≡ placesAfter ps before newcomer released held
+  unfolding padPlaces pad
+  after-none z y =
+      let short : length numbers ≤ 0 = omega (arith, g .each-has) in
+      let empty : numbers ≡ [] = drop-of-length-le numbers short in
+      g .laid ∙ ap (places 6) empty ∙ rw y
+
+  -- .. or none are released
+  pub after-same : released ≡ 0 → held ≤ before → ps ≡ placesAfter ps before newcomer released held
+  after-same z l =
+      let same : released + held ≡ length numbers = omega (arith, g .each-has, g .none-lost) in
+      let one : length numbers + 1 - held ≡ 1 = omega (arith, same) in
+      g .laid ∙ ap (λ i. places 6 (drop i (n ∷ numbers))) (sym one) ∙ sym (left-passing numbers n released held few same) ∙ by-numbers
+
+  pub after-stays : held ≤ before → (not (eqb before 0) && not (eqb released 0)) ≡ false → ps ≡ placesAfter ps before newcomer released held
+  after-stays l h =
+      by (eqb before 0)
+      (λ z. let none = eqb-true before 0 z in after-none none (omega arith))
+      (λ z. by (eqb released 0)
+      (λ y. after-same (eqb-true released 0 y) l)
+      (λ y. absurd (clash {b = true} refl (rw (z, y) at h))))

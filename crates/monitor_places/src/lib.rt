@@ -3,10 +3,12 @@
 // index of its own: first where it passes, behind those that are held where it waits.
 use configuration_places::InputPlace;
 ghost use mathlib.Core.Path.{_≡_};
+ghost use mathlib.Core.Bool.{not, _&&_};
 ghost use Prim.Native.Nat.{_+_, _-_, _≤_};
+ghost use lib.Dec.{eqb};
 ghost use lib.ListN.{getD, take, drop};
 ghost use Rattle.configuration_places.specs.Places.{inputPlace, padPlaces};
-ghost use Rattle.monitor_places.specs.Lines.{joinedBy, ownIndex};
+ghost use Rattle.monitor_places.specs.Lines.{joinedBy, ownIndex, placesAfter, AfterRequires};
 
 // The place at i in this line.
 fn in_line(places: [InputPlace; 6], own: usize, newcomer: InputPlace, i: usize) -> InputPlace
@@ -64,7 +66,7 @@ fn held_places(
 // The places of what is held after a release, with how many were held before the event and how
 // many are now. (Where these and the released ones are as many as before, the newcomer passed;
 // else it is one of them.)
-pub fn places_left(
+fn places_left(
     places: [InputPlace; 6],
     before: usize,
     newcomer: InputPlace,
@@ -79,4 +81,37 @@ pub fn places_left(
         return held_places(places, 0, newcomer, before + 1 - held, held);
     }
     held_places(places, before, newcomer, before + 1 - held, held)
+}
+
+// Whether a release moves places: some were held, and some are released.
+fn moves(before: usize, released: usize) -> bool
+    ensures { λ r. ⌜ r ≡ not (eqb before 0) && not (eqb released 0) ⌝ }
+{
+    if before == 0 {
+        return false;
+    }
+    released != 0
+}
+
+// The places of what is held after an accepted event: the newcomer's behind the others where it
+// waits with all of them, those left after a release, else as before.
+pub fn places_after(
+    places: [InputPlace; 6],
+    before: usize,
+    newcomer: InputPlace,
+    released: usize,
+    held: usize,
+) -> [InputPlace; 6]
+    requires { ⌜ AfterRequires places before released held ⌝ }
+    ensures { λ r. ⌜ r ≡ placesAfter places before newcomer released held ⌝ }
+{
+    if before < held {
+        let mut longer = places;
+        longer[before] = newcomer;
+        return longer;
+    }
+    if moves(before, released) {
+        return places_left(places, before, newcomer, released, held);
+    }
+    places
 }

@@ -1,13 +1,12 @@
 use Prim.Native.Nat.{_<_}
-use mathlib.Core.Path.{_≡_, refl, _∙_}
-use mathlib.Core.Logic.{inl, inr, ⊎-elim}
+use mathlib.Core.Path.{_≡_, refl, _∙_, ap}
 use lib.ListN.{length, getD}
 use native.Mathlib.Omega.{arith}
 use borrow.Author.Needs.{needs}
+use Rattle.monitor_places.specs.Lines.{placesAfter}
 use Rattle.monitor_loop.specs.Lending.{ProcessRequires, Takes}
-use Rattle.monitor_loop.proofs.Accepting.{accepted-counts, accepted-few, accepted-gone, accepted-derives, accepted-found}
-use Rattle.monitor_loop.proofs.Taking.{place, symbols-small, event-low, take-ready, state-fits, takes-accepted}
-use Rattle.monitor_loop.proofs.Running.{counts-fit}
+use Rattle.monitor_loop.proofs.Accepting.{accepted-counts, accepted-few, accepted-asks, accepted-derives, accepted-found}
+use Rattle.monitor_loop.proofs.Taking.{symbols-small, event-low, take-ready, state-fits, takes-accepted}
 use Rattle.clients_entry.proofs.Entering.{takes-none, take-enters, take-room, takes-refused, takes-event}
 use Rattle.clients_entry.proofs.take.Statement.{statement}
 use Rattle.clients_entry.proofs.take.Tie as tie
@@ -32,15 +31,15 @@ passed c = c .before .before .before
 abbrev asked : tie.After-as-usize3 → tie.After-event-row
 asked c = c .before .before .before
 
-abbrev stepped : tie.After-struct-known → tie.After-step
-stepped c = c .before .before .before .before .before
+abbrev stepped : tie.After-places-after → tie.After-step
+stepped c = c .before .before .before .before
 
 held : (p : tie.After-step) → let r = asked (p .before .before) in r .before .before .as-usize .result ≡ start (passed r) .args .c .held
 held p = asked (p .before .before) .before .before .as-usize .ensures .0
 
--- the places are found
-abbrev found : tie.After-struct-known3 → tie.Joined3
-found c = c .before .before
+-- its configuration is made
+abbrev found : tie.After-struct-known → tie.After-places-after
+found c = c .before .before .before
 
 entered : (p : tie.After-step) → let x = start (passed (asked (p .before .before))) .args in
     ProcessRequires (x .limits) (x .next .now) (x .ranks .now) (x .table .now) (x .c)
@@ -112,33 +111,17 @@ step-requires c κs =
     _ (n .as-usize3 .ensures .0) _ (take-enters _ _ _ _ _ _ _ _ (stands g) (start g .pre)) (length (start g .args .out .now))
     (take-room _ _ _ _ _ _ _ _ (stands g) (start g .pre)) (indexed (g .before .before))
 
-mul-places : tie.Need-mul-places
-mul-places c = search needs
+places-after-requires : tie.Need-places-after-requires
+places-after-requires c κs =
+    let p = c .before .before .before in
+    rw (held p) (accepted-asks (entered p) _ _ _ _ _ (took p) refl)
 
-array-set-from-places : tie.Need-array-set-from-places
-array-set-from-places c =
-    let p = stepped (c .before) in
-    omega (arith, accepted-few (entered p) _ _ _ _ _ (took p) refl, c .if3 .taken)
-
-places-left-requires : tie.Need-places-left-requires
-places-left-requires c κs =
-    let k = c .before .before in
-    let p = stepped (k .before) in (
-      omega (arith, held p, place (entered p .lends) _ (entered p .stands) .held-small),
-      k .if3 .left,
-      accepted-gone (entered p) _ _ _ _ _ (took p) refl,
-    )
-
-add-t32 : tie.Need-add-t32
-add-t32 c =
-    let p = stepped (found c .before) in
-    let low : start (passed (asked (p .before .before))) .args .c .received .0 < 4294967296 = omega arith in
-    let next = counts-fit _ low (accepted-counts (entered p) _ _ _ _ _ (took p) refl) in
-    omega arith
+counted-requires : tie.Need-counted-requires
+counted-requires c κs = let p = stepped (c .before) in accepted-counts (entered p) _ _ _ _ _ (took p) refl
 
 cast-derive : tie.Need-cast-derive
 cast-derive c =
-    let p = stepped (found (c .before) .before) in
+    let p = stepped (found c) in
     let n = p .before .before in
     let r = asked n in
     let s = r .before in
@@ -148,42 +131,27 @@ cast-derive c =
 
 cast-derive-2 : tie.Need-cast-derive-2
 cast-derive-2 c =
-    let p = stepped (found (c .before .before) .before) in
+    let p = stepped (found (c .before)) in
     omega (arith, accepted-few (entered p) _ _ _ _ _ (took p) refl)
 
 derive-requires : tie.Need-derive-requires
 derive-requires c κs =
-    let p = stepped (found (c .before .before) .before) in
-    accepted-derives (entered p) _ _ _ _ _ (took p) refl
+    let p = stepped (found (c .before)) in
+    rw (c .before .before .counted .ensures) (accepted-derives (entered p) _ _ _ _ _ (took p) refl)
 
 same-length : tie.Need-same-length
 same-length c = search needs
 
 returns-3 : tie.Need-returns-3
 returns-3 c =
-    let j = found (c .before .before .before) in
-    let p = stepped (j .before) in
+    let j = found (c .before .before) in
+    let p = stepped j in
     let g = passed (asked (p .before .before)) in
     let x = start g .args in
+    let s = p .step .result in
+    let places = j .places-after .ensures ∙ ap (λ i. placesAfter (x .c .places) i (x .c .received) (s .released) (s .held)) (held p) in
     takes-event _ (x .marks .now) (x .client) _ _ _ _ _ _ _ (stands g) _ _ _ (took p) refl
-    (rw (c .derive .ensures)
-    (accepted-found (entered p) _ _ _ _ _ (took p) refl _
-    (⊎-elim
-    (λ w. inl (record { more = omega (arith, held p, w .0 .taken); at = _; at-end = held p; laid = w .1 }))
-    (λ v. ⊎-elim
-    (λ w.
-    inr (inl (record {
-      no-more = omega (arith, held p, w .0 .left);
-      some-go = w .2 .taken;
-      before = _;
-      held = _;
-      were = held p;
-      are = refl;
-      moved = w .4 ∙ w .3 .ensures;
-    })))
-    (λ w. inr (inr (record { no-more = omega (arith, held p, w .0 .left); none-go = w .2 .left; kept = w .3 })))
-    v)
-    (j .if3 .came))))
+    (rw (c .derive .ensures, c .before .before .before .counted .ensures) (accepted-found (entered p) _ _ _ _ _ (took p) refl _ places))
 
 pub take-spec : {M : Type 1} → statement M
 take-spec =
@@ -200,10 +168,8 @@ take-spec =
     as-usize-requires-3
     cast-step
     step-requires
-    mul-places
-    array-set-from-places
-    places-left-requires
-    add-t32
+    places-after-requires
+    counted-requires
     cast-derive
     cast-derive-2
     derive-requires

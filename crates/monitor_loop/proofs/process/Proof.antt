@@ -1,18 +1,17 @@
 use Prim.Native.Nat.{_+_, _-_, _*_, _<_, _≤_}
 use mathlib.Core.Path.{_≡_, refl, sym, _∙_, ap}
-use mathlib.Core.Logic.{inl, inr, ⊎-elim}
 use lib.ListN.{length, getD, set}
 use lib.Seq.{sets}
 use native.Mathlib.Omega.{arith}
 use borrow.Author.Needs.{needs}
+use Rattle.monitor_places.proofs.Laws.{after-same}
 use Rattle.monitor_step.specs.Stepping.{StepRequires}
 use Rattle.monitor_step.proofs.Steps.{many}
 use Rattle.monitor_loop.specs.Lending.{Processed, Takes, derived}
 use Rattle.monitor_loop.specs.Quiet.{Quiet}
 use Rattle.monitor_loop.proofs.Taking.{symbols-small, takes-refused, counts-on, take-ready, state-fits, takes-accepted}
 use Rattle.monitor_loop.proofs.Quiet.{quiet-none, quiet-emits, quiet-steps, quiet-goes-on}
-use Rattle.monitor_loop.proofs.Accepting.{some-released, found-still}
-use Rattle.monitor_loop.proofs.Running.{Going, going-begins, going-enters, going-kept, going-room, going-state, going-held, going-derives, going-refuses, going-few, going-gone, going-accepts, going-ends, going-finishes}
+use Rattle.monitor_loop.proofs.Running.{Going, going-begins, going-enters, going-kept, going-room, going-state, going-held, going-derives, going-refuses, going-asks, going-accepts, going-ends, going-finishes}
 use Rattle.monitor_loop.proofs.process.Statement.{statement}
 use Rattle.monitor_loop.proofs.process.Tie as tie
 
@@ -83,9 +82,6 @@ passed c = c .before .before .before
 abbrev stepping : tie.After-own4 Inv-loop μ-loop → tie.Else1 Inv-loop μ-loop
 stepping c = c .before .before .before .before
 
-abbrev stepped : tie.After-struct-known Inv-loop μ-loop → tie.After-step Inv-loop μ-loop
-stepped c = c .before .before .before
-
 -- what the step left, as one event leaves it
 abbrev leaves : tie.After-step Inv-loop μ-loop → Processed
 leaves p =
@@ -102,13 +98,8 @@ took p =
     let r = c .before in
     takes-accepted _ _ _ _ _ _ _ _ _ (r .before .as-usize3 .ensures .0) refl (r .event-row .ensures) (c .if1 .left) _ refl _ _ (p .step .ensures .0) _ _ (p .step .ensures .1)
 
-few : (p : tie.After-step Inv-loop μ-loop) → p .step .result .held ≤ 6
-few p =
-    let b = body (stepping (p .before .before) .before) in
-    going-few (b .before .loop .inv .0) (b .loop-test .taken) (leaves p) _ (took p) refl
-
-abbrev moved : tie.Joined3 Inv-loop μ-loop → tie.After-step Inv-loop μ-loop
-moved c = stepped (c .before)
+abbrev moved : tie.After-places-after Inv-loop μ-loop → tie.After-step Inv-loop μ-loop
+moved c = c .before .before .before
 
 as-usize-requires : tie.Need-as-usize-requires Inv-loop μ-loop
 as-usize-requires c κs = search needs
@@ -199,9 +190,10 @@ loop-again-2 c =
     let t = passed c in
     let b = body (silent t .before) in
     let v = b .before .loop .inv in
-    let none : _≤_ 0 0 = omega arith in
+    let h = b .loop-test .taken in
     let all : b .before .loop .held ≤ b .before .loop .held = omega arith in
-    (rw (c .counted .ensures, c .before .as-usize4 .ensures .0) (going-accepts (v .0) (b .loop-test .taken) _ _ (quietly t) refl _ (inr (inr (record { no-more = all; none-go = none; kept = refl })))), v .1)
+    let stay = after-same (going-asks (v .0) h _ _ (quietly t) refl) (b .before .loop .received) refl all in
+    (rw (c .counted .ensures, c .before .as-usize4 .ensures .0) (going-accepts (v .0) h _ _ (quietly t) refl _ stay), v .1)
 
 cast-step : tie.Need-cast-step Inv-loop μ-loop
 cast-step c = let y = ready (stepping c) in omega (arith, y .symbol-low)
@@ -209,22 +201,11 @@ cast-step c = let y = ready (stepping c) in omega (arith, y .symbol-low)
 step-requires : tie.Need-step-requires Inv-loop μ-loop
 step-requires c κs = ready (stepping (c .before))
 
-mul-places : tie.Need-mul-places Inv-loop μ-loop
-mul-places c = let l = few (stepped (c .before)) in omega (arith, c .if3 .taken)
-
-array-set-from-places : tie.Need-array-set-from-places Inv-loop μ-loop
-array-set-from-places c = omega (arith, few (stepped (c .before)), c .if3 .taken)
-
-moves-requires : tie.Need-moves-requires Inv-loop μ-loop
-moves-requires c κs = search needs
-
-places-left-requires : tie.Need-places-left-requires Inv-loop μ-loop
-places-left-requires c κs =
-    let k = c .before .before in
-    let p = stepped (k .before) in
+places-after-requires : tie.Need-places-after-requires Inv-loop μ-loop
+places-after-requires c κs =
+    let p = c .before .before in
     let b = body (stepping (p .before .before) .before) in
-    let g = b .before .loop .inv .0 in
-    (going-held g, k .if3 .left, going-gone g (b .loop-test .taken) (leaves p) _ (took p) refl)
+    going-asks (b .before .loop .inv .0) (b .loop-test .taken) (leaves p) _ (took p) refl
 
 quiet-after-requires : tie.Need-quiet-after-requires Inv-loop μ-loop
 quiet-after-requires c κs =
@@ -248,24 +229,7 @@ loop-again-3 c =
     let e = stepping (p .before .before) in
     let b = body (e .before) in
     let v = b .before .loop .inv in (
-      rw (c .counted2 .ensures)
-          (going-accepts (v .0) (b .loop-test .taken) (leaves p) _ (took p) refl _
-          (⊎-elim
-          (λ w. inl (record { more = w .0 .taken; at = _; at-end = refl; laid = w .1 }))
-          (λ u. ⊎-elim
-          (λ w.
-          inr (inl (record {
-            no-more = w .0 .left;
-            some-go = some-released (b .before .loop .held) (leaves p .released) (sym (w .1 .ensures) ∙ w .2 .taken);
-            before = _;
-            held = _;
-            were = refl;
-            are = refl;
-            moved = w .4 ∙ w .3 .ensures;
-          })))
-          (λ w. found-still (going-enters (v .0)) (leaves p) (w .0 .left) _ (w .3) (sym (w .1 .ensures) ∙ w .2 .left))
-          u)
-          (j .if3 .came))),
+      rw (c .counted2 .ensures) (going-accepts (v .0) (b .loop-test .taken) (leaves p) _ (took p) refl _ (j .places-after .ensures)),
       rw (q .quiet-after .ensures) (quiet-goes-on (v .1) (many (ready e)) _ _ _ _ (p .step .ensures .0)),
     )
 
@@ -320,10 +284,7 @@ process-spec =
     loop-again-2
     cast-step
     step-requires
-    mul-places
-    array-set-from-places
-    moves-requires
-    places-left-requires
+    places-after-requires
     quiet-after-requires
     counted-requires-2
     loop-less-3

@@ -1,6 +1,6 @@
 use borrow.Author.Tests.{ne-eqb}
-use Rattle.monitor_loop.proofs.moves.Statement.{statement}
-use Rattle.monitor_loop.proofs.moves.Tie as tie
+use Rattle.monitor_places.proofs.moves.Statement.{statement}
+use Rattle.monitor_places.proofs.moves.Tie as tie
 
 returns : tie.Need-returns
 returns c = rw (c .if1 .taken)
