@@ -76,7 +76,7 @@ pub fn refused(row: u8, c: Configuration) -> Received
 
 // Where a newcomer's place stands in line: first where it passes, behind those that are held where
 // it is controllable (a ranked symbol).
-fn own_index(rank: u8, held: usize) -> usize
+fn index_in_line(rank: u8, held: usize) -> usize
     ensures { λ r. ⌜ r ≡ cond (eqb rank 0) 0 held ⌝ }
 {
     if rank == 0 {
@@ -140,7 +140,7 @@ pub fn receive_in<'a>(
         return refused(turned.row, c);
     }
     let places = c.places;
-    let own = own_index(ranking.ranks[event as usize], as_usize(c.held));
+    let own = index_in_line(ranking.ranks[event as usize], as_usize(c.held));
     let from = emitted_places(places, own, c.received, turned.written);
     let after = turned.configuration;
     let buffer = after.buffer;

@@ -71,9 +71,9 @@ derived state held buffer places received =
       emitted = outputPlace (inputNumber received - held);
     }
 
--- what an event leaves of a consistent configuration beside places and counts: the row that refuses
--- it (0: none), the state, the buffer and how many it holds, how many held events were released,
--- and the place after what was written
+-- what an event leaves of a consistent configuration beside places and counts: the row that
+-- refuses it (0: none), the state, the buffer and how many it holds, how many held events were
+-- released, and the place after what was written
 pub record Processed : Type 0 where
   pub row : ℕ
   pub state : ℕ

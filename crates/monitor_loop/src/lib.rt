@@ -60,10 +60,11 @@ pub fn counted(received: InputPlace) -> InputPlace
     InputPlace(received.0 + 1)
 }
 
-// Every state.
+// A state is quiet while the buffer, as it stands, releases nothing from it. States known to be
+// quiet are kept as a set; this is the set of all.
 const ALL_STATES: u32 = 4294967295;
 
-// Whether an event is uncontrollable and leads to a state of `quiet`.
+// Whether an event is uncontrollable and leads to a state of a set.
 fn is_quiet<'a>(
     next: &'a [u8; 512],
     ranks: &'a [u8; 16],
@@ -72,7 +73,8 @@ fn is_quiet<'a>(
     event: usize,
 ) -> bool
     requires { ⌜ (state < 32) × (event < 16) × ((i : ℕ) → getD (now next) i 0 < 32) ⌝ }
-    ensures { λ r. ⌜ r ≡ eqb (getD (now (ranks .entry)) event 0) 0 && has quiet (getD (now (next .entry)) (state * 16 + event) 0) ⌝ }
+    ensures { λ r. let there = getD (now (next .entry)) (state * 16 + event) 0 in
+        ⌜ r ≡ eqb (getD (now (ranks .entry)) event 0) 0 && has quiet there ⌝ }
 {
     if ranks[event] != 0 {
         return false;
@@ -80,9 +82,9 @@ fn is_quiet<'a>(
     has(quiet, as_usize(next[state * 16 + event]))
 }
 
-// The quiet states after a step that came from this number held to this state, number held and
-// number released: all where nothing is held; the state too where the same events are held as
-// before; else none is known.
+// The states known to be quiet after a step, by how many were held before it, the state that it
+// led to, how many are held then and how many were released: all where nothing is held; that state
+// beside those known before where the buffer is as before; else none.
 fn quiet_after(quiet: u32, before: usize, state: usize, held: usize, released: usize) -> u32
     requires { ⌜ state < 32 ⌝ }
     ensures { λ r. ⌜ r ≡ quietAfter quiet before state held released ⌝ }
@@ -99,9 +101,9 @@ fn quiet_after(quiet: u32, before: usize, state: usize, held: usize, released: u
     quiet | bit(state)
 }
 
-// The events in turn; those that are refused are passed over and counted. `quiet` has states from
-// which the buffer as it stands releases nothing: an uncontrollable event that leads to one of
-// them is written and moves the state, no more. The output count is worked out at the end.
+// The events in turn; those that are refused are passed over and counted. An uncontrollable event
+// that leads to a state known to be quiet is written and moves the state, no more. The output
+// count is worked out at the end.
 pub fn process<'a>(
     limits: Limits,
     next: &'a [u8; 512],

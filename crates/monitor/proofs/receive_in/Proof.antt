@@ -53,7 +53,7 @@ abbrev turning : tie.Else2 → tie.After-turn
 turning c = c .before .before .before
 
 -- its symbol's index in line
-abbrev indexed : tie.After-own-index → tie.Else2
+abbrev indexed : tie.After-index-in-line → tie.Else2
 indexed c = c .before .before .before .before
 
 low : (c : tie.Else2) → let x = start (entry (passed (turning c .before))) .args in x .event < x .symbols
@@ -62,9 +62,9 @@ low c =
     let o = opened (passed (t .before)) in
     index-low _ _ _ _ (o .0) _ (o .1) _ (took t .0) (c .if2 .left)
 
-own : (c : tie.After-own-index) → let k = indexed c in let x = start (entry (passed (turning k .before))) .args in
-    c .own-index .result ≡ cond (eqb (getD (entry (passed (turning k .before)) .enter .result .ranking .ranks) (x .event) 0) 0) 0 (x .c .held)
-own c = rw (c .before .as-usize .ensures .0) at (c .own-index .ensures)
+own : (c : tie.After-index-in-line) → let k = indexed c in let x = start (entry (passed (turning k .before))) .args in
+    c .index-in-line .result ≡ cond (eqb (getD (entry (passed (turning k .before)) .enter .result .ranking .ranks) (x .event) 0) 0) 0 (x .c .held)
+own c = rw (c .before .as-usize .ensures .0) at (c .index-in-line .ensures)
 
 abbrev told : tie.After-struct-known3 → tie.After-emitted-places
 told c = c .before .before .before
@@ -115,16 +115,16 @@ cast-t29 c =
     let l = count-small _ _ _ _ (o .0) _ (o .1) _ (took t .0) (k .if2 .left) in
     omega arith
 
-element-copy-out-own-index : tie.Need-element-copy-out-own-index
-element-copy-out-own-index c =
+element-copy-out-index-in-line : tie.Need-element-copy-out-index-in-line
+element-copy-out-index-in-line c =
     let o = opened (passed (turning (c .before) .before)) in
     omega (arith, low (c .before), valid-facts _ (o .0 .record-valid) .symbols-high)
 
 as-usize-requires : tie.Need-as-usize-requires
 as-usize-requires c κs = search needs
 
-own-index-requires : tie.Need-own-index-requires
-own-index-requires c κs = search needs
+index-in-line-requires : tie.Need-index-in-line-requires
+index-in-line-requires c κs = search needs
 
 emitted-places-requires : tie.Need-emitted-places-requires
 emitted-places-requires c κs =
@@ -168,9 +168,9 @@ receive-in-spec =
     turn-requires
     refused-requires-2
     returns-2
-    element-copy-out-own-index
+    element-copy-out-index-in-line
     as-usize-requires
-    own-index-requires
+    index-in-line-requires
     emitted-places-requires
     cast-t29
     as-usize-requires-2
