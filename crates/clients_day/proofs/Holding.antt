@@ -14,7 +14,8 @@ use Rattle.configuration.specs.Configuration.{consistentIn}
 use Rattle.monitor_loop.specs.declared.Limits.{Limits}
 use Rattle.monitor_loop.specs.Lending.{Lends}
 use Rattle.clients_answers.specs.Clients.{none, heldIn, heldInAll}
-use Rattle.clients_entry.specs.Entries.{heldInBy, markBy, markOf}
+use Rattle.clients_entry.specs.Entries.{heldInBy, markBy}
+use Rattle.clients_entry.proofs.Entering.{mark-own}
 use Rattle.clients_day.specs.Days.{heldInAllBy, marksBy, Marked}
 
 module _ (l : Limits) (classes : List ℕ) where
@@ -71,9 +72,5 @@ module _ (l : Limits) (classes : List ℕ) where
     held-all-own [] = refl
     held-all-own (c ∷ cs) = rw (held-own c, held-all-own cs)
 
-    mark-own : (c : Configuration) → markBy l classes c ≡ markOf a c
-    unfolding markBy
-    mark-own c = rw (o .limits-are, s)
-
     pub marks-own : (marks : List ℕ) (cs : List Configuration) → length cs ≤ length marks → Marked a (sets marks 0 (marksBy l classes cs)) cs
-    marks-own marks cs fits k h = mark-at marks cs fits k h ∙ mark-own (getD cs k none)
+    marks-own marks cs fits k h = mark-at marks cs fits k h ∙ mark-own l classes a o s (getD cs k none)

@@ -14,7 +14,6 @@ use Rattle.automaton.specs.declared.Automaton.{Automaton}
 use Rattle.configuration.specs.declared.Configuration.{Configuration}
 use Rattle.configuration.specs.Configuration.{consistent}
 use Rattle.monitor_answers.specs.Turns.{turnRefusal, turnEmitted, turnNext, turnedBuffer}
-use Rattle.monitor_answers.proofs.Turns.{turn-inconsistent, turn-unmoved, turn-keeps as turn-stands}
 use Rattle.monitor_loop.specs.declared.Limits.{Limits}
 use Rattle.monitor_loop.specs.Lending.{Lends}
 use Rattle.clients_answers.specs.Clients.{none, heldIn, heldInAll}
@@ -22,18 +21,12 @@ use Rattle.clients_answers.specs.Loop.{Day, dayFrom}
 use Rattle.clients_answers.proofs.Loop.{step-in, step-out, step-end, held-one, turn-keeps}
 use Rattle.clients_entry.specs.declared.Taken.{Taken}
 use Rattle.clients_entry.specs.Entries.{markOf, takenOf, TakeRequires, Taking, eventOf}
+use Rattle.clients_entry.proofs.Entering.{mark-stays}
 use Rattle.clients_day.specs.Days.{Marked, DayRequires, Days}
 use Rattle.clients_entry.specs.declared.Event.{Event}
 
--- marks stay right all day: an event, accepted or refused, leaves row 13's answer
+-- marks stay right all day
 module _ (a : Automaton) where
-  mark-stays : {l : Limits} {next ranks t : List ℕ} → Lends a l next ranks t → (c : Configuration) (e : ℕ) → markOf a (turnNext a t c e) ≡ markOf a c
-  mark-stays {t = t} o c e =
-      let thirteen : _≡_ {A = ℕ} 13 0 → ⊥ = λ z. omega arith in
-      by (consistent a c)
-      (λ k. rw (turn-stands a t c e (record { record-valid = o .record-valid; table-long = o .table-long }) k, k))
-      (λ k. ap (markOf a) (turn-unmoved a t c e 13 (turn-inconsistent a t c e k) thirteen))
-
   mark-set : (marks : List ℕ) (cs : List Configuration) (i : ℕ) (c : Configuration) → i < length cs → Marked a marks cs → markOf a c ≡ markOf a (getD cs i none)
       → Marked a marks (set cs i c)
   mark-set marks cs i c b f same k h =

@@ -21,8 +21,8 @@ ghost use lib.Seq.{sets};
 ghost use Rattle.clients_answers.specs.Clients.{maxClients, ranFor, ranClients, ranForBuffer};
 ghost use Rattle.clients_day.specs.Days.{heldInAllBy, marksBy, DayRequires, Days};
 
-// How many events all of them hold for row 16, and the mark of each, by which an event reads row
-// 13's answer.
+// How many events all of them hold for row 16, and the mark of each, which an event reads instead
+// of asking row 13.
 fn held_in_all<'a>(
     limits: Limits,
     classes: &'a [u8; 16],
@@ -30,8 +30,8 @@ fn held_in_all<'a>(
     marks: &mut [u8; MAX_CLIENTS],
 ) -> usize
     requires { ⌜ length (now configurations) ≤ maxClients ⌝ }
-    ensures { λ r. let classed = now (classes .entry) in let cs = now (configurations .entry) in
-        ⌜ (r ≡ heldInAllBy limits classed cs) × (now (marks .exit) ≡ sets (now (marks .entry)) 0 (marksBy limits classed cs)) ⌝ }
+    ensures { λ r. let lent = now (classes .entry) in let cs = now (configurations .entry) in
+        ⌜ (r ≡ heldInAllBy limits lent cs) × (now (marks .exit) ≡ sets (now (marks .entry)) 0 (marksBy limits lent cs)) ⌝ }
 {
     let mut sum: usize = 0;
     let mut i: usize = 0;

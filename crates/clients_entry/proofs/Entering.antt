@@ -1,4 +1,4 @@
--- Rows 11, 12 and 20 as the code finds them, and the ways out of the functions above them.
+-- Rows 11, 12 and 20 as the code finds them, marks, and the ways out of the functions above them.
 use Prim.Native.Nat.{ℕ, _+_, _-_, _<_, _≤_}
 use mathlib.Core.Path.{_≡_, refl, sym, _∙_, ap}
 use mathlib.Core.Bool.{true, false, _&&_}
@@ -19,16 +19,16 @@ use Rattle.configuration.specs.Configuration.{consistent}
 use Rattle.monitor_answers.specs.Answers.{tableRows, tableRefusal, refusedEvent, received}
 use Rattle.monitor_answers.specs.declared.Turned.{Turned}
 use Rattle.monitor_answers.specs.Turns.{turnRefusal, turnEmitted, turnNext, turned, turnedBuffer}
-use Rattle.monitor_answers.proofs.Turns.{Opened, receive-unopened, turn-inconsistent, turn-refused, turn-silent}
+use Rattle.monitor_answers.proofs.Turns.{Opened, receive-unopened, turn-inconsistent, turn-refused, turn-silent, turn-unmoved, turn-keeps}
 use Rattle.monitor_step.specs.Stepping.{eventRowBy}
 use Rattle.monitor_entry.specs.declared.Entry.{Entry}
 use Rattle.monitor_entry.specs.Entries.{entryOf}
 use Rattle.monitor_loop.specs.declared.Limits.{Limits}
-use Rattle.monitor_loop.specs.Lending.{Lends, ProcessRequires, processed, Takes}
-use Rattle.monitor_loop.proofs.Taking.{turn-row}
+use Rattle.monitor_loop.specs.Lending.{Lends, ProcessRequires}
+use Rattle.monitor_loop.proofs.Taking.{processed, Takes, opens, turn-row}
 use Rattle.clients_answers.specs.Clients.{rightCount, listRows, listRefusal, refusedFor}
 use Rattle.clients_answers.proofs.Refusals.{list-passes, list-clear, list-stands}
-use Rattle.clients_entry.specs.Entries.{ListEntry, Taken, countRow, listEntryOf, markOf, takenOf, TakeRequires, Taking, presentOf, absentOf}
+use Rattle.clients_entry.specs.Entries.{ListEntry, Taken, countRow, listEntryOf, markBy, markOf, takenOf, TakeRequires, Taking, presentOf, absentOf}
 
 -- row 20
 module _ (count : ℕ) where
@@ -126,6 +126,21 @@ module _ (a : Automaton) (t : List ℕ) (count : ℕ) where
       (by (eqb n 0)
       (λ z. rw z)
       (λ z. rw (receive-unopened a t c e (eqb-false n 0 z), z)))
+
+-- an automaton's own mark
+pub mark-own : (l : Limits) (classes : List ℕ) (a : Automaton) {next ranks t : List ℕ} → Lends a l next ranks t → classes ≡ a .classes
+    → (c : Configuration) → markBy l classes c ≡ markOf a c
+unfolding markBy
+mark-own l classes a o s c = rw (o .limits-are, s)
+
+-- an event, accepted or refused, leaves row 13's answer
+pub mark-stays : (a : Automaton) {l : Limits} {next ranks t : List ℕ} → Lends a l next ranks t → (c : Configuration) (e : ℕ)
+    → markOf a (turnNext a t c e) ≡ markOf a c
+mark-stays a {t = t} o c e =
+    let thirteen : _≡_ {A = ℕ} 13 0 → ⊥ = λ z. omega arith in
+    by (consistent a c)
+    (λ k. rw (turn-keeps a t c e (opens o) k, k))
+    (λ k. ap (markOf a) (turn-unmoved a t c e 13 (turn-inconsistent a t c e k) thirteen))
 
 -- what a mark says
 module _ (a : Automaton) (c : Configuration) (mark : ℕ) (s : mark ≡ markOf a c) where

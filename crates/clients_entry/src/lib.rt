@@ -105,8 +105,8 @@ pub fn held_in(
     client: usize,
 ) -> usize
     requires { ⌜ client < maxClients ⌝ }
-    ensures { λ r. let classed = now (classes .entry) in
-        ⌜ (r ≡ heldInBy limits classed c) × (now (marks .exit) ≡ set (now (marks .entry)) client (markBy limits classed c)) ⌝ }
+    ensures { λ r. let lent = now (classes .entry) in
+        ⌜ (r ≡ heldInBy limits lent c) × (now (marks .exit) ≡ set (now (marks .entry)) client (markBy limits lent c)) ⌝ }
 {
     if !consistent(limits.states, limits.symbols, limits.capacity, classes, c) {
         marks[client] = 0;
@@ -129,8 +129,7 @@ fn passed_over(c: Configuration, at: usize) -> Taken
 
 // One event of a day, for any client's configuration: row 13 by its mark, rows 14, 15 and 23, and
 // the step of an accepted event, which writes from a place on. (The step is inlined here, as it is
-// into the loop over one configuration's events: with a call of `monitor_loop::turn` a day took
-// 1.20 to 1.38 of C.)
+// into the loop over one configuration's events.)
 pub fn take<'a>(
     limits: Limits,
     marks: &'a [u8; MAX_CLIENTS],

@@ -14,15 +14,14 @@ use Rattle.configuration.specs.declared.Configuration.{Configuration}
 use Rattle.configuration.specs.Configuration.{heldEvents, positionOf, consistent}
 use Rattle.monitor_rule.specs.Step.{byTable, advance}
 use Rattle.monitor_rule.proofs.Effects.{effect-length}
-use Rattle.monitor_rule.proofs.Worded.{event-rows-as-worded}
 use Rattle.monitor_places.specs.Lines.{placesAfter, AfterRequires}
 use Rattle.monitor_places.proofs.Laws.{places}
 use Rattle.monitor_step.specs.Stepping.{released}
 use Rattle.monitor_answers.specs.Turns.{turnRefusal, turnEmitted, turnNext}
 use Rattle.monitor_answers.proofs.Turns.{turn-consistent, turn-moves, turn-keeps}
-use Rattle.monitor_loop.specs.Lending.{Limits, Lends, Processed, ProcessRequires, derived, processed, Takes}
-use Rattle.monitor_loop.proofs.Taking.{opens, place}
-use Rattle.monitor_loop.proofs.Placing.{places-go, places-ask, next-is}
+use Rattle.monitor_loop.specs.Lending.{Limits, Lends, ProcessRequires, derived}
+use Rattle.monitor_loop.proofs.Taking.{Processed, processed, Takes, opens, place}
+use Rattle.monitor_loop.proofs.Placing.{places-theirs, places-ask, next-is}
 
 module _ {l : Limits} {next ranks t : List ℕ} {c : Configuration} (g : ProcessRequires l next ranks t c) (e at : ℕ) (out : List ℕ) (r : Processed)
     (out′ : List ℕ) (s : Takes l next ranks t c e at out r out′) (z : r .row ≡ 0) where
@@ -48,12 +47,6 @@ module _ {l : Limits} {next ranks t : List ℕ} {c : Configuration} (g : Process
 
   abbrev own : Automaton
   own = g .automaton
-
-  -- the input count goes on
-  pub accepted-counts : inputNumber (c .received) ≡ 4294967295 → ⊥
-  accepted-counts =
-      event-rows-as-worded (byTable own t) own (positionOf c) e .accepted .0
-      (sym (turn-consistent own t c e (g .stands)) ∙ passes own (g .lends) (g .stands)) .1
 
   pub accepted-few : r .held ≤ 6
   unfolding left
@@ -95,7 +88,7 @@ module _ {l : Limits} {next ranks t : List ℕ} {c : Configuration} (g : Process
     places-found : ps ≡ places 6 (advance (byTable a t) a (positionOf c) e .places)
     unfolding left
     places-found =
-        places-go a c (place o c k) (byTable a t) e ps
+        places-theirs a c (place o c k) (byTable a t) e ps
         (w ∙ ap (λ (x : Processed). placesAfter (c .places) (c .held) (c .received) (x .released) (x .held)) y)
 
     -- the configuration then, and what was written

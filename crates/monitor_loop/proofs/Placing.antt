@@ -1,43 +1,25 @@
 -- The places of what is held after an accepted event, as the code finds them.
-use Prim.Native.Nat.{ℕ, suc, _+_, _-_, _<_, _≤_}
-use mathlib.Core.Path.{_≡_, refl, sym, _∙_, ap}
-use mathlib.Core.Bool.{true, false, cond}
-use mathlib.Core.List.{List, [], _∷_, _++_}
+use Prim.Native.Nat.{ℕ, _+_, _-_, _≤_}
+use mathlib.Core.Path.{_≡_, sym, _∙_, ap}
+use mathlib.Core.List.{List}
 use native.Mathlib.Omega.{arith}
-use lib.ListN.{length, set, take, drop, length-append, length-drop}
-use lib.Seq.{length-take-le}
+use lib.ListN.{length, drop}
 use Rattle.base.specs.Pad.{pad}
 use Rattle.base.proofs.Bools.{by}
 use Rattle.automaton.specs.declared.Automaton.{Automaton}
-use Rattle.automaton.specs.Automaton.{controllable, step}
+use Rattle.automaton.specs.Automaton.{controllable}
 use Rattle.configuration_places.specs.declared.InputPlace.{InputPlace}
-use Rattle.configuration_places.specs.Places.{inputPlace, inputNumber, padPlaces}
+use Rattle.configuration_places.specs.Places.{inputPlace, inputNumber}
 use Rattle.configuration.specs.declared.Configuration.{Configuration}
-use Rattle.configuration.specs.Configuration.{Position, heldEvents, placeNumbers, positionOf, configuration}
+use Rattle.configuration.specs.Configuration.{Position, heldEvents, positionOf, configuration}
 use Rattle.configuration.proofs.Facts.{Consistent}
-use Rattle.monitor_rule.specs.Step.{Rest, release, remaining, Effect, arrival, effect, effectFrom, inLine, advance}
+use Rattle.monitor_rule.specs.Step.{Rest, remaining, Effect, effectFrom, inLine, advance}
 use Rattle.monitor_rule.proofs.Effects.{effect-length}
-use Rattle.monitor_rule.proofs.Longest.{release-le}
 use Rattle.monitor_places.specs.Lines.{placesAfter, AfterRequires}
 use Rattle.monitor_places.proofs.Laws.{places, left-passing, left-waiting}
 use Rattle.monitor_step.specs.Stepping.{released}
+use Rattle.monitor_step.proofs.Emitting.{emitted-many, released-few}
 use Rattle.monitor_loop.specs.Lending.{derived}
-
--- how many are emitted: those released, and an event that passes
-module _ (rest : Rest) (a : Automaton) (q : ℕ) (w : List ℕ) (e : ℕ) where
-  abbrev x : Effect
-  x = arrival a q w e
-
-  pub emitted-many : length (effect rest a q w e .emitted) ≡ cond (controllable a e) 0 1 + released rest a q w e
-  unfolding effect arrival released remaining
-  emitted-many =
-      let few = release-le rest a (x .state) (x .buffer) in
-      by (controllable a e)
-      (λ c. rw c (omega (arith, rw c at (length-take-le (release rest a (x .state) (x .buffer)) (x .buffer) few))))
-      (λ c. rw c (omega (arith, rw c at (length-take-le (release rest a (x .state) (x .buffer)) (x .buffer) few))))
-
-  pub released-few : released rest a q w e ≤ suc (length w)
-  released-few = omega (arith, emitted-many, effect-length rest a q w e)
 
 module _ (a : Automaton) (c : Configuration) (k : Consistent a c) (rest : Rest) (e : ℕ) where
   abbrev p : Position
@@ -66,10 +48,10 @@ module _ (a : Automaton) (c : Configuration) (k : Consistent a c) (rest : Rest) 
   sum : length (f .emitted) + many ≡ c .held + 1
   sum = omega (arith, effect-length rest a (c .state) (heldEvents c) e, k .held-length)
 
-  -- the places that the code finds
-  pub places-go : (left : List InputPlace) → left ≡ placesAfter (c .places) (c .held) (c .received) gone many → left ≡ target
+  -- the places that the code finds are theirs
+  pub places-theirs : (left : List InputPlace) → left ≡ placesAfter (c .places) (c .held) (c .received) gone many → left ≡ target
   unfolding inLine remaining
-  places-go left el =
+  places-theirs left el =
       let m : c .held + 1 - many ≡ length (f .emitted) = omega (arith, sum) in
       let found : left ≡ placesAfter (places 6 (p .places)) (length (p .places)) (c .received) gone many =
       el ∙ ap (λ ps. placesAfter ps (c .held) (c .received) gone many) lie ∙
@@ -85,7 +67,7 @@ module _ (a : Automaton) (c : Configuration) (k : Consistent a c) (rest : Rest) 
       let n : gone + many ≡ length (p .places) = omega (arith, sum, have, rw y at (emitted-many rest a (c .state) (heldEvents c) e)) in
       found ∙ left-passing (p .places) (p .received) gone many few n ∙ rw (same, y))
 
-  -- they are found so
+  -- what `places_after` asks is there
   pub places-ask : many ≤ 6 → AfterRequires (c .places) (c .held) gone many
   places-ask high =
       record {

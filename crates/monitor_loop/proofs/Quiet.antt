@@ -21,9 +21,13 @@ use Rattle.monitor_rule.proofs.Effects.{effect-length, effect-alone}
 use Rattle.monitor_rule.proofs.Longest.{release-le}
 use Rattle.monitor_step.specs.declared.Stepped.{Stepped}
 use Rattle.monitor_step.specs.Stepping.{released, stepped}
+use Rattle.monitor_step.proofs.Emitting.{emitted-many}
 use Rattle.monitor_step.proofs.Steps.{class-rank}
-use Rattle.monitor_loop.specs.Quiet.{Quiet, quietAfter}
-use Rattle.monitor_loop.proofs.Placing.{emitted-many}
+use Rattle.monitor_loop.specs.Quiet.{quietAfter}
+
+-- each state of a set is quiet, with so many events held in a buffer
+pub record Quiet (next ranks : List ℕ) (k : ℕ) (t buffer : List ℕ) (held quiet : ℕ) : Type 0 where
+  pub releases-none : (p : ℕ) → has quiet p ≡ true → release (restIn t ranks k) (over ranks next) p (take held buffer) ≡ 0
 
 -- the empty set
 pub quiet-none : (next ranks : List ℕ) (k : ℕ) (t buffer : List ℕ) (held : ℕ) → Quiet next ranks k t buffer held 0

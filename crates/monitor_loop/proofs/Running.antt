@@ -26,8 +26,8 @@ use Rattle.monitor_answers.specs.declared.Ran.{Ran}
 use Rattle.monitor_answers.specs.Answers.{ranOf, ranBufferOf}
 use Rattle.monitor_answers.specs.Turns.{turnRefusal, turnEmitted, turnNext, turnedBuffer}
 use Rattle.monitor_answers.proofs.Turns.{turn-consistent, turn-silent, turn-emits, turn-moves, turn-keeps, turn-room}
-use Rattle.monitor_loop.specs.Lending.{Limits, Lends, Processed, ProcessRequires, derived, processed, Takes, Runs}
-use Rattle.monitor_loop.proofs.Taking.{opens, facts, place}
+use Rattle.monitor_loop.specs.Lending.{Limits, Lends, ProcessRequires, derived, Runs}
+use Rattle.monitor_loop.proofs.Taking.{Processed, processed, Takes, opens, facts, place}
 use Rattle.monitor_loop.proofs.Placing.{derived-is}
 use Rattle.monitor_loop.proofs.Accepting.{accepted-asks, accepted-found}
 
@@ -252,7 +252,3 @@ module _ {l : Limits} {next ranks t : List ℕ} {c : Configuration} (g : Process
   pub going-finishes : (events out : List ℕ) (r : Ran) (out′ : List ℕ) → Runs l next ranks t kept events out r out′
       → Runs l next ranks t c events out r out′
   going-finishes events out r out′ h = subst (λ d. Runs l next ranks t d events out r out′) kept-is h
-
--- a count that is not at its end goes on
-pub counts-fit : (n : ℕ) → n < 4294967296 → (n ≡ 4294967295 → ⊥) → n + 1 < 4294967296
-counts-fit n l z = by (eqb n 4294967295) (λ h. absurd (z (eqb-true n 4294967295 h))) (λ h. let y = eqb-false n 4294967295 h in by (ltb n 4294967295) (λ b. omega (arith, ltb-true n 4294967295 b)) (λ b. absurd (y (omega (arith, ltb-false n 4294967295 b)))))

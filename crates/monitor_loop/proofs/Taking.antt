@@ -2,12 +2,13 @@
 -- automaton.
 use Prim.Native.Nat.{ℕ, _+_, _<_, _≤_}
 use mathlib.Core.Path.{_≡_, refl, sym, _∙_, ap}
-use mathlib.Core.Bool.{true}
+use mathlib.Core.Bool.{true, cond}
 use mathlib.Core.List.{List}
 use native.Mathlib.Nat.{add-zero}
 use native.Mathlib.Omega.{arith}
-use lib.ListN.{take}
+use lib.ListN.{length, take}
 use lib.Seq.{sets}
+use lib.Dec.{eqb}
 use borrow.Author.Tests.{ne-eqb}
 use Rattle.automaton.specs.declared.Automaton.{Automaton}
 use Rattle.automaton.proofs.Facts.{Valid, valid-facts}
@@ -23,11 +24,41 @@ use Rattle.automaton_symbols.specs.Symbols.{rankingOf}
 use Rattle.monitor_rule.proofs.Effects.{OccursAt, consistent-occurs, Accepts, accepted-facts, advance-occurs}
 use Rattle.monitor_rule.proofs.Worded.{event-rows-as-worded}
 use Rattle.monitor_step.specs.declared.Stepped.{Stepped}
-use Rattle.monitor_step.specs.Stepping.{eventRowBy, stepped, StepRequires}
+use Rattle.monitor_step.specs.Stepping.{eventRowBy, released, stepped, StepRequires}
 use Rattle.monitor_step.proofs.Tabled.{row-same, stepped-tabled, emitted-tabled, ready}
-use Rattle.monitor_answers.specs.Turns.{turnRefusal, turnedBuffer}
+use Rattle.monitor_answers.specs.Turns.{turnRefusal, turnEmitted, turnNext, turnedBuffer}
 use Rattle.monitor_answers.proofs.Turns.{Opened, turn-consistent, turn-unmoved, turn-silent, turn-moves, turn-emits}
-use Rattle.monitor_loop.specs.Lending.{Limits, Lends, ProcessRequires, processed, Takes}
+use Rattle.monitor_loop.specs.Lending.{Limits, Lends, ProcessRequires}
+
+-- what an event leaves of a consistent configuration beside places and counts: the row that
+-- refuses it (0: none), the state, the buffer and how many it holds, how many held events were
+-- released, and the place after what was written
+pub record Processed : Type 0 where
+  pub row : ℕ
+  pub state : ℕ
+  pub held : ℕ
+  pub buffer : List ℕ
+  pub released : ℕ
+  pub written : ℕ
+
+-- none is released where it is refused
+unfoldable pub processed : Automaton → List ℕ → Configuration → ℕ → ℕ → Processed
+processed a t c e at =
+    let next = turnNext a t c e in
+    record {
+      row = turnRefusal a t c e;
+      state = next .state;
+      held = next .held;
+      buffer = next .buffer;
+      released = cond (eqb (turnRefusal a t c e) 0) (released (byTable a t) a (c .state) (heldEvents c) e) 0;
+      written = at + length (turnEmitted a t c e);
+    }
+
+-- one event for a consistent configuration
+abbrev pub Takes : Limits → List ℕ → List ℕ → List ℕ → Configuration → ℕ → ℕ → List ℕ → Processed → List ℕ → Type 0
+Takes l next ranks t c e at out r out′ =
+    (a : Automaton) → Lends a l next ranks t → consistent a c ≡ true
+    → (r ≡ processed a t c e at) × (out′ ≡ turnedBuffer a t c e at out)
 
 -- what the code lends is an automaton's own
 pub lends : (a : Automaton) (t : List ℕ) → Opened a t → (r : Ranking) → r ≡ rankingOf (a .classes) (a .symbols)
@@ -129,13 +160,6 @@ module _ (l : Limits) (next ranks t : List ℕ) (c : Configuration) (e capacity 
             let i = step-is (g .automaton) (g .lends) (g .stands) in
             let b = next-occurs (g .automaton) (g .lends) (g .stands) in
             omega (arith, ap (λ (y : Stepped). y .state) i, b .occurs .state-below, facts (g .lends) .states-high)
-
-        pub held-fits : ProcessRequires l next ranks t c → s .held < 256
-        unfolding stepped
-        held-fits g =
-            let i = step-is (g .automaton) (g .lends) (g .stands) in
-            let b = next-occurs (g .automaton) (g .lends) (g .stands) in
-            omega (arith, ap (λ (y : Stepped). y .held) i, b .occurs .buffer .1, facts (g .lends) .capacity-high)
 
         pub takes-accepted : (out out′ : List ℕ)
             → out′ ≡ sets out at (effect (restIn t ranks (l .controllables)) (over ranks next) q (take held (c .buffer)) e .emitted)

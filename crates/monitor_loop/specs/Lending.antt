@@ -2,24 +2,20 @@
 -- the parts of an automaton, for any automaton whose parts these are.
 use Prim.Native.Nat.{ℕ, _+_, _-_, _<_}
 use mathlib.Core.Path.{_≡_}
-use mathlib.Core.Bool.{true, false, cond}
+use mathlib.Core.Bool.{true, false}
 use mathlib.Core.List.{List}
-use lib.ListN.{length}
-use lib.Dec.{eqb}
 use Rattle.automaton.specs.declared.Automaton.{Automaton}
 use Rattle.automaton.specs.Automaton.{valid}
 use Rattle.solver_sets.specs.Table.{short}
 use Rattle.configuration_places.specs.declared.InputPlace.{InputPlace}
 use Rattle.configuration_places.specs.Places.{inputNumber, outputPlace}
 use Rattle.configuration.specs.declared.Configuration.{Configuration}
-use Rattle.configuration.specs.Configuration.{heldEvents, consistent}
+use Rattle.configuration.specs.Configuration.{consistent}
 use Rattle.automaton_symbols.specs.Symbols.{rankingOf}
 use Rattle.monitor_answers.specs.declared.Ran.{Ran}
 use Rattle.monitor_answers.specs.Answers.{ranOf, ranBufferOf}
 use Rattle.monitor_answers.specs.declared.Turned.{Turned}
-use Rattle.monitor_rule.specs.Step.{byTable}
-use Rattle.monitor_step.specs.Stepping.{released}
-use Rattle.monitor_answers.specs.Turns.{turnRefusal, turnEmitted, turnNext, turned, turnedBuffer}
+use Rattle.monitor_answers.specs.Turns.{turned, turnedBuffer}
 pub use Rattle.monitor_loop.specs.declared.Limits.{Limits}
 
 abbrev pub limitsOf : Automaton → Limits
@@ -70,36 +66,6 @@ derived state held buffer places received =
       received = received;
       emitted = outputPlace (inputNumber received - held);
     }
-
--- what an event leaves of a consistent configuration beside places and counts: the row that
--- refuses it (0: none), the state, the buffer and how many it holds, how many held events were
--- released, and the place after what was written
-pub record Processed : Type 0 where
-  pub row : ℕ
-  pub state : ℕ
-  pub held : ℕ
-  pub buffer : List ℕ
-  pub released : ℕ
-  pub written : ℕ
-
--- none is released where it is refused
-unfoldable pub processed : Automaton → List ℕ → Configuration → ℕ → ℕ → Processed
-processed a t c e at =
-    let next = turnNext a t c e in
-    record {
-      row = turnRefusal a t c e;
-      state = next .state;
-      held = next .held;
-      buffer = next .buffer;
-      released = cond (eqb (turnRefusal a t c e) 0) (released (byTable a t) a (c .state) (heldEvents c) e) 0;
-      written = at + length (turnEmitted a t c e);
-    }
-
--- one event for a consistent configuration
-abbrev pub Takes : Limits → List ℕ → List ℕ → List ℕ → Configuration → ℕ → ℕ → List ℕ → Processed → List ℕ → Type 0
-Takes l next ranks t c e at out r out′ =
-    (a : Automaton) → Lends a l next ranks t → consistent a c ≡ true
-    → (r ≡ processed a t c e at) × (out′ ≡ turnedBuffer a t c e at out)
 
 -- a list of events
 abbrev pub Runs : Limits → List ℕ → List ℕ → List ℕ → Configuration → List ℕ → List ℕ → Ran → List ℕ → Type 0

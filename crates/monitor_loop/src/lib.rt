@@ -60,12 +60,12 @@ pub fn counted(received: InputPlace) -> InputPlace
     InputPlace(received.0 + 1)
 }
 
-// A state is quiet while the buffer, as it stands, releases nothing from it. States known to be
-// quiet are kept as a set; this is the set of all.
+// The set of all states.
 const ALL_STATES: u32 = 4294967295;
 
-// Whether an event is uncontrollable and leads to a state of a set.
-fn is_quiet<'a>(
+// A state is quiet while the buffer, as it stands, releases nothing from it. Whether an event is
+// uncontrollable and leads to a state of a set of quiet ones.
+fn leads_to_quiet<'a>(
     next: &'a [u8; 512],
     ranks: &'a [u8; 16],
     quiet: u32,
@@ -102,8 +102,8 @@ fn quiet_after(quiet: u32, before: usize, state: usize, held: usize, released: u
 }
 
 // The events in turn; those that are refused are passed over and counted. An uncontrollable event
-// that leads to a state known to be quiet is written and moves the state, no more. The output
-// count is worked out at the end.
+// that leads to a state known to be quiet is written, counted and moves the state, no more. The
+// output count is worked out at the end.
 pub fn process<'a>(
     limits: Limits,
     next: &'a [u8; 512],
@@ -141,7 +141,7 @@ pub fn process<'a>(
         );
         if row != 0 {
             refused = refused + 1;
-        } else if is_quiet(next, &own, quiet, state, event as usize) {
+        } else if leads_to_quiet(next, &own, quiet, state, event as usize) {
             out[written] = event as u8;
             state = as_usize(next[state * 16 + event as usize]);
             received = counted(received);

@@ -24,8 +24,8 @@ abbrev pub placesAfter : List InputPlace → ℕ → InputPlace → ℕ → ℕ 
 placesAfter places before newcomer released held =
     padPlaces 6 (take held (drop (before + 1 - held) (joinedBy (ownIndex before released held) newcomer places)))
 
--- what `places_after` asks: the places of so many held events with zeros behind them, of which and
--- of the newcomer each is released or held then, or passed
+-- what `places_after` asks: the places of so many held events with zeros behind them; at most one
+-- more is held then, and each one held before is released or still held
 pub record AfterRequires (places : List InputPlace) (before released held : ℕ) : Type 0 where
   pub numbers : List ℕ
   pub each-has : length numbers ≡ before

@@ -74,8 +74,7 @@ fn places_left(
     held: usize,
 ) -> [InputPlace; 6]
     requires { ⌜ (before ≤ 6) × (held ≤ before) × (released ≤ 7) ⌝ }
-    ensures { λ r. let line = joinedBy (ownIndex before released held) newcomer places in
-        ⌜ r ≡ padPlaces 6 (take held (drop (before + 1 - held) line)) ⌝ }
+    ensures { λ r. ⌜ r ≡ placesAfter places before newcomer released held ⌝ }
 {
     if released + held == before {
         return held_places(places, 0, newcomer, before + 1 - held, held);

@@ -1,3 +1,4 @@
 pub mod Arrivals
+pub mod Emitting
 pub mod Steps
 pub mod Tabled

@@ -3,10 +3,11 @@ use mathlib.Core.Path.{_≡_, refl, _∙_, ap}
 use lib.ListN.{length, getD}
 use native.Mathlib.Omega.{arith}
 use borrow.Author.Needs.{needs}
+use Rattle.configuration_places.specs.Places.{inputNumber}
 use Rattle.monitor_places.specs.Lines.{placesAfter}
-use Rattle.monitor_loop.specs.Lending.{ProcessRequires, Takes}
-use Rattle.monitor_loop.proofs.Accepting.{accepted-counts, accepted-few, accepted-asks, accepted-derives, accepted-found}
-use Rattle.monitor_loop.proofs.Taking.{symbols-small, event-low, take-ready, state-fits, takes-accepted}
+use Rattle.monitor_loop.specs.Lending.{ProcessRequires}
+use Rattle.monitor_loop.proofs.Accepting.{accepted-few, accepted-asks, accepted-derives, accepted-found}
+use Rattle.monitor_loop.proofs.Taking.{Takes, counts-on, symbols-small, event-low, take-ready, state-fits, takes-accepted}
 use Rattle.clients_entry.proofs.Entering.{takes-none, take-enters, take-room, takes-refused, takes-event}
 use Rattle.clients_entry.proofs.take.Statement.{statement}
 use Rattle.clients_entry.proofs.take.Tie as tie
@@ -117,7 +118,12 @@ places-after-requires c κs =
     rw (held p) (accepted-asks (entered p) _ _ _ _ _ (took p) refl)
 
 counted-requires : tie.Need-counted-requires
-counted-requires c κs = let p = stepped (c .before) in accepted-counts (entered p) _ _ _ _ _ (took p) refl
+counted-requires c κs =
+    let p = stepped (c .before) in
+    let n = p .before .before in
+    let r = asked n in
+    let s = r .before in
+    counts-on _ _ _ _ _ _ _ _ _ (s .as-usize2 .ensures .0) (s .before .as-usize .ensures .0) (r .event-row .ensures) (n .before .before .if2 .left) (entered p)
 
 cast-derive : tie.Need-cast-derive
 cast-derive c =
@@ -137,7 +143,7 @@ cast-derive-2 c =
 derive-requires : tie.Need-derive-requires
 derive-requires c κs =
     let p = stepped (found (c .before)) in
-    rw (c .before .before .counted .ensures) (accepted-derives (entered p) _ _ _ _ _ (took p) refl)
+    omega (arith, accepted-derives (entered p) _ _ _ _ _ (took p) refl, ap inputNumber (c .before .before .counted .ensures))
 
 same-length : tie.Need-same-length
 same-length c = search needs

@@ -7,10 +7,9 @@ use borrow.Author.Needs.{needs}
 use Rattle.monitor_places.proofs.Laws.{after-same}
 use Rattle.monitor_step.specs.Stepping.{StepRequires}
 use Rattle.monitor_step.proofs.Steps.{many}
-use Rattle.monitor_loop.specs.Lending.{Processed, Takes, derived}
-use Rattle.monitor_loop.specs.Quiet.{Quiet}
-use Rattle.monitor_loop.proofs.Taking.{symbols-small, takes-refused, counts-on, take-ready, state-fits, takes-accepted}
-use Rattle.monitor_loop.proofs.Quiet.{quiet-none, quiet-emits, quiet-steps, quiet-goes-on}
+use Rattle.monitor_loop.specs.Lending.{derived}
+use Rattle.monitor_loop.proofs.Taking.{Processed, Takes, symbols-small, takes-refused, counts-on, take-ready, state-fits, takes-accepted}
+use Rattle.monitor_loop.proofs.Quiet.{Quiet, quiet-none, quiet-emits, quiet-steps, quiet-goes-on}
 use Rattle.monitor_loop.proofs.Running.{Going, going-begins, going-enters, going-kept, going-room, going-state, going-held, going-derives, going-refuses, going-asks, going-accepts, going-ends, going-finishes}
 use Rattle.monitor_loop.proofs.process.Statement.{statement}
 use Rattle.monitor_loop.proofs.process.Tie as tie
@@ -71,7 +70,7 @@ quietly t =
     let r = c .before in
     let known = body r .before .loop .inv .1 in
     let y = ready c in
-    let h = sym (t .before .is-quiet .ensures) ∙ t .if2 .taken in
+    let h = sym (t .before .leads-to-quiet .ensures) ∙ t .if2 .taken in
     takes-accepted _ _ _ _ _ _ _ _ _ (r .before .as-usize3 .ensures .0) refl (r .event-row .ensures) (c .if1 .left) _ refl _ _
     (quiet-steps known (many y) _ _ _ h (y .padded)) _ _ (ap (sets _ _) (quiet-emits known (many y) _ _ 0 h))
 
@@ -149,11 +148,11 @@ loop-again c =
       v .1,
     )
 
-cast-is-quiet : tie.Need-cast-is-quiet Inv-loop μ-loop
-cast-is-quiet c = let y = ready (c .before) in omega (arith, y .symbol-low)
+cast-leads-to-quiet : tie.Need-cast-leads-to-quiet Inv-loop μ-loop
+cast-leads-to-quiet c = let y = ready (c .before) in omega (arith, y .symbol-low)
 
-is-quiet-requires : tie.Need-is-quiet-requires Inv-loop μ-loop
-is-quiet-requires c κs = let y = ready (c .before) in (y .state-low, y .symbol-low, y .lent _ refl .next-low)
+leads-to-quiet-requires : tie.Need-leads-to-quiet-requires Inv-loop μ-loop
+leads-to-quiet-requires c κs = let y = ready (c .before) in (y .state-low, y .symbol-low, y .lent _ refl .next-low)
 
 cast-out : tie.Need-cast-out Inv-loop μ-loop
 cast-out c = let y = ready (silent c) in omega (arith, y .symbol-low)
@@ -269,8 +268,8 @@ process-spec =
     add-refused
     loop-less
     loop-again
-    cast-is-quiet
-    is-quiet-requires
+    cast-leads-to-quiet
+    leads-to-quiet-requires
     cast-out
     slice-write-out
     mul-as-usize

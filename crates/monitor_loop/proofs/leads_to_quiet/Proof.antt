@@ -1,9 +1,8 @@
-use mathlib.Core.Path.{_≡_, _∙_, sym}
-use borrow.Author.Tests.{eq-eqb, ne-eqb}
+use mathlib.Core.Path.{_∙_}
+use borrow.Author.Tests.{ne-eqb}
 use borrow.Author.Needs.{needs}
-use native.Mathlib.Omega.{arith}
-use Rattle.monitor_loop.proofs.is_quiet.Statement.{statement}
-use Rattle.monitor_loop.proofs.is_quiet.Tie as tie
+use Rattle.monitor_loop.proofs.leads_to_quiet.Statement.{statement}
+use Rattle.monitor_loop.proofs.leads_to_quiet.Tie as tie
 
 element-copy-out-if1 : tie.Need-element-copy-out-if1
 element-copy-out-if1 c = search needs
@@ -29,8 +28,8 @@ has-requires c κs = rw (c .as-usize .ensures .0) (c .before .before .before .be
 returns-2 : tie.Need-returns-2
 returns-2 c = c .has .ensures ∙ rw (c .before .as-usize .ensures .0, c .before .before .before .if1 .left)
 
-pub is-quiet-spec : {M : Type 1} → statement M
-is-quiet-spec =
+pub leads-to-quiet-spec : {M : Type 1} → statement M
+leads-to-quiet-spec =
     tie.close
     (tie.spec
     element-copy-out-if1
