@@ -554,13 +554,16 @@ uint8_t ref_receive_for(const uint8_t *automaton, const uint32_t *table, size_t 
     return row ? row : answered_for(&s, list_of(configurations), configurations_length, client, event, answer);
 }
 
-/* How many events all clients hold; a carried state that row 13 refuses holds none. */
-static size_t held_by_all(const struct automaton *s, const struct configuration *list, size_t clients)
+/* How many events all clients hold; a carried state that row 13 refuses holds none. The mark of
+ * each, 1 where row 13 lets it pass and 0 where not, is stored at its place. */
+static size_t held_by_all(const struct automaton *s, const struct configuration *list, size_t clients, uint8_t marks[CLIENTS])
 {
     size_t held = 0;
-    for (size_t i = 0; i < clients; i++)
-        if (consistent(s, &list[i]))
+    for (size_t i = 0; i < clients; i++) {
+        marks[i] = (uint8_t)consistent(s, &list[i]);
+        if (marks[i])
             held += list[i].held;
+    }
     return held;
 }
 
@@ -569,17 +572,18 @@ uint8_t ref_run_for(const uint8_t *automaton, const uint32_t *table, size_t tabl
 {
     struct automaton s;
     struct configuration *list = list_of(configurations);
+    uint8_t marks[CLIENTS];
     size_t used = 0, refused = 0;
     put_ran(answer, 0, 0);
     uint8_t row = opened_for(automaton, table, table_length, configurations_length, &s);
     if (row)
         return row;
-    size_t held = held_by_all(&s, list, configurations_length);
+    size_t held = held_by_all(&s, list, configurations_length, marks);
     if (out_length < held || out_length - held < events_length)
         return 16;
     for (size_t i = 0; i < events_length; i++) {
         uint32_t client = events[i] / 65536, event = events[i] % 65536;
-        if (client_row(&s, list, configurations_length, client) ||
+        if (client >= configurations_length || !marks[client] ||
             event_row(&s, &list[client], event, list[client].received))
             refused++;
         else {
