@@ -84,7 +84,13 @@ use Rattle.clients_day.proofs.held_in_all.Code as code
 use Rattle.clients_day.proofs.held_in_all.Code.Mir as mir
 
 abbrev stayed : Stays (f.ended .signature .params) (f.ended .kept)
-stayed = (stay-none (λ _. Li.the-row) yes, (stay-none-ref (0 ∷ []) tt (ArrayOf (plain (λ _. u8)) (λ _. tt) 16) yes, (stay-none-slice (1 ∷ []) tt (plain (λ _. T.the-row)) yes, (stay-ref (2 ∷ []) tt (ArrayOf (plain (λ _. u8)) (λ _. tt) 500), tt))))
+stayed = (
+  stay-none (λ _. Li.the-row) yes,
+  (
+    stay-none-ref (0 ∷ []) tt (ArrayOf (plain (λ _. u8)) (λ _. tt) 16) yes,
+    (stay-none-slice (1 ∷ []) tt (plain (λ _. T.the-row)) yes, (stay-ref (2 ∷ []) tt (ArrayOf (plain (λ _. u8)) (λ _. tt) 500), tt)),
+  ),
+)
 
 abbrev R16 : RattleType
 R16 = Array u8 16
@@ -226,14 +232,22 @@ module _ {M : Type 1} (𝓤 : URA M) (H : Heap 𝓤) (A : Atoms 𝓤) (W : Given
 
     -- what the loop has wherever it stands
     abbrev Head : Stand l cl ys ms₀ → List (Item 𝓤)
-    Head s = ‵ (flft κa qa) ∷ ‵ (flft κr qr) ∷ ‵ (flft κm qm) ∷ ‵ OwnC ∷ ‵ OwnR ∷ ‵ (OwnM (s .marks)) ∷ ‵ (froom lend l12 0) ∷ ‵ (fdies lend l12) ∷ ‵ (froom T′.mir l11 0) ∷ ‵ (fdies T′.mir l11) ∷ ‵ (froom tyPtr l10 0) ∷ ‵ (fdies tyPtr l10) ∷ ‵ (froom word l9 0) ∷ ‵ (fdies word l9) ∷ ‵ (froom tyBool l8 0) ∷ ‵ (fdies tyBool l8) ∷ ‵ (froom word l7 0) ∷ ‵ (fdies word l7) ∷ ‵ (fat fullShare word l6 0 (vint w64 (s .i))) ∷ ‵ (fdies word l6) ∷ ‵ (fat fullShare word l5 0 (vint w64 (s .sum))) ∷ ‵ (fdies word l5) ∷ ‵ (fat fullShare marked l4 0 (vM)) ∷ ‵ (fdies marked l4) ∷ ‵ (fat fullShare recs l3 0 (vR)) ∷ ‵ (fdies recs l3) ∷ ‵ (fat fullShare arr l2 0 (vC)) ∷ ‵ (fdies arr l2) ∷ ‵ (fat fullShare Li′.mir l1 0 (vL)) ∷ ‵ (fdies Li′.mir l1) ∷ ‵ (froom word l0 0) ∷ ‵ (fdies word l0) ∷ []
+    Head s = ‵ (flft κa qa) ∷ ‵ (flft κr qr) ∷ ‵ (flft κm qm) ∷ ‵ OwnC ∷ ‵ OwnR ∷ ‵ (OwnM (s .marks)) ∷ ‵ (froom lend l12 0) ∷ ‵ (fdies lend l12) ∷
+        ‵ (froom T′.mir l11 0) ∷ ‵ (fdies T′.mir l11) ∷ ‵ (froom tyPtr l10 0) ∷ ‵ (fdies tyPtr l10) ∷ ‵ (froom word l9 0) ∷ ‵ (fdies word l9) ∷ ‵ (froom tyBool l8 0) ∷
+        ‵ (fdies tyBool l8) ∷ ‵ (froom word l7 0) ∷ ‵ (fdies word l7) ∷ ‵ (fat fullShare word l6 0 (vint w64 (s .i))) ∷ ‵ (fdies word l6) ∷
+        ‵ (fat fullShare word l5 0 (vint w64 (s .sum))) ∷ ‵ (fdies word l5) ∷ ‵ (fat fullShare marked l4 0 (vM)) ∷ ‵ (fdies marked l4) ∷
+        ‵ (fat fullShare recs l3 0 (vR)) ∷ ‵ (fdies recs l3) ∷ ‵ (fat fullShare arr l2 0 (vC)) ∷ ‵ (fdies arr l2) ∷ ‵ (fat fullShare Li′.mir l1 0 (vL)) ∷
+        ‵ (fdies Li′.mir l1) ∷ ‵ (froom word l0 0) ∷ ‵ (fdies word l0) ∷ []
 
     -- after the last turn
     ends : (s : Stand l cl ys ms₀) → length ys ≤ s .i → Sq W (Head s) (runs C Λ En mir.t-4 (atRet En Post))
     ends s over =
-        assigns ! (of-opd ! (load ! (from ! (stop !)) (look ! 20 refl))) (from ! (stop !)) (init ! 30 refl (tt, record { fits = total-fits })) $ returns ! (look ! 30 refl) $ forget ! 30 refl $ forget ! 28 refl $ forget ! 26 refl $
-        forget ! 24 refl $ forget ! 22 refl $ forget ! 20 refl $ forget ! 18 refl $ move ! (30 ∷ 31 ∷ []) $ free1 ! $ move ! (28 ∷ 29 ∷ []) $ free1 ! $ move ! (26 ∷ 27 ∷ []) $ free1 ! $ move ! (24 ∷ 25 ∷ []) $ free1 ! $
-        move ! (22 ∷ 23 ∷ []) $ free1 ! $ move ! (20 ∷ 21 ∷ []) $ free1 ! $ move ! (18 ∷ 19 ∷ []) $ free1 ! $ move ! (16 ∷ 17 ∷ []) $ free1 ! $ move ! (14 ∷ 15 ∷ []) $ free1 ! $ move ! (12 ∷ 13 ∷ []) $ free1 ! $ move ! (10 ∷ 11 ∷ []) $
+        assigns ! (of-opd ! (load ! (from ! (stop !)) (look ! 20 refl))) (from ! (stop !)) (init ! 30 refl (tt, record { fits = total-fits })) $
+        returns ! (look ! 30 refl) $ forget ! 30 refl $ forget ! 28 refl $ forget ! 26 refl $
+        forget ! 24 refl $ forget ! 22 refl $ forget ! 20 refl $ forget ! 18 refl $ move ! (30 ∷ 31 ∷ []) $ free1 ! $ move ! (28 ∷ 29 ∷ []) $ free1 ! $
+        move ! (26 ∷ 27 ∷ []) $ free1 ! $ move ! (24 ∷ 25 ∷ []) $ free1 ! $
+        move ! (22 ∷ 23 ∷ []) $ free1 ! $ move ! (20 ∷ 21 ∷ []) $ free1 ! $ move ! (18 ∷ 19 ∷ []) $ free1 ! $ move ! (16 ∷ 17 ∷ []) $ free1 ! $ move ! (14 ∷ 15 ∷ []) $
+        free1 ! $ move ! (12 ∷ 13 ∷ []) $ free1 ! $ move ! (10 ∷ 11 ∷ []) $
         free1 ! $ move ! (8 ∷ 9 ∷ []) $ free1 ! $ move ! (6 ∷ 7 ∷ []) $ free1 ! $ free0 ! $ keep ! (0 ∷ 1 ∷ 2 ∷ 3 ∷ 4 ∷ 5 ∷ []) $ by ! (leaves (s .sum) (s .marks) total-fits (finished over))
       where
         total-fits : s .sum < 2 ^ 64
@@ -248,7 +262,8 @@ module _ {M : Type 1} (𝓤 : URA M) (H : Heap 𝓤) (A : Atoms 𝓤) (W : Given
     unfolding afterTurn
     turns Q leave s =
         assigns ! (of-opd ! (load ! (from ! (fld ! refl (stop !))) (look-in ! 24 (sub ! 1 refl (whole !))))) (from ! (stop !)) (init ! 16 refl (tt, record { fits = gR .0 .1 .0 })) $
-        assigns ! (bin ! (load ! (from ! (stop !)) (look ! 18 refl)) (load ! (from ! (stop !)) (look ! 16 refl)) tt) (from ! (stop !)) (init ! 14 refl (tt, tt)) $ guards ! (load ! (from ! (stop !)) (look ! 14 refl))
+        assigns ! (bin ! (load ! (from ! (stop !)) (look ! 18 refl)) (load ! (from ! (stop !)) (look ! 16 refl)) tt) (from ! (stop !)) (init ! 14 refl (tt, tt)) $
+        guards ! (load ! (from ! (stop !)) (look ! 14 refl))
         (λ less. assigns ! (bin ! (load ! (from ! (stop !)) (look ! 18 refl)) (lit ! tt) (record { fits = far less })) (from ! (stop !)) (init ! 12 refl (tt, record { fits = far less })) $
         assigns ! (bin ! (load ! (from ! (fld ! refl (stop !))) (look-in ! 24 (sub ! 0 refl (whole !)))) (load ! (from ! (stop !)) (look ! 12 refl)) tt) (from ! (stop !)) (init ! 10 refl (tt, tt)) $
         rewrite ! 10 (λ (p : ℕ). ‵ (fat fullShare tyPtr l10 0 (vptr b p))) (sym (place-is 40 o (s .i))) refl $
@@ -256,30 +271,43 @@ module _ {M : Type 1} (𝓤 : URA M) (H : Heap 𝓤) (A : Atoms 𝓤) (W : Given
         move ! (4 ∷ []) $ fsplit ! $ move ! (1 ∷ []) $ fsplit ! $ move ! (1 ∷ 4 ∷ []) $
         looks-slice ! tt T.the-row (Is T.the-row) (shows 𝓤 H A T.the-row) (LL.vals T.the-type T′.the-laws) (LL.tells T.the-type T′.the-laws) (LL.copy T.the-type T′.the-copy 𝓤 H A W) ys b o (λ q′.
         elem-out ! T.the-row (Is T.the-row) (shows 𝓤 H A T.the-row) (LL.vals T.the-type T′.the-laws) (LL.tells T.the-type T′.the-laws) q′ ys (s .i) none b o (low less) (λ gc.
-        assigns ! (of-opd ! (load ! (from ! (hop ! (look ! 15 refl) (stop !))) (look-raw ! 0 refl))) (from ! (stop !)) (init ! 13 refl (LL.lawful T.the-type T′.the-laws 𝓤 H A W .typed old ((mach old) ∷ []) gc .0)) $
+        assigns ! (of-opd ! (load ! (from ! (hop ! (look ! 15 refl) (stop !))) (look-raw ! 0 refl))) (from ! (stop !))
+        (init ! 13 refl (LL.lawful T.the-type T′.the-laws 𝓤 H A W .typed old ((mach old) ∷ []) gc .0)) $
         elem-back ! T.the-row q′ ys (s .i) none (mach old ∷ []) b o (low less) $ shuts-slice ! tt T.the-row q′ ys b o $ move ! (2 ∷ 1 ∷ []) $ fjoin ! $ move ! (2 ∷ 0 ∷ []) $ fjoin ! $
         assigns ! (addr ! (from ! (hop ! (look ! 22 refl) (stop !)))) (from ! (stop !)) (init ! 6 refl (tt, tt)) $
         -- the marks are lent on, for a lifetime ν of the call
         lft-new ! tt (λ ν. move ! (6 ∷ 4 ∷ []) $
-        use2 W (later (some (λ (δ : GName). ‵ (Again ν δ (s .marks)) ⊛ ‵ (LentAgain R500 κm (ν ∷ []) qm γm bm om δ (s .marks))))) (lends-again 𝓤 H A W R500 (named 2) κm (ν ∷ []) qm γm bm om (named 1) (s .marks)) $ await ! tt $ pick ! (λ δ.
+        use2 W (later (some (λ (δ : GName). ‵ (Again ν δ (s .marks)) ⊛ ‵ (LentAgain R500 κm (ν ∷ []) qm γm bm om δ (s .marks)))))
+        (lends-again 𝓤 H A W R500 (named 2) κm (ν ∷ []) qm γm bm om (named 1) (s .marks)) $ await ! tt $ pick ! (λ δ.
         split ! $ move ! (6 ∷ []) $ use1 W (‵ OwnC ⊛ ‵ OwnC) (shr-copy 𝓤 H A W (named 0) κa R16 .twice refC (vC ∷ [])) $ split ! $ nothing ! $
         owned ! usize (Is usize) (uint-makes 𝓤 H A W w64) (s .i) (vint w64 (s .i) ∷ []) (refl, i-fits less) $ fjoin ! $ move ! (3 ∷ 0 ∷ []) $ fjoin ! $
         owned ! T.the-row (Is T.the-row) (LL.makes T.the-type T′.the-plain 𝓤 H A) old (mach old ∷ []) gc $ fjoin ! $ move ! (2 ∷ 0 ∷ []) $ fjoin ! $
         owned ! Li.the-row (Is Li.the-row) (LL.makes Li.the-type Li′.the-plain 𝓤 H A) l (vL ∷ []) gl $ fjoin ! $ nothing ! $ move ! (4 ∷ 0 ∷ []) $ join ! $ move ! (6 ∷ 0 ∷ []) $ join ! $
         use2 W (raw (Holds-in 𝓤 H A at-mem run .pre (toH ν old δ (s .marks) (s .i)))) (goesH ν old δ (s .marks) (s .i) (placed less)) $
-        calls-at ! (fmOf 𝓤 H (W .laws) 𝓣) (Holds-in 𝓤 H A at-mem run) known (toH ν old δ (s .marks) (s .i)) (and-then ! (load ! (from ! (stop !)) (look ! 27 refl)) (and-then ! (load ! (from ! (stop !)) (look ! 25 refl)) (and-then ! (load ! (from ! (stop !)) (look ! 7 refl)) (and-then ! (load ! (from ! (stop !)) (look ! 5 refl)) (and-then ! (load ! (from ! (stop !)) (look ! 17 refl)) (no-more !)))))) (λ u.
-        use1 W (later (some (λ (r : ℕ). ((‵ (flft κa qa) ⊛ (‵ (flft (ν ∷ []) fullShare) ⊛ ‵ ftrue)) ⊛ ‵ (usize .own r (u ∷ []))) ⊛ raw (ensured 𝓤 H A hi.ended (hi.clauses 𝓤 H A at-mem run) (κa, (ν ∷ [], tt)) (argsH old δ (s .marks) (s .i)) tt r)))) (id⊢ 𝓤 _) $ await ! tt $ pick ! (λ r.
+        calls-at ! (fmOf 𝓤 H (W .laws) 𝓣) (Holds-in 𝓤 H A at-mem run) known (toH ν old δ (s .marks) (s .i))
+        (and-then ! (load ! (from ! (stop !)) (look ! 27 refl))
+        (and-then ! (load ! (from ! (stop !)) (look ! 25 refl))
+        (and-then ! (load ! (from ! (stop !)) (look ! 7 refl))
+        (and-then ! (load ! (from ! (stop !)) (look ! 5 refl)) (and-then ! (load ! (from ! (stop !)) (look ! 17 refl)) (no-more !)))))) (λ u.
+        use1 W (later (some (λ (r : ℕ). ((‵ (flft κa qa) ⊛ (‵ (flft (ν ∷ []) fullShare) ⊛ ‵ ftrue)) ⊛ ‵ (usize .own r (u ∷ []))) ⊛ raw
+        (ensured 𝓤 H A hi.ended (hi.clauses 𝓤 H A at-mem run) (κa, (ν ∷ [], tt)) (argsH old δ (s .marks) (s .i)) tt r)))) (id⊢ 𝓤 _) $ await ! tt $ pick ! (λ r.
         split ! $ move ! (1 ∷ []) $
-        use1 W (some (λ (zs : Lasts). ‵ (lasts hi.ended (κa, (ν ∷ [], tt)) (argsH old δ (s .marks) (s .i)) zs) ⊛ raw (fact 𝓤 ((r ≡ heldInBy l cl old) × (last zs ≡ set (s .marks) (s .i) (markBy l cl old)))))) (id⊢ 𝓤 _) $ pick ! (λ zs.
-        split ! $ move ! (1 ∷ []) $ heard ! ((r ≡ heldInBy l cl old) × (last zs ≡ set (s .marks) (s .i) (markBy l cl old))) (λ e. fsplit ! $ let-go ! $ fsplit ! $ let-go ! $ fsplit ! $ let-go ! $ fsplit ! $ move ! (1 ∷ []) $ let-go ! $
-        move ! (1 ∷ []) $ split ! $ move ! (1 ∷ []) $ peeks ! usize (Is usize) (shows 𝓤 H A usize) r (u ∷ []) (λ isr. let-go ! $ land ! (from ! (stop !)) (store ! 16 refl (uint-lawful 𝓤 H A W w64 .typed r _ isr .0)) $
+        use1 W (some (λ (zs : Lasts). ‵ (lasts hi.ended (κa, (ν ∷ [], tt)) (argsH old δ (s .marks) (s .i)) zs) ⊛ raw
+        (fact 𝓤 ((r ≡ heldInBy l cl old) × (last zs ≡ set (s .marks) (s .i) (markBy l cl old)))))) (id⊢ 𝓤 _) $ pick ! (λ zs.
+        split ! $ move ! (1 ∷ []) $ heard ! ((r ≡ heldInBy l cl old) × (last zs ≡ set (s .marks) (s .i) (markBy l cl old)))
+        (λ e. fsplit ! $ let-go ! $ fsplit ! $ let-go ! $ fsplit ! $ let-go ! $ fsplit ! $ move ! (1 ∷ []) $ let-go ! $
+        move ! (1 ∷ []) $ split ! $ move ! (1 ∷ []) $ peeks ! usize (Is usize) (shows 𝓤 H A usize) r (u ∷ [])
+        (λ isr. let-go ! $ land ! (from ! (stop !)) (store ! 16 refl (uint-lawful 𝓤 H A W w64 .typed r _ isr .0)) $
         rewrite ! 16 (λ (u′ : Val). ‵ (fat fullShare word l7 0 u′)) (ap only (isr .0)) refl $
         -- the lifetime is ended, and the marks come back
         split ! $ move ! (1 ∷ []) $ split ! $ move ! (1 ∷ []) $ let-go ! $ lft-end ! tt $ move ! (0 ∷ 4 ∷ 2 ∷ []) $
         use3 W (later (‵ (OwnM (last zs)) ⊛ ‵ (flft κm qm))) (comes-back 𝓤 H A W R500 (named 2) κm (ν ∷ []) qm γm bm om δ (s .marks) (last zs)) $ await ! tt $ split ! $
-        assigns ! (bin ! (load ! (from ! (stop !)) (look ! 20 refl)) (load ! (from ! (stop !)) (look ! 16 refl)) (record { fits = sum-fits less gc r (e .0) })) (from ! (stop !)) (store ! 20 refl (tt, record { fits = sum-fits less gc r (e .0) })) $
-        assigns-last ! (bin ! (load ! (from ! (stop !)) (look ! 18 refl)) (lit ! tt) (record { fits = next-fits less })) (from ! (stop !)) (store ! 18 refl (tt, record { fits = next-fits less })) $ forget ! 16 refl $ forget ! 14 refl $
-        forget ! 12 refl $ forget ! 10 refl $ forget ! 8 refl $ forget ! 6 refl $ move ! (4 ∷ []) $ move ! (4 ∷ []) $ move ! (3 ∷ []) $ move ! (5 ∷ []) $ move ! (5 ∷ []) $ again ! Nearer Head s (next less gc r (last zs) e) (nearer less)))))))))))
+        assigns ! (bin ! (load ! (from ! (stop !)) (look ! 20 refl)) (load ! (from ! (stop !)) (look ! 16 refl)) (record { fits = sum-fits less gc r (e .0) }))
+        (from ! (stop !)) (store ! 20 refl (tt, record { fits = sum-fits less gc r (e .0) })) $
+        assigns-last ! (bin ! (load ! (from ! (stop !)) (look ! 18 refl)) (lit ! tt) (record { fits = next-fits less })) (from ! (stop !))
+        (store ! 18 refl (tt, record { fits = next-fits less })) $ forget ! 16 refl $ forget ! 14 refl $
+        forget ! 12 refl $ forget ! 10 refl $ forget ! 8 refl $ forget ! 6 refl $ move ! (4 ∷ []) $ move ! (4 ∷ []) $ move ! (3 ∷ []) $ move ! (5 ∷ []) $
+        move ! (5 ∷ []) $ again ! Nearer Head s (next less gc r (last zs) e) (nearer less)))))))))))
         (λ over. forget ! 16 refl $ forget ! 14 refl $ leave s (nltb→le (s .i) (length ys) over))
       where
         old : Configuration
@@ -335,11 +363,16 @@ module _ {M : Type 1} (𝓤 : URA M) (H : Heap 𝓤) (A : Atoms 𝓤) (W : Given
       qed W ((‵ (flft κa qa) ⊛ (‵ (flft κr qr) ⊛ (‵ (flft κm qm) ⊛ ‵ ftrue))) ∷
       ‵ (owns (Li.the-row ∷ ShrRef (named 0) κa R16 ∷ ShrSlice (named 1) κr T.the-row ∷ MutRef (named 2) κm R500 ∷ []) x at) ∷ []) ∵
       enter ! (𝓣 .C) (𝓣 .Λ) code.function (vL ∷ vC ∷ vR ∷ vM ∷ []) _ $
-      alloc1 ! (λ l0. alloc1 ! (λ l1. alloc1 ! (λ l2. alloc1 ! (λ l3. alloc1 ! (λ l4. alloc1 ! (λ l5. alloc1 ! (λ l6. alloc1 ! (λ l7. alloc1 ! (λ l8. alloc1 ! (λ l9. alloc1 ! (λ l10. alloc1 ! (λ l11. alloc1 ! (λ l12. alloc0 ! $ params1 ! $
-      pass1 ! (init ! 22 refl (LL.lawful Li.the-type Li′.the-laws 𝓤 H A W .typed l (vL ∷ []) gl .0)) $ pass1 ! (init ! 20 refl (tt, tt)) $ pass1 ! (init ! 18 refl (tt, (tt, (record { fits = gR .0 .1 .0 }, tt)))) $
+      alloc1 ! (λ l0. alloc1 ! (λ l1. alloc1 ! (λ l2. alloc1 !
+      (λ l3. alloc1 ! (λ l4. alloc1 ! (λ l5. alloc1 !
+      (λ l6. alloc1 ! (λ l7. alloc1 ! (λ l8. alloc1 ! (λ l9. alloc1 ! (λ l10. alloc1 ! (λ l11. alloc1 ! (λ l12. alloc0 ! $ params1 ! $
+      pass1 ! (init ! 22 refl (LL.lawful Li.the-type Li′.the-laws 𝓤 H A W .typed l (vL ∷ []) gl .0)) $ pass1 ! (init ! 20 refl (tt, tt)) $
+      pass1 ! (init ! 18 refl (tt, (tt, (record { fits = gR .0 .1 .0 }, tt)))) $
       pass1 ! (init ! 16 refl (tt, tt)) $ pass0 ! $ assigns ! (of-opd ! (lit ! tt)) (from ! (stop !)) (init ! 14 refl (tt, record { fits = lit< tt })) $
-      assigns ! (of-opd ! (lit ! tt)) (from ! (stop !)) (init ! 12 refl (tt, record { fits = lit< tt })) $ move ! (26 ∷ []) $ split ! $ move ! (1 ∷ []) $ split ! $ move ! (1 ∷ []) $ split ! $ move ! (1 ∷ []) $ let-go ! $
-      move ! (29 ∷ []) $ fsplit ! $ move ! (1 ∷ []) $ fsplit ! $ move ! (1 ∷ []) $ fsplit ! $ move ! (1 ∷ []) $ fsplit ! $ move ! (1 ∷ []) $ let-go ! $ move ! (3 ∷ []) $ let-go ! $ move ! (1 ∷ []) $ move ! (2 ∷ []) $ move ! (3 ∷ []) $
+      assigns ! (of-opd ! (lit ! tt)) (from ! (stop !)) (init ! 12 refl (tt, record { fits = lit< tt })) $ move ! (26 ∷ []) $ split ! $ move ! (1 ∷ []) $ split ! $
+      move ! (1 ∷ []) $ split ! $ move ! (1 ∷ []) $ let-go ! $
+      move ! (29 ∷ []) $ fsplit ! $ move ! (1 ∷ []) $ fsplit ! $ move ! (1 ∷ []) $ fsplit ! $ move ! (1 ∷ []) $ fsplit ! $ move ! (1 ∷ []) $ let-go ! $ move ! (3 ∷ []) $
+      let-go ! $ move ! (1 ∷ []) $ move ! (2 ∷ []) $ move ! (3 ∷ []) $
       move ! (4 ∷ []) $ move ! (5 ∷ []) $ looped 𝓣 known l0 l1 l2 l3 l4 l5 l6 l7 l8 l9 l10 l11 l12)))))))))))))
 
 module _ {M : Type 1} (𝓤 : URA M) (H : Heap 𝓤) (A : Atoms 𝓤) (W : Given 𝓤 H A) (at-mem : Memory → SProp 𝓤) (run : Routine → Fun 𝓤) where
@@ -358,7 +391,10 @@ held-in-all-meets : {M : Type 1} (𝓤 : URA M) (H : Heap 𝓤) (A : Atoms 𝓤)
 held-in-all-meets 𝓤 H A W at-mem run 𝓣 known =
     walk-meets 𝓤 H A f.ended stayed W (
       goes-none 𝓤 H A W 3 (λ _. Li.the-row) yes (λ κs x f. refl),
-      (goes-none-ref 𝓤 H A W 3 (0 ∷ []) tt (ArrayOf (plain (λ _. u8)) (λ _. tt) 16) yes, (goes-none-slice 𝓤 H A W 3 (1 ∷ []) tt (plain (λ _. T.the-row)) yes, (goes-ref 𝓤 H A W 3 2 tt (ArrayOf (plain (λ _. u8)) (λ _. tt) 500), tt))),
+      (
+        goes-none-ref 𝓤 H A W 3 (0 ∷ []) tt (ArrayOf (plain (λ _. u8)) (λ _. tt) 16) yes,
+        (goes-none-slice 𝓤 H A W 3 (1 ∷ []) tt (plain (λ _. T.the-row)) yes, (goes-ref 𝓤 H A W 3 2 tt (ArrayOf (plain (λ _. u8)) (λ _. tt) 500), tt)),
+      ),
     )
     (f.clauses 𝓤 H A at-mem run) (WpFn 𝓤 H (𝓣 .C) (𝓣 .Λ) code.function) (WpFn-mono 𝓤 H (W .laws) 𝓣 code.function) (held-in-all-walks 𝓤 H A W at-mem run 𝓣 known)
 

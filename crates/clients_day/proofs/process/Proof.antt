@@ -331,22 +331,42 @@ module _ {M : Type 1} (𝓤 : URA M) (H : Heap 𝓤) (A : Atoms 𝓤) (W : Given
     Λ = 𝓣 .Λ
 
     abbrev En : Env 𝓤 H
-    En = (Rn′.mir, l0) ∷ (Li′.mir, l1) ∷ (arr500, l2) ∷ (arr512, l3) ∷ (arr, l4) ∷ (tabs, l5) ∷ (recs, l6) ∷ (evs, l7) ∷ (outs, l8) ∷ (word, l9) ∷ (word, l10) ∷ (word, l11) ∷ (Ev′.mir, l12) ∷ (word, l13) ∷ (Ta′.mir, l14) ∷ (word, l15) ∷ (tyBool, l16) ∷ (word, l17) ∷ (tyPtr, l18) ∷ (T′.mir, l19) ∷ (lend, l20) ∷ (lends, l21) ∷ (tyBool, l22) ∷ (word, l23) ∷ (tyPtr, l24) ∷ []
+    En = (Rn′.mir, l0) ∷ (Li′.mir, l1) ∷ (arr500, l2) ∷ (arr512, l3) ∷ (arr, l4) ∷ (tabs, l5) ∷ (recs, l6) ∷ (evs, l7) ∷ (outs, l8) ∷ (word, l9) ∷ (word, l10) ∷
+        (word, l11) ∷ (Ev′.mir, l12) ∷ (word, l13) ∷ (Ta′.mir, l14) ∷ (word, l15) ∷ (tyBool, l16) ∷ (word, l17) ∷ (tyPtr, l18) ∷ (T′.mir, l19) ∷ (lend, l20) ∷
+        (lends, l21) ∷ (tyBool, l22) ∷ (word, l23) ∷ (tyPtr, l24) ∷ []
 
     -- what the loop has wherever it stands
     abbrev Head : Standing → List (Item 𝓤)
-    Head s = ‵ (flft κa qa) ∷ ‵ (flft κt qt) ∷ ‵ (flft κr qr) ∷ ‵ (flft κe qe) ∷ ‵ (flft κo qo) ∷ ‵ OwnM ∷ ‵ OwnN ∷ ‵ OwnK ∷ ‵ OwnT ∷ ‵ (OwnR (s .clients)) ∷ ‵ OwnE ∷ ‵ (OwnO (s .output) (length os₀)) ∷ ‵ (froom tyPtr l24 0) ∷ ‵ (fdies tyPtr l24) ∷ ‵ (froom word l23 0) ∷ ‵ (fdies word l23) ∷ ‵ (froom tyBool l22 0) ∷ ‵ (fdies tyBool l22) ∷ ‵ (froom lends l21 0) ∷ ‵ (fdies lends l21) ∷ ‵ (froom lend l20 0) ∷ ‵ (fdies lend l20) ∷ ‵ (froom T′.mir l19 0) ∷ ‵ (fdies T′.mir l19) ∷ ‵ (froom tyPtr l18 0) ∷ ‵ (fdies tyPtr l18) ∷ ‵ (froom word l17 0) ∷ ‵ (fdies word l17) ∷ ‵ (froom tyBool l16 0) ∷ ‵ (fdies tyBool l16) ∷ ‵ (froom word l15 0) ∷ ‵ (fdies word l15) ∷ ‵ (froom Ta′.mir l14 0) ∷ ‵ (fdies Ta′.mir l14) ∷ ‵ (froom word l13 0) ∷ ‵ (fdies word l13) ∷ ‵ (froom Ev′.mir l12 0) ∷ ‵ (fdies Ev′.mir l12) ∷ ‵ (fat fullShare word l11 0 (vint w64 (s .i))) ∷ ‵ (fdies word l11) ∷ ‵ (fat fullShare word l10 0 (vint w64 (s .refused))) ∷ ‵ (fdies word l10) ∷ ‵ (fat fullShare word l9 0 (vint w64 (s .written))) ∷ ‵ (fdies word l9) ∷ ‵ (fat fullShare outs l8 0 (vO)) ∷ ‵ (fdies outs l8) ∷ ‵ (fat fullShare evs l7 0 (vE)) ∷ ‵ (fdies evs l7) ∷ ‵ (fat fullShare recs l6 0 (vR)) ∷ ‵ (fdies recs l6) ∷ ‵ (fat fullShare tabs l5 0 (vT)) ∷ ‵ (fdies tabs l5) ∷ ‵ (fat fullShare arr l4 0 (vK)) ∷ ‵ (fdies arr l4) ∷ ‵ (fat fullShare arr512 l3 0 (vN)) ∷ ‵ (fdies arr512 l3) ∷ ‵ (fat fullShare arr500 l2 0 (vM)) ∷ ‵ (fdies arr500 l2) ∷ ‵ (fat fullShare Li′.mir l1 0 (vL)) ∷ ‵ (fdies Li′.mir l1) ∷ ‵ (froom Rn′.mir l0 0) ∷ ‵ (fdies Rn′.mir l0) ∷ []
+    Head s = ‵ (flft κa qa) ∷ ‵ (flft κt qt) ∷ ‵ (flft κr qr) ∷ ‵ (flft κe qe) ∷ ‵ (flft κo qo) ∷ ‵ OwnM ∷ ‵ OwnN ∷ ‵ OwnK ∷ ‵ OwnT ∷ ‵ (OwnR (s .clients)) ∷ ‵ OwnE ∷
+        ‵ (OwnO (s .output) (length os₀)) ∷ ‵ (froom tyPtr l24 0) ∷ ‵ (fdies tyPtr l24) ∷ ‵ (froom word l23 0) ∷ ‵ (fdies word l23) ∷ ‵ (froom tyBool l22 0) ∷
+        ‵ (fdies tyBool l22) ∷ ‵ (froom lends l21 0) ∷ ‵ (fdies lends l21) ∷ ‵ (froom lend l20 0) ∷ ‵ (fdies lend l20) ∷ ‵ (froom T′.mir l19 0) ∷ ‵ (fdies T′.mir l19) ∷
+        ‵ (froom tyPtr l18 0) ∷ ‵ (fdies tyPtr l18) ∷ ‵ (froom word l17 0) ∷ ‵ (fdies word l17) ∷ ‵ (froom tyBool l16 0) ∷ ‵ (fdies tyBool l16) ∷ ‵ (froom word l15 0) ∷
+        ‵ (fdies word l15) ∷ ‵ (froom Ta′.mir l14 0) ∷ ‵ (fdies Ta′.mir l14) ∷ ‵ (froom word l13 0) ∷ ‵ (fdies word l13) ∷ ‵ (froom Ev′.mir l12 0) ∷
+        ‵ (fdies Ev′.mir l12) ∷ ‵ (fat fullShare word l11 0 (vint w64 (s .i))) ∷ ‵ (fdies word l11) ∷ ‵ (fat fullShare word l10 0 (vint w64 (s .refused))) ∷
+        ‵ (fdies word l10) ∷ ‵ (fat fullShare word l9 0 (vint w64 (s .written))) ∷ ‵ (fdies word l9) ∷ ‵ (fat fullShare outs l8 0 (vO)) ∷ ‵ (fdies outs l8) ∷
+        ‵ (fat fullShare evs l7 0 (vE)) ∷ ‵ (fdies evs l7) ∷ ‵ (fat fullShare recs l6 0 (vR)) ∷ ‵ (fdies recs l6) ∷ ‵ (fat fullShare tabs l5 0 (vT)) ∷
+        ‵ (fdies tabs l5) ∷ ‵ (fat fullShare arr l4 0 (vK)) ∷ ‵ (fdies arr l4) ∷ ‵ (fat fullShare arr512 l3 0 (vN)) ∷ ‵ (fdies arr512 l3) ∷
+        ‵ (fat fullShare arr500 l2 0 (vM)) ∷ ‵ (fdies arr500 l2) ∷ ‵ (fat fullShare Li′.mir l1 0 (vL)) ∷ ‵ (fdies Li′.mir l1) ∷ ‵ (froom Rn′.mir l0 0) ∷
+        ‵ (fdies Rn′.mir l0) ∷ []
 
     -- after the last turn
     ends : (s : Standing) → length es ≤ s .i → Sq W (Head s) (runs C Λ En mir.t-5 (atRet En Post))
     ends s over =
-        assigns ! (agg ! (and-then ! (lit ! tt) (and-then ! (load ! (from ! (stop !)) (look ! 42 refl)) (and-then ! (load ! (from ! (stop !)) (look ! 40 refl)) (no-more !))))) (from ! (stop !)) (init ! 60 refl (LL.lawful Rn.the-type Rn′.the-laws 𝓤 H A W .typed (ran-day s) (LL.val Rn.the-type Rn′.the-laws (ran-day s) ∷ []) ran-is .0)) $
-        returns ! (look ! 60 refl) $ forget ! 60 refl $ forget ! 58 refl $ forget ! 56 refl $ forget ! 54 refl $ forget ! 52 refl $ forget ! 50 refl $ forget ! 48 refl $ forget ! 46 refl $ forget ! 44 refl $ forget ! 42 refl $
-        forget ! 40 refl $ forget ! 38 refl $ move ! (60 ∷ 61 ∷ []) $ free1 ! $ move ! (58 ∷ 59 ∷ []) $ free1 ! $ move ! (56 ∷ 57 ∷ []) $ free1 ! $ move ! (54 ∷ 55 ∷ []) $ free1 ! $ move ! (52 ∷ 53 ∷ []) $ free1 ! $
-        move ! (50 ∷ 51 ∷ []) $ free1 ! $ move ! (48 ∷ 49 ∷ []) $ free1 ! $ move ! (46 ∷ 47 ∷ []) $ free1 ! $ move ! (44 ∷ 45 ∷ []) $ free1 ! $ move ! (42 ∷ 43 ∷ []) $ free1 ! $ move ! (40 ∷ 41 ∷ []) $ free1 ! $ move ! (38 ∷ 39 ∷ []) $
-        free1 ! $ move ! (36 ∷ 37 ∷ []) $ free1 ! $ move ! (34 ∷ 35 ∷ []) $ free1 ! $ move ! (32 ∷ 33 ∷ []) $ free1 ! $ move ! (30 ∷ 31 ∷ []) $ free1 ! $ move ! (28 ∷ 29 ∷ []) $ free1 ! $ move ! (26 ∷ 27 ∷ []) $ free1 ! $
-        move ! (24 ∷ 25 ∷ []) $ free1 ! $ move ! (22 ∷ 23 ∷ []) $ free1 ! $ move ! (20 ∷ 21 ∷ []) $ free1 ! $ move ! (18 ∷ 19 ∷ []) $ free1 ! $ move ! (16 ∷ 17 ∷ []) $ free1 ! $ move ! (14 ∷ 15 ∷ []) $ free1 ! $ move ! (12 ∷ 13 ∷ []) $
-        free1 ! $ free0 ! $ keep ! (0 ∷ 1 ∷ 2 ∷ 3 ∷ 4 ∷ 5 ∷ 6 ∷ 7 ∷ 8 ∷ 9 ∷ 10 ∷ 11 ∷ []) $ by ! (leaves (ran-day s) (s .clients) (s .output) ran-is (s .same-count) (s .same-size) (stand-ends l mk nx rk t ys es os₀ asked s over))
+        assigns ! (agg ! (and-then ! (lit ! tt) (and-then ! (load ! (from ! (stop !)) (look ! 42 refl))
+        (and-then ! (load ! (from ! (stop !)) (look ! 40 refl)) (no-more !))))) (from ! (stop !))
+        (init ! 60 refl (LL.lawful Rn.the-type Rn′.the-laws 𝓤 H A W .typed (ran-day s) (LL.val Rn.the-type Rn′.the-laws (ran-day s) ∷ []) ran-is .0)) $
+        returns ! (look ! 60 refl) $ forget ! 60 refl $ forget ! 58 refl $ forget ! 56 refl $ forget ! 54 refl $ forget ! 52 refl $ forget ! 50 refl $ forget ! 48 refl $
+        forget ! 46 refl $ forget ! 44 refl $ forget ! 42 refl $
+        forget ! 40 refl $ forget ! 38 refl $ move ! (60 ∷ 61 ∷ []) $ free1 ! $ move ! (58 ∷ 59 ∷ []) $ free1 ! $ move ! (56 ∷ 57 ∷ []) $ free1 ! $
+        move ! (54 ∷ 55 ∷ []) $ free1 ! $ move ! (52 ∷ 53 ∷ []) $ free1 ! $
+        move ! (50 ∷ 51 ∷ []) $ free1 ! $ move ! (48 ∷ 49 ∷ []) $ free1 ! $ move ! (46 ∷ 47 ∷ []) $ free1 ! $ move ! (44 ∷ 45 ∷ []) $ free1 ! $ move ! (42 ∷ 43 ∷ []) $
+        free1 ! $ move ! (40 ∷ 41 ∷ []) $ free1 ! $ move ! (38 ∷ 39 ∷ []) $
+        free1 ! $ move ! (36 ∷ 37 ∷ []) $ free1 ! $ move ! (34 ∷ 35 ∷ []) $ free1 ! $ move ! (32 ∷ 33 ∷ []) $ free1 ! $ move ! (30 ∷ 31 ∷ []) $ free1 ! $
+        move ! (28 ∷ 29 ∷ []) $ free1 ! $ move ! (26 ∷ 27 ∷ []) $ free1 ! $
+        move ! (24 ∷ 25 ∷ []) $ free1 ! $ move ! (22 ∷ 23 ∷ []) $ free1 ! $ move ! (20 ∷ 21 ∷ []) $ free1 ! $ move ! (18 ∷ 19 ∷ []) $ free1 ! $ move ! (16 ∷ 17 ∷ []) $
+        free1 ! $ move ! (14 ∷ 15 ∷ []) $ free1 ! $ move ! (12 ∷ 13 ∷ []) $
+        free1 ! $ free0 ! $ keep ! (0 ∷ 1 ∷ 2 ∷ 3 ∷ 4 ∷ 5 ∷ 6 ∷ 7 ∷ 8 ∷ 9 ∷ 10 ∷ 11 ∷ []) $
+        by ! (leaves (ran-day s) (s .clients) (s .output) ran-is (s .same-count) (s .same-size) (stand-ends l mk nx rk t ys es os₀ asked s over))
       where
         w-fits : s .written < 2 ^ 64
         w-fits = omega (arith, written-fits l mk nx rk t ys es os₀ asked s, go .0)
@@ -366,13 +386,17 @@ module _ {M : Type 1} (𝓤 : URA M) (H : Heap 𝓤) (A : Atoms 𝓤) (W : Given
     unfolding afterTurn stand-taken stand-passed stand-out
     turns Q leave s =
         assigns ! (of-opd ! (load ! (from ! (fld ! refl (stop !))) (look-in ! 46 (sub ! 1 refl (whole !))))) (from ! (stop !)) (init ! 30 refl (tt, record { fits = ge .0 .1 .0 })) $
-        assigns ! (bin ! (load ! (from ! (stop !)) (look ! 38 refl)) (load ! (from ! (stop !)) (look ! 30 refl)) tt) (from ! (stop !)) (init ! 28 refl (tt, tt)) $ guards ! (load ! (from ! (stop !)) (look ! 28 refl))
+        assigns ! (bin ! (load ! (from ! (stop !)) (look ! 38 refl)) (load ! (from ! (stop !)) (look ! 30 refl)) tt) (from ! (stop !)) (init ! 28 refl (tt, tt)) $
+        guards ! (load ! (from ! (stop !)) (look ! 28 refl))
         (λ less.
         -- `event_at`
-        move ! (10 ∷ []) $ use1 W (‵ OwnE ⊛ ‵ OwnE) (shr-slice-copy 𝓤 H A W (named 3) κe u32 .twice refE (vE ∷ [])) $ split ! $ nothing ! $ owned ! usize (Is usize) (uint-makes 𝓤 H A W w64) (s .i) (vint w64 (s .i) ∷ []) (refl, i-fits) $
+        move ! (10 ∷ []) $ use1 W (‵ OwnE ⊛ ‵ OwnE) (shr-slice-copy 𝓤 H A W (named 3) κe u32 .twice refE (vE ∷ [])) $ split ! $ nothing ! $
+        owned ! usize (Is usize) (uint-makes 𝓤 H A W w64) (s .i) (vint w64 (s .i) ∷ []) (refl, i-fits) $
         fjoin ! $ move ! (2 ∷ 0 ∷ []) $ fjoin ! $ nothing ! $ move ! (6 ∷ 0 ∷ []) $ join ! $ use2 W (raw (EventAt 𝓤 H A at-mem run .pre (toD (s .i)))) (goesD (s .i) (ltb→lt (s .i) (length es) less)) $
-        calls-at ! (fmOf 𝓤 H (W .laws) 𝓣) (EventAt 𝓤 H A at-mem run) known-d (toD (s .i)) (and-then ! (load ! (from ! (stop !)) (look ! 46 refl)) (and-then ! (load ! (from ! (stop !)) (look ! 38 refl)) (no-more !))) (λ u.
-        use1 W (later (some (λ (d : Event). ((‵ (flft κe qe) ⊛ ‵ ftrue) ⊛ ‵ (Ev.the-row .own d (u ∷ []))) ⊛ raw (ensured 𝓤 H A ea.ended (ea.clauses 𝓤 H A at-mem run) (κe, tt) (refE, (s .i, tt)) tt d)))) (id⊢ 𝓤 _) $ await ! tt $ pick ! (λ d.
+        calls-at ! (fmOf 𝓤 H (W .laws) 𝓣) (EventAt 𝓤 H A at-mem run) known-d (toD (s .i))
+        (and-then ! (load ! (from ! (stop !)) (look ! 46 refl)) (and-then ! (load ! (from ! (stop !)) (look ! 38 refl)) (no-more !))) (λ u.
+        use1 W (later (some (λ (d : Event). ((‵ (flft κe qe) ⊛ ‵ ftrue) ⊛ ‵ (Ev.the-row .own d (u ∷ []))) ⊛ raw
+        (ensured 𝓤 H A ea.ended (ea.clauses 𝓤 H A at-mem run) (κe, tt) (refE, (s .i, tt)) tt d)))) (id⊢ 𝓤 _) $ await ! tt $ pick ! (λ d.
         split ! $ move ! (1 ∷ []) $ use1 W (raw (fact 𝓤 (d ≡ eventOf (getD es (s .i) 0)))) (saidD (s .i) d) $ heard ! (d ≡ eventOf (getD es (s .i) 0)) (λ ed. split ! $ move ! (1 ∷ []) $
         peeks ! Ev.the-row (Is Ev.the-row) (shows 𝓤 H A Ev.the-row) d (u ∷ []) (λ isd. let-go ! $ split ! $ move ! (1 ∷ []) $ let-go ! $
         land ! (from ! (stop !)) (init ! 36 refl (LL.lawful Ev.the-type Ev′.the-laws 𝓤 H A W .typed d (u ∷ []) isd .0)) $
@@ -380,40 +404,70 @@ module _ {M : Type 1} (𝓤 : URA M) (H : Heap 𝓤) (A : Atoms 𝓤) (W : Given
         assigns ! (of-opd ! (load ! (from ! (fld ! refl (stop !))) (look-in ! 36 (sub ! 0 refl (whole !))))) (from ! (stop !)) (init ! 34 refl (tt, record { fits = client-fits d u isd })) $
         assigns ! (bin ! (load ! (from ! (stop !)) (look ! 38 refl)) (lit ! tt) (record { fits = later-fits less })) (from ! (stop !)) (store ! 38 refl (tt, record { fits = later-fits less })) $
         assigns ! (of-opd ! (load ! (from ! (fld ! refl (stop !))) (look-in ! 48 (sub ! 1 refl (whole !))))) (from ! (stop !)) (store ! 30 refl (tt, record { fits = gn .0 })) $
-        assigns ! (bin ! (load ! (from ! (stop !)) (look ! 34 refl)) (load ! (from ! (stop !)) (look ! 30 refl)) tt) (from ! (stop !)) (store ! 28 refl (tt, tt)) $ branches ! (load ! (from ! (stop !)) (look ! 28 refl))
-        (λ in-list. assigns ! (bin ! (load ! (from ! (stop !)) (look ! 34 refl)) (lit ! tt) (record { fits = far d in-list })) (from ! (stop !)) (init ! 26 refl (tt, record { fits = far d in-list })) $
+        assigns ! (bin ! (load ! (from ! (stop !)) (look ! 34 refl)) (load ! (from ! (stop !)) (look ! 30 refl)) tt) (from ! (stop !)) (store ! 28 refl (tt, tt)) $
+        branches ! (load ! (from ! (stop !)) (look ! 28 refl))
+        (λ in-list. assigns ! (bin ! (load ! (from ! (stop !)) (look ! 34 refl)) (lit ! tt) (record { fits = far d in-list })) (from ! (stop !))
+        (init ! 26 refl (tt, record { fits = far d in-list })) $
         assigns ! (bin ! (load ! (from ! (fld ! refl (stop !))) (look-in ! 48 (sub ! 0 refl (whole !)))) (load ! (from ! (stop !)) (look ! 26 refl)) tt) (from ! (stop !)) (init ! 24 refl (tt, tt)) $
         rewrite ! 24 (λ (p : ℕ). ‵ (fat fullShare tyPtr l18 0 (vptr b p))) (sym (place-is 40 o (d .client))) refl $
         -- the client's record is copied out
         move ! (10 ∷ []) $ fsplit ! $ move ! (1 ∷ []) $ fsplit ! $ move ! (0 ∷ 1 ∷ 7 ∷ []) $ opens-slice ! tt T.the-row (s .clients) b o $
-        elem-out ! T.the-row (Is T.the-row) (shows 𝓤 H A T.the-row) (LL.vals T.the-type T′.the-laws) (LL.tells T.the-type T′.the-laws) fullShare (s .clients) (d .client) none b o (low d in-list) (λ gc.
-        assigns ! (of-opd ! (load ! (from ! (hop ! (look ! 29 refl) (stop !))) (look-raw ! 0 refl))) (from ! (stop !)) (init ! 27 refl (LL.lawful T.the-type T′.the-laws 𝓤 H A W .typed (old d) ((mach (old d)) ∷ []) gc .0)) $
-        elem-back ! T.the-row fullShare (s .clients) (d .client) none (mach (old d) ∷ []) b o (low d in-list) $ closes-slice ! tt T.the-row (s .clients) (s .clients) refl b o $ fjoin ! $ move ! (2 ∷ 0 ∷ []) $ fjoin ! $
+        elem-out ! T.the-row (Is T.the-row) (shows 𝓤 H A T.the-row) (LL.vals T.the-type T′.the-laws) (LL.tells T.the-type T′.the-laws) fullShare (s .clients)
+        (d .client) none b o (low d in-list) (λ gc.
+        assigns ! (of-opd ! (load ! (from ! (hop ! (look ! 29 refl) (stop !))) (look-raw ! 0 refl))) (from ! (stop !))
+        (init ! 27 refl (LL.lawful T.the-type T′.the-laws 𝓤 H A W .typed (old d) ((mach (old d)) ∷ []) gc .0)) $
+        elem-back ! T.the-row fullShare (s .clients) (d .client) none (mach (old d) ∷ []) b o (low d in-list) $
+        closes-slice ! tt T.the-row (s .clients) (s .clients) refl b o $ fjoin ! $ move ! (2 ∷ 0 ∷ []) $ fjoin ! $
         assigns ! (addr ! (from ! (fld ! refl (hop ! (look-in ! 44 (sub ! 0 refl (whole !))) (stop !))))) (from ! (stop !)) (init ! 20 refl (tt, tt)) $
-        assigns ! (agg ! (and-then ! (load ! (from ! (stop !)) (look ! 20 refl)) (and-then ! (load ! (from ! (fld ! refl (stop !))) (look-in ! 44 (sub ! 1 refl (whole !)))) (no-more !)))) (from ! (stop !)) (init ! 18 refl (tt, (tt, (record { fits = go .0 }, tt)))) $
+        assigns ! (agg ! (and-then ! (load ! (from ! (stop !)) (look ! 20 refl))
+        (and-then ! (load ! (from ! (fld ! refl (stop !))) (look-in ! 44 (sub ! 1 refl (whole !)))) (no-more !)))) (from ! (stop !))
+        (init ! 18 refl (tt, (tt, (record { fits = go .0 }, tt)))) $
         -- `out` is lent again, for a lifetime ν of the call
         lft-new ! tt (λ ν. move ! (12 ∷ 7 ∷ []) $ rewrite ! 0 (λ (m : ℕ). ‵ (OwnO (s .output) m)) (sym (s .same-size)) refl $
-        use2 W (later (some (λ (δ : GName). ‵ (Again ν δ (s .output) (length (s .output))) ⊛ ‵ (LentOn u8 κo qo γo bo oo (ν ∷ []) δ (s .output))))) (lends-on u8 κo qo γo bo oo 𝓤 H A W (named 4) (s .output) room-o (ν ∷ []) (named 2)) $ await ! tt $ pick ! (λ δ.
-        split ! $ rewrite ! 0 (λ (m : ℕ). ‵ (Again ν δ (s .output) m)) (s .same-size) refl $ move ! (9 ∷ []) $ use1 W (‵ OwnM ⊛ ‵ OwnM) (shr-copy 𝓤 H A W (named 0) κa R500 .twice refM (vM ∷ [])) $ split ! $ move ! (11 ∷ []) $
-        use1 W (‵ OwnN ⊛ ‵ OwnN) (shr-copy 𝓤 H A W (named 0) κa R512 .twice refN (vN ∷ [])) $ split ! $ move ! (13 ∷ []) $ use1 W (‵ OwnK ⊛ ‵ OwnK) (shr-copy 𝓤 H A W (named 0) κa R16 .twice refK (vK ∷ [])) $ split ! $ move ! (15 ∷ []) $
-        use1 W (‵ OwnT ⊛ ‵ OwnT) (shr-slice-copy 𝓤 H A W (named 1) κt u32 .twice refT (vT ∷ [])) $ split ! $ nothing ! $ owned ! usize (Is usize) (uint-makes 𝓤 H A W w64) (s .written) (vint w64 (s .written) ∷ []) (refl, w-fits) $
+        use2 W (later (some (λ (δ : GName). ‵ (Again ν δ (s .output) (length (s .output))) ⊛ ‵ (LentOn u8 κo qo γo bo oo (ν ∷ []) δ (s .output)))))
+        (lends-on u8 κo qo γo bo oo 𝓤 H A W (named 4) (s .output) room-o (ν ∷ []) (named 2)) $ await ! tt $ pick ! (λ δ.
+        split ! $ rewrite ! 0 (λ (m : ℕ). ‵ (Again ν δ (s .output) m)) (s .same-size) refl $ move ! (9 ∷ []) $
+        use1 W (‵ OwnM ⊛ ‵ OwnM) (shr-copy 𝓤 H A W (named 0) κa R500 .twice refM (vM ∷ [])) $ split ! $ move ! (11 ∷ []) $
+        use1 W (‵ OwnN ⊛ ‵ OwnN) (shr-copy 𝓤 H A W (named 0) κa R512 .twice refN (vN ∷ [])) $ split ! $ move ! (13 ∷ []) $
+        use1 W (‵ OwnK ⊛ ‵ OwnK) (shr-copy 𝓤 H A W (named 0) κa R16 .twice refK (vK ∷ [])) $ split ! $ move ! (15 ∷ []) $
+        use1 W (‵ OwnT ⊛ ‵ OwnT) (shr-slice-copy 𝓤 H A W (named 1) κt u32 .twice refT (vT ∷ [])) $ split ! $ nothing ! $
+        owned ! usize (Is usize) (uint-makes 𝓤 H A W w64) (s .written) (vint w64 (s .written) ∷ []) (refl, w-fits) $
         fjoin ! $ move ! (9 ∷ 0 ∷ []) $ fjoin ! $ owned ! u32 (Is u32) (uint-makes 𝓤 H A W w32) (d .symbol) (vint w32 (d .symbol) ∷ []) (refl, symbol-fits d u isd) $ fjoin ! $
-        owned ! T.the-row (Is T.the-row) (LL.makes T.the-type T′.the-plain 𝓤 H A) (old d) (mach (old d) ∷ []) gc $ fjoin ! $ move ! (2 ∷ 0 ∷ []) $ fjoin ! $ move ! (3 ∷ 0 ∷ []) $ fjoin ! $ move ! (4 ∷ 0 ∷ []) $ fjoin ! $
+        owned ! T.the-row (Is T.the-row) (LL.makes T.the-type T′.the-plain 𝓤 H A) (old d) (mach (old d) ∷ []) gc $ fjoin ! $ move ! (2 ∷ 0 ∷ []) $ fjoin ! $
+        move ! (3 ∷ 0 ∷ []) $ fjoin ! $ move ! (4 ∷ 0 ∷ []) $ fjoin ! $
         owned ! usize (Is usize) (uint-makes 𝓤 H A W w64) (d .client) (vint w64 (d .client) ∷ []) (refl, client-fits d u isd) $ fjoin ! $ move ! (5 ∷ 0 ∷ []) $ fjoin ! $
-        owned ! Li.the-row (Is Li.the-row) (LL.makes Li.the-type Li′.the-plain 𝓤 H A) l (vL ∷ []) gl $ fjoin ! $ nothing ! $ move ! (7 ∷ 0 ∷ []) $ join ! $ move ! (12 ∷ 0 ∷ []) $ join ! $ move ! (11 ∷ 0 ∷ []) $ join ! $
-        use2 W (raw (Take 𝓤 H A at-mem run .pre (toT ν (d .client) (old d) (d .symbol) δ (s .output) (s .written)))) (goesT ν (d .client) (old d) (d .symbol) δ (s .output) (s .written) (room-now less d ed in-list)) $
-        calls-at ! (fmOf 𝓤 H (W .laws) 𝓣) (Take 𝓤 H A at-mem run) known-t (toT ν (d .client) (old d) (d .symbol) δ (s .output) (s .written)) (and-then ! (load ! (from ! (stop !)) (look ! 56 refl)) (and-then ! (load ! (from ! (stop !)) (look ! 54 refl)) (and-then ! (load ! (from ! (stop !)) (look ! 32 refl)) (and-then ! (load ! (from ! (stop !)) (look ! 52 refl)) (and-then ! (load ! (from ! (stop !)) (look ! 50 refl)) (and-then ! (load ! (from ! (stop !)) (look ! 48 refl)) (and-then ! (load ! (from ! (stop !)) (look ! 20 refl)) (and-then ! (load ! (from ! (fld ! refl (stop !))) (look-in ! 34 (sub ! 1 refl (whole !)))) (and-then ! (load ! (from ! (stop !)) (look ! 16 refl)) (and-then ! (load ! (from ! (stop !)) (look ! 40 refl)) (no-more !))))))))))) (λ v.
-        use1 W (later (some (λ (r : Taken). ((‵ (flft κa qa) ⊛ (‵ (flft κt qt) ⊛ (‵ (flft (ν ∷ []) fullShare) ⊛ ‵ ftrue))) ⊛ ‵ (Ta.the-row .own r (v ∷ []))) ⊛ raw (ensured 𝓤 H A tk.ended (tk.clauses 𝓤 H A at-mem run) (κa, (κt, (ν ∷ [], tt))) (argsT (d .client) (old d) (d .symbol) δ (s .output) (s .written)) tt r)))) (id⊢ 𝓤 _) $ await ! tt $ pick ! (λ r.
+        owned ! Li.the-row (Is Li.the-row) (LL.makes Li.the-type Li′.the-plain 𝓤 H A) l (vL ∷ []) gl $ fjoin ! $ nothing ! $ move ! (7 ∷ 0 ∷ []) $ join ! $
+        move ! (12 ∷ 0 ∷ []) $ join ! $ move ! (11 ∷ 0 ∷ []) $ join ! $
+        use2 W (raw (Take 𝓤 H A at-mem run .pre (toT ν (d .client) (old d) (d .symbol) δ (s .output) (s .written))))
+        (goesT ν (d .client) (old d) (d .symbol) δ (s .output) (s .written) (room-now less d ed in-list)) $
+        calls-at ! (fmOf 𝓤 H (W .laws) 𝓣) (Take 𝓤 H A at-mem run) known-t (toT ν (d .client) (old d) (d .symbol) δ (s .output) (s .written))
+        (and-then ! (load ! (from ! (stop !)) (look ! 56 refl))
+        (and-then ! (load ! (from ! (stop !)) (look ! 54 refl))
+        (and-then ! (load ! (from ! (stop !)) (look ! 32 refl))
+        (and-then ! (load ! (from ! (stop !)) (look ! 52 refl))
+        (and-then ! (load ! (from ! (stop !)) (look ! 50 refl))
+        (and-then ! (load ! (from ! (stop !)) (look ! 48 refl))
+        (and-then ! (load ! (from ! (stop !)) (look ! 20 refl))
+        (and-then ! (load ! (from ! (fld ! refl (stop !))) (look-in ! 34 (sub ! 1 refl (whole !))))
+        (and-then ! (load ! (from ! (stop !)) (look ! 16 refl)) (and-then ! (load ! (from ! (stop !)) (look ! 40 refl)) (no-more !))))))))))) (λ v.
+        use1 W (later (some (λ (r : Taken). ((‵ (flft κa qa) ⊛ (‵ (flft κt qt) ⊛ (‵ (flft (ν ∷ []) fullShare) ⊛ ‵ ftrue))) ⊛ ‵ (Ta.the-row .own r (v ∷ []))) ⊛ raw
+        (ensured 𝓤 H A tk.ended (tk.clauses 𝓤 H A at-mem run) (κa, (κt, (ν ∷ [], tt))) (argsT (d .client) (old d) (d .symbol) δ (s .output) (s .written)) tt r))))
+        (id⊢ 𝓤 _) $ await ! tt $ pick ! (λ r.
         split ! $ move ! (1 ∷ []) $
-        use1 W (some (λ (zs : Lasts). ‵ (lasts tk.ended (κa, (κt, (ν ∷ [], tt))) (argsT (d .client) (old d) (d .symbol) δ (s .output) (s .written)) zs) ⊛ raw (fact 𝓤 (Taking l mk (d .client) nx rk t (old d) (d .symbol) (s .written) (s .output) r (last zs))))) (id⊢ 𝓤 _) $ pick ! (λ zs.
-        split ! $ move ! (1 ∷ []) $ heard ! (Taking l mk (d .client) nx rk t (old d) (d .symbol) (s .written) (s .output) r (last zs)) (λ e. fsplit ! $ let-go ! $ fsplit ! $ let-go ! $ fsplit ! $ let-go ! $ fsplit ! $ let-go ! $
-        fsplit ! $ let-go ! $ fsplit ! $ let-go ! $ fsplit ! $ let-go ! $ fsplit ! $ let-go ! $ fsplit ! $ fsplit ! $ move ! (1 ∷ []) $ feqL ! (λ lz. move ! (1 ∷ []) $ let-go ! $ move ! (1 ∷ []) $ split ! $ move ! (1 ∷ []) $
-        peeks ! Ta.the-row (Is Ta.the-row) (shows 𝓤 H A Ta.the-row) r (v ∷ []) (λ is. let-go ! $ land ! (from ! (stop !)) (init ! 31 refl (LL.lawful Ta.the-type Ta′.the-laws 𝓤 H A W .typed r (v ∷ []) is .0)) $
+        use1 W (some (λ (zs : Lasts). ‵ (lasts tk.ended (κa, (κt, (ν ∷ [], tt))) (argsT (d .client) (old d) (d .symbol) δ (s .output) (s .written)) zs) ⊛ raw
+        (fact 𝓤 (Taking l mk (d .client) nx rk t (old d) (d .symbol) (s .written) (s .output) r (last zs))))) (id⊢ 𝓤 _) $ pick ! (λ zs.
+        split ! $ move ! (1 ∷ []) $ heard ! (Taking l mk (d .client) nx rk t (old d) (d .symbol) (s .written) (s .output) r (last zs))
+        (λ e. fsplit ! $ let-go ! $ fsplit ! $ let-go ! $ fsplit ! $ let-go ! $ fsplit ! $ let-go ! $
+        fsplit ! $ let-go ! $ fsplit ! $ let-go ! $ fsplit ! $ let-go ! $ fsplit ! $ let-go ! $ fsplit ! $ fsplit ! $ move ! (1 ∷ []) $
+        feqL ! (λ lz. move ! (1 ∷ []) $ let-go ! $ move ! (1 ∷ []) $ split ! $ move ! (1 ∷ []) $
+        peeks ! Ta.the-row (Is Ta.the-row) (shows 𝓤 H A Ta.the-row) r (v ∷ [])
+        (λ is. let-go ! $ land ! (from ! (stop !)) (init ! 31 refl (LL.lawful Ta.the-type Ta′.the-laws 𝓤 H A W .typed r (v ∷ []) is .0)) $
         rewrite ! 31 (λ (u′ : Val). ‵ (fat fullShare Ta′.mir l14 0 u′)) (ap only (LL.tells Ta.the-type Ta′.the-laws r (v ∷ []) is)) refl $
         -- the lifetime is ended, and `out` comes back
         split ! $ move ! (1 ∷ []) $ split ! $ move ! (1 ∷ []) $ split ! $ move ! (1 ∷ []) $ let-go ! $ lft-end ! tt $ move ! (0 ∷ 8 ∷ 3 ∷ []) $
         use3 W (later (‵ (OwnO (last zs) (length (s .output))) ⊛ ‵ (flft κo qo))) (is-back u8 κo qo γo bo oo 𝓤 H A W (named 4) (s .output) room-o (ν ∷ []) δ (last zs) lz) $ await ! tt $ split ! $
-        rewrite ! 0 (λ (m : ℕ). ‵ (OwnO (last zs) m)) (s .same-size) refl $ assigns ! (bin ! (load ! (from ! (fld ! refl (stop !))) (look-in ! 32 (sub ! 2 refl (whole !)))) (lit ! tt) tt) (from ! (stop !)) (init ! 16 refl (tt, tt)) $
+        rewrite ! 0 (λ (m : ℕ). ‵ (OwnO (last zs) m)) (s .same-size) refl $
+        assigns ! (bin ! (load ! (from ! (fld ! refl (stop !))) (look-in ! 32 (sub ! 2 refl (whole !)))) (lit ! tt) tt) (from ! (stop !)) (init ! 16 refl (tt, tt)) $
         branches ! (load ! (from ! (stop !)) (look ! 16 refl))
         (λ accepted.
         -- the next record is stored
@@ -422,21 +476,31 @@ module _ {M : Type 1} (𝓤 : URA M) (H : Heap 𝓤) (A : Atoms 𝓤) (W : Given
         rewrite ! 12 (λ (p : ℕ). ‵ (fat fullShare tyPtr l24 0 (vptr b p))) (sym (place-is 40 o (d .client))) refl $ move ! (8 ∷ []) $ fsplit ! $ move ! (1 ∷ []) $ fsplit ! $ move ! (0 ∷ 1 ∷ 11 ∷ []) $
         opens-slice ! tt T.the-row (s .clients) b o $
         elem-out ! T.the-row (Is T.the-row) (shows 𝓤 H A T.the-row) (LL.vals T.the-type T′.the-laws) (LL.tells T.the-type T′.the-laws) fullShare (s .clients) (d .client) none b o (low d in-list) (λ _.
-        assigns ! (of-opd ! (load ! (from ! (fld ! refl (stop !))) (look-in ! 37 (sub ! 0 refl (whole !))))) (from ! (hop ! (look ! 17 refl) (stop !))) (store-raw ! 0 refl (LL.lawful T.the-type T′.the-laws 𝓤 H A W .typed (r .configuration) (mach (r .configuration) ∷ []) (next-is r v is) .0)) $
-        move ! (1 ∷ []) $ let-go ! $ owned ! T.the-row (Is T.the-row) (LL.makes T.the-type T′.the-plain 𝓤 H A) (r .configuration) (mach (r .configuration) ∷ []) (next-is r v is) $ move ! (1 ∷ 0 ∷ []) $
+        assigns ! (of-opd ! (load ! (from ! (fld ! refl (stop !))) (look-in ! 37 (sub ! 0 refl (whole !))))) (from ! (hop ! (look ! 17 refl) (stop !)))
+        (store-raw ! 0 refl (LL.lawful T.the-type T′.the-laws 𝓤 H A W .typed (r .configuration) (mach (r .configuration) ∷ []) (next-is r v is) .0)) $
+        move ! (1 ∷ []) $ let-go ! $ owned ! T.the-row (Is T.the-row) (LL.makes T.the-type T′.the-plain 𝓤 H A) (r .configuration) (mach (r .configuration) ∷ [])
+        (next-is r v is) $ move ! (1 ∷ 0 ∷ []) $
         elem-put ! T.the-row fullShare (s .clients) (d .client) (r .configuration) (mach (r .configuration) ∷ []) b o (low d in-list) $
         closes-slice ! tt T.the-row (s .clients) (set (s .clients) (d .client) (r .configuration)) (length-set (s .clients) (d .client) (r .configuration)) b o $ fjoin ! $
-        pureI ! (at-slice T.the-row (refR (set (s .clients) (d .client) (r .configuration))) (vR ∷ [])) (tt, (tt, tt)) (ap (λ (m : ℕ). sliceVal (b, o) m ∷ []) (sym (still d r)), subst (Room T.the-row) (sym (still d r)) gn) $ fjoin ! $
-        assigns-last ! (of-opd ! (load ! (from ! (fld ! refl (stop !))) (look-in ! 33 (sub ! 1 refl (whole !))))) (from ! (stop !)) (store ! 43 refl (tt, record { fits = after-fits r v is })) $ forget ! 37 refl $ forget ! 35 refl $
-        forget ! 33 refl $ forget ! 31 refl $ forget ! 29 refl $ forget ! 27 refl $ forget ! 25 refl $ forget ! 23 refl $ forget ! 21 refl $ forget ! 19 refl $ forget ! 17 refl $ forget ! 15 refl $ forget ! 13 refl $ move ! (2 ∷ []) $
-        let-go ! $ move ! (2 ∷ []) $ move ! (11 ∷ []) $ move ! (2 ∷ []) $ move ! (7 ∷ []) $ move ! (8 ∷ []) $ move ! (9 ∷ []) $ move ! (10 ∷ []) $ move ! (8 ∷ []) $ move ! (11 ∷ []) $ move ! (9 ∷ []) $ move ! (10 ∷ []) $
+        pureI ! (at-slice T.the-row (refR (set (s .clients) (d .client) (r .configuration))) (vR ∷ [])) (tt, (tt, tt))
+        (ap (λ (m : ℕ). sliceVal (b, o) m ∷ []) (sym (still d r)), subst (Room T.the-row) (sym (still d r)) gn) $ fjoin ! $
+        assigns-last ! (of-opd ! (load ! (from ! (fld ! refl (stop !))) (look-in ! 33 (sub ! 1 refl (whole !))))) (from ! (stop !))
+        (store ! 43 refl (tt, record { fits = after-fits r v is })) $ forget ! 37 refl $ forget ! 35 refl $
+        forget ! 33 refl $ forget ! 31 refl $ forget ! 29 refl $ forget ! 27 refl $ forget ! 25 refl $ forget ! 23 refl $ forget ! 21 refl $ forget ! 19 refl $
+        forget ! 17 refl $ forget ! 15 refl $ forget ! 13 refl $ move ! (2 ∷ []) $
+        let-go ! $ move ! (2 ∷ []) $ move ! (11 ∷ []) $ move ! (2 ∷ []) $ move ! (7 ∷ []) $ move ! (8 ∷ []) $ move ! (9 ∷ []) $ move ! (10 ∷ []) $ move ! (8 ∷ []) $
+        move ! (11 ∷ []) $ move ! (9 ∷ []) $ move ! (10 ∷ []) $
         move ! (11 ∷ []) $ again ! Nearer Head s (taken less d ed in-list r (last zs) lz e (eqb→eq (r .refused) 0 accepted)) (nearer less)))
-        (λ rejected. assigns-last ! (bin ! (load ! (from ! (stop !)) (look ! 40 refl)) (lit ! tt) (record { fits = more-fits less })) (from ! (stop !)) (store ! 40 refl (tt, record { fits = more-fits less })) $ forget ! 36 refl $
-        forget ! 34 refl $ forget ! 32 refl $ forget ! 30 refl $ forget ! 28 refl $ forget ! 26 refl $ forget ! 24 refl $ forget ! 22 refl $ forget ! 20 refl $ forget ! 18 refl $ forget ! 16 refl $ move ! (11 ∷ []) $ move ! (9 ∷ []) $
+        (λ rejected. assigns-last ! (bin ! (load ! (from ! (stop !)) (look ! 40 refl)) (lit ! tt) (record { fits = more-fits less })) (from ! (stop !))
+        (store ! 40 refl (tt, record { fits = more-fits less })) $ forget ! 36 refl $
+        forget ! 34 refl $ forget ! 32 refl $ forget ! 30 refl $ forget ! 28 refl $ forget ! 26 refl $ forget ! 24 refl $ forget ! 22 refl $ forget ! 20 refl $
+        forget ! 18 refl $ forget ! 16 refl $ move ! (11 ∷ []) $ move ! (9 ∷ []) $
         move ! (6 ∷ []) $ move ! (7 ∷ []) $ move ! (8 ∷ []) $ move ! (9 ∷ []) $ move ! (7 ∷ []) $ move ! (11 ∷ []) $ move ! (11 ∷ []) $ move ! (10 ∷ []) $ move ! (11 ∷ []) $
         again ! Nearer Head s (kept less d ed in-list r (last zs) lz e (nonzero (r .refused) rejected)) (nearer less))))))))))))
-        (λ absent. assigns-last ! (bin ! (load ! (from ! (stop !)) (look ! 40 refl)) (lit ! tt) (record { fits = more-fits less })) (from ! (stop !)) (store ! 40 refl (tt, record { fits = more-fits less })) $ forget ! 36 refl $
-        forget ! 34 refl $ forget ! 30 refl $ forget ! 28 refl $ move ! (11 ∷ []) $ move ! (2 ∷ []) $ move ! (11 ∷ []) $ move ! (11 ∷ []) $ move ! (11 ∷ []) $ move ! (11 ∷ []) $ move ! (11 ∷ []) $ move ! (11 ∷ []) $ move ! (8 ∷ []) $
+        (λ absent. assigns-last ! (bin ! (load ! (from ! (stop !)) (look ! 40 refl)) (lit ! tt) (record { fits = more-fits less })) (from ! (stop !))
+        (store ! 40 refl (tt, record { fits = more-fits less })) $ forget ! 36 refl $
+        forget ! 34 refl $ forget ! 30 refl $ forget ! 28 refl $ move ! (11 ∷ []) $ move ! (2 ∷ []) $ move ! (11 ∷ []) $ move ! (11 ∷ []) $ move ! (11 ∷ []) $
+        move ! (11 ∷ []) $ move ! (11 ∷ []) $ move ! (11 ∷ []) $ move ! (8 ∷ []) $
         move ! (11 ∷ []) $ move ! (11 ∷ []) $ move ! (11 ∷ []) $ again ! Nearer Head s (passed less d ed absent) (nearer less)))))))
         (λ over. forget ! 30 refl $ forget ! 28 refl $ leave s (nltb→le (s .i) (length es) over))
       where
@@ -514,13 +578,24 @@ module _ {M : Type 1} (𝓤 : URA M) (H : Heap 𝓤) (A : Atoms 𝓤) (W : Given
       qed W ((‵ (flft κa qa) ⊛ (‵ (flft κt qt) ⊛ (‵ (flft κr qr) ⊛ (‵ (flft κe qe) ⊛ (‵ (flft κo qo) ⊛ ‵ ftrue))))) ∷
       ‵ (owns (Li.the-row ∷ ShrRef (named 0) κa R500 ∷ ShrRef (named 0) κa R512 ∷ ShrRef (named 0) κa R16 ∷ ShrSlice (named 1) κt u32 ∷ MutSlice (named 2) κr T.the-row
       ∷ ShrSlice (named 3) κe u32 ∷ MutSlice (named 4) κo u8 ∷ []) x at) ∷ []) ∵ enter ! (𝓣 .C) (𝓣 .Λ) code.function (vL ∷ vM ∷ vN ∷ vK ∷ vT ∷ vR ∷ vE ∷ vO ∷ []) _ $
-      alloc1 ! (λ l0. alloc1 ! (λ l1. alloc1 ! (λ l2. alloc1 ! (λ l3. alloc1 ! (λ l4. alloc1 ! (λ l5. alloc1 ! (λ l6. alloc1 ! (λ l7. alloc1 ! (λ l8. alloc1 ! (λ l9. alloc1 ! (λ l10. alloc1 ! (λ l11. alloc1 ! (λ l12. alloc1 ! (λ l13. alloc1 ! (λ l14. alloc1 ! (λ l15. alloc1 ! (λ l16. alloc1 ! (λ l17. alloc1 ! (λ l18. alloc1 ! (λ l19. alloc1 ! (λ l20. alloc1 ! (λ l21. alloc1 ! (λ l22. alloc1 ! (λ l23. alloc1 ! (λ l24. alloc0 ! $ params1 ! $
-      pass1 ! (init ! 46 refl (LL.lawful Li.the-type Li′.the-laws 𝓤 H A W .typed l (vL ∷ []) gl .0)) $ pass1 ! (init ! 44 refl (tt, tt)) $ pass1 ! (init ! 42 refl (tt, tt)) $ pass1 ! (init ! 40 refl (tt, tt)) $
-      pass1 ! (init ! 38 refl (tt, (tt, (record { fits = gT .0 .1 .0 }, tt)))) $ pass1 ! (init ! 36 refl (tt, (tt, (record { fits = gn .0 }, tt)))) $ pass1 ! (init ! 34 refl (tt, (tt, (record { fits = ge .0 .1 .0 }, tt)))) $
+      alloc1 ! (λ l0. alloc1 ! (λ l1. alloc1 ! (λ l2. alloc1 !
+      (λ l3. alloc1 ! (λ l4. alloc1 ! (λ l5. alloc1 !
+      (λ l6. alloc1 ! (λ l7. alloc1 ! (λ l8. alloc1 !
+      (λ l9. alloc1 ! (λ l10. alloc1 ! (λ l11. alloc1 !
+      (λ l12. alloc1 ! (λ l13. alloc1 ! (λ l14. alloc1 !
+      (λ l15. alloc1 ! (λ l16. alloc1 ! (λ l17. alloc1 !
+      (λ l18. alloc1 ! (λ l19. alloc1 ! (λ l20. alloc1 ! (λ l21. alloc1 ! (λ l22. alloc1 ! (λ l23. alloc1 ! (λ l24. alloc0 ! $ params1 ! $
+      pass1 ! (init ! 46 refl (LL.lawful Li.the-type Li′.the-laws 𝓤 H A W .typed l (vL ∷ []) gl .0)) $ pass1 ! (init ! 44 refl (tt, tt)) $
+      pass1 ! (init ! 42 refl (tt, tt)) $ pass1 ! (init ! 40 refl (tt, tt)) $
+      pass1 ! (init ! 38 refl (tt, (tt, (record { fits = gT .0 .1 .0 }, tt)))) $ pass1 ! (init ! 36 refl (tt, (tt, (record { fits = gn .0 }, tt)))) $
+      pass1 ! (init ! 34 refl (tt, (tt, (record { fits = ge .0 .1 .0 }, tt)))) $
       pass1 ! (init ! 32 refl (tt, (tt, (record { fits = go .0 }, tt)))) $ pass0 ! $ assigns ! (of-opd ! (lit ! tt)) (from ! (stop !)) (init ! 30 refl (tt, record { fits = lit< tt })) $
-      assigns ! (of-opd ! (lit ! tt)) (from ! (stop !)) (init ! 28 refl (tt, record { fits = lit< tt })) $ assigns ! (of-opd ! (lit ! tt)) (from ! (stop !)) (init ! 26 refl (tt, record { fits = lit< tt })) $ move ! (50 ∷ []) $ split ! $
-      move ! (1 ∷ []) $ split ! $ move ! (1 ∷ []) $ split ! $ move ! (1 ∷ []) $ split ! $ move ! (1 ∷ []) $ split ! $ move ! (1 ∷ []) $ let-go ! $ move ! (55 ∷ []) $ fsplit ! $ move ! (1 ∷ []) $ fsplit ! $ move ! (1 ∷ []) $ fsplit ! $
-      move ! (1 ∷ []) $ fsplit ! $ move ! (1 ∷ []) $ fsplit ! $ move ! (1 ∷ []) $ fsplit ! $ move ! (1 ∷ []) $ fsplit ! $ move ! (1 ∷ []) $ fsplit ! $ move ! (1 ∷ []) $ let-go ! $ move ! (7 ∷ []) $ let-go ! $ move ! (1 ∷ []) $
+      assigns ! (of-opd ! (lit ! tt)) (from ! (stop !)) (init ! 28 refl (tt, record { fits = lit< tt })) $
+      assigns ! (of-opd ! (lit ! tt)) (from ! (stop !)) (init ! 26 refl (tt, record { fits = lit< tt })) $ move ! (50 ∷ []) $ split ! $
+      move ! (1 ∷ []) $ split ! $ move ! (1 ∷ []) $ split ! $ move ! (1 ∷ []) $ split ! $ move ! (1 ∷ []) $ split ! $ move ! (1 ∷ []) $ let-go ! $ move ! (55 ∷ []) $
+      fsplit ! $ move ! (1 ∷ []) $ fsplit ! $ move ! (1 ∷ []) $ fsplit ! $
+      move ! (1 ∷ []) $ fsplit ! $ move ! (1 ∷ []) $ fsplit ! $ move ! (1 ∷ []) $ fsplit ! $ move ! (1 ∷ []) $ fsplit ! $ move ! (1 ∷ []) $ fsplit ! $ move ! (1 ∷ []) $
+      let-go ! $ move ! (7 ∷ []) $ let-go ! $ move ! (1 ∷ []) $
       move ! (2 ∷ []) $ move ! (3 ∷ []) $ move ! (4 ∷ []) $ move ! (5 ∷ []) $ move ! (6 ∷ []) $ move ! (7 ∷ []) $ move ! (8 ∷ []) $ move ! (9 ∷ []) $ move ! (10 ∷ []) $ move ! (11 ∷ []) $
       looped 𝓣 known-d known-t l0 l1 l2 l3 l4 l5 l6 l7 l8 l9 l10 l11 l12 l13 l14 l15 l16 l17 l18 l19 l20 l21 l22 l23 l24)))))))))))))))))))))))))
 

@@ -411,138 +411,244 @@ module _ {M : Type 1} (𝓤 : URA M) (H : Heap 𝓤) (A : Atoms 𝓤) (W : Given
       qed W ((‵ (flft κt qt) ⊛ (‵ (flft κr qr) ⊛ (‵ (flft κe qe) ⊛ (‵ (flft κo qo) ⊛ ‵ ftrue)))) ∷
       ‵ (owns (Au.the-row ∷ ShrSlice (named 0) κt u32 ∷ MutSlice (named 1) κr T.the-row ∷ ShrSlice (named 2) κe u32 ∷ MutSlice (named 3) κo u8 ∷ []) x at) ∷ []) ∵
       enter ! (𝓣 .C) (𝓣 .Λ) code.function (vA ∷ vT ∷ vR ∷ vE ∷ vO ∷ []) _ $
-      alloc1 ! (λ l0. alloc1 ! (λ l1. alloc1 ! (λ l2. alloc1 ! (λ l3. alloc1 ! (λ l4. alloc1 ! (λ l5. alloc1 ! (λ l6. alloc1 ! (λ l7. alloc1 ! (λ l8. alloc1 ! (λ l9. alloc1 ! (λ l10. alloc1 ! (λ l11. alloc1 ! (λ l12. alloc1 ! (λ l13. alloc1 ! (λ l14. alloc1 ! (λ l15. alloc1 ! (λ l16. alloc1 ! (λ l17. alloc1 ! (λ l18. alloc1 ! (λ l19. alloc1 ! (λ l20. alloc1 ! (λ l21. alloc1 ! (λ l22. alloc1 ! (λ l23. alloc1 ! (λ l24. alloc1 ! (λ l25. alloc1 ! (λ l26. alloc0 ! $ params1 ! $
+      alloc1 ! (λ l0. alloc1 ! (λ l1. alloc1 ! (λ l2. alloc1 !
+      (λ l3. alloc1 ! (λ l4. alloc1 ! (λ l5. alloc1 !
+      (λ l6. alloc1 ! (λ l7. alloc1 ! (λ l8. alloc1 !
+      (λ l9. alloc1 ! (λ l10. alloc1 ! (λ l11. alloc1 !
+      (λ l12. alloc1 ! (λ l13. alloc1 ! (λ l14. alloc1 !
+      (λ l15. alloc1 ! (λ l16. alloc1 ! (λ l17. alloc1 !
+      (λ l18. alloc1 ! (λ l19. alloc1 ! (λ l20. alloc1 !
+      (λ l21. alloc1 ! (λ l22. alloc1 ! (λ l23. alloc1 ! (λ l24. alloc1 ! (λ l25. alloc1 ! (λ l26. alloc0 ! $ params1 ! $
       pass1 ! (init ! 50 refl (LL.lawful Au.the-type Au′.the-laws 𝓤 H A W .typed a (vA ∷ []) ga .0)) $ pass1 ! (init ! 48 refl (tt, (tt, (record { fits = gT .0 .1 .0 }, tt)))) $
-      pass1 ! (init ! 46 refl (tt, (tt, (record { fits = gn .0 }, tt)))) $ pass1 ! (init ! 44 refl (tt, (tt, (record { fits = ge .0 .1 .0 }, tt)))) $ pass1 ! (init ! 42 refl (tt, (tt, (record { fits = go .0 }, tt)))) $ pass0 ! $
-      move ! (54 ∷ []) $ split ! $ move ! (1 ∷ []) $ split ! $ move ! (1 ∷ []) $ split ! $ move ! (1 ∷ []) $ split ! $ move ! (1 ∷ []) $ let-go ! $ move ! (58 ∷ []) $ fsplit ! $ move ! (1 ∷ []) $ fsplit ! $ move ! (1 ∷ []) $ fsplit ! $
+      pass1 ! (init ! 46 refl (tt, (tt, (record { fits = gn .0 }, tt)))) $ pass1 ! (init ! 44 refl (tt, (tt, (record { fits = ge .0 .1 .0 }, tt)))) $
+      pass1 ! (init ! 42 refl (tt, (tt, (record { fits = go .0 }, tt)))) $ pass0 ! $
+      move ! (54 ∷ []) $ split ! $ move ! (1 ∷ []) $ split ! $ move ! (1 ∷ []) $ split ! $ move ! (1 ∷ []) $ split ! $ move ! (1 ∷ []) $ let-go ! $ move ! (58 ∷ []) $
+      fsplit ! $ move ! (1 ∷ []) $ fsplit ! $ move ! (1 ∷ []) $ fsplit ! $
       move ! (1 ∷ []) $ fsplit ! $ move ! (1 ∷ []) $ fsplit ! $ move ! (1 ∷ []) $ let-go ! $ move ! (4 ∷ []) $ let-go ! $
       assigns ! (of-opd ! (load ! (from ! (fld ! refl (stop !))) (look-in ! 54 (sub ! 1 refl (whole !))))) (from ! (stop !)) (init ! 36 refl (tt, record { fits = gn .0 })) $
       -- rows 11, 12 and 20
-      move ! (3 ∷ []) $ use1 W (‵ OwnT ⊛ ‵ OwnT) (shr-slice-copy 𝓤 H A W (named 0) κt u32 .twice refT (vT ∷ [])) $ split ! $ move ! (8 ∷ 1 ∷ []) $ use2 W (raw (Enter 𝓤 H A at-mem run .pre toM)) goesM $
-      calls-at ! (fmOf 𝓤 H (W .laws) 𝓣) (Enter 𝓤 H A at-mem run) known-m toM (and-then ! (load ! (from ! (stop !)) (look ! 58 refl)) (and-then ! (load ! (from ! (stop !)) (look ! 56 refl)) (and-then ! (load ! (from ! (stop !)) (look ! 36 refl)) (no-more !)))) (λ v.
-      use1 W (later (some (λ (m : ListEntry). ((‵ (flft κt qt) ⊛ ‵ ftrue) ⊛ ‵ (En.the-row .own m (v ∷ []))) ⊛ raw (ensured 𝓤 H A el.ended (el.clauses 𝓤 H A at-mem run) (κt, tt) argsM tt m)))) (id⊢ 𝓤 _) $ await ! tt $ pick ! (λ m.
+      move ! (3 ∷ []) $ use1 W (‵ OwnT ⊛ ‵ OwnT) (shr-slice-copy 𝓤 H A W (named 0) κt u32 .twice refT (vT ∷ [])) $ split ! $ move ! (8 ∷ 1 ∷ []) $
+      use2 W (raw (Enter 𝓤 H A at-mem run .pre toM)) goesM $
+      calls-at ! (fmOf 𝓤 H (W .laws) 𝓣) (Enter 𝓤 H A at-mem run) known-m toM
+      (and-then ! (load ! (from ! (stop !)) (look ! 58 refl))
+      (and-then ! (load ! (from ! (stop !)) (look ! 56 refl)) (and-then ! (load ! (from ! (stop !)) (look ! 36 refl)) (no-more !)))) (λ v.
+      use1 W (later (some (λ (m : ListEntry). ((‵ (flft κt qt) ⊛ ‵ ftrue) ⊛ ‵ (En.the-row .own m (v ∷ []))) ⊛ raw
+      (ensured 𝓤 H A el.ended (el.clauses 𝓤 H A at-mem run) (κt, tt) argsM tt m)))) (id⊢ 𝓤 _) $ await ! tt $ pick ! (λ m.
       split ! $ move ! (1 ∷ []) $ use1 W (raw (fact 𝓤 (m ≡ listEntryOf a t n))) (saidM m) $ heard ! (m ≡ listEntryOf a t n) (λ em. split ! $ move ! (1 ∷ []) $
       peeks ! En.the-row (Is En.the-row) (shows 𝓤 H A En.the-row) m (v ∷ []) (λ ism. let-go ! $ split ! $ move ! (1 ∷ []) $ let-go ! $
       land ! (from ! (stop !)) (init ! 48 refl (LL.lawful En.the-type En′.the-laws 𝓤 H A W .typed m (v ∷ []) ism .0)) $
       rewrite ! 48 (λ (u : Val). ‵ (fat fullShare En′.mir l6 0 u)) (ap only (LL.tells En.the-type En′.the-laws m (v ∷ []) ism)) refl $
-      assigns ! (bin ! (load ! (from ! (fld ! refl (stop !))) (look-in ! 48 (sub ! 0 refl (whole !)))) (lit ! tt) tt) (from ! (stop !)) (init ! 34 refl (tt, tt)) $ early ! (load ! (from ! (stop !)) (look ! 34 refl))
+      assigns ! (bin ! (load ! (from ! (fld ! refl (stop !))) (look-in ! 48 (sub ! 0 refl (whole !)))) (lit ! tt) tt) (from ! (stop !)) (init ! 34 refl (tt, tt)) $
+      early ! (load ! (from ! (stop !)) (look ! 34 refl))
       (λ bad. nothing ! $ use1 W (raw (Refused 𝓤 H A at-mem run .pre (toX (m .refusal)))) (goesX (m .refusal) (row-fits m v ism)) $
-      calls-at ! (fmOf 𝓤 H (W .laws) 𝓣) (Refused 𝓤 H A at-mem run) known-x (toX (m .refusal)) (and-then ! (load ! (from ! (fld ! refl (stop !))) (look-in ! 49 (sub ! 0 refl (whole !)))) (no-more !)) (λ rv.
-      use1 W (later (some (λ (r : RanFor). (‵ ftrue ⊛ ‵ (Rn.the-row .own r (rv ∷ []))) ⊛ raw (ensured 𝓤 H A rf.ended (rf.clauses 𝓤 H A at-mem run) tt ((m .refusal), tt) tt r)))) (id⊢ 𝓤 _) $ await ! tt $ pick ! (λ r. split ! $
+      calls-at ! (fmOf 𝓤 H (W .laws) 𝓣) (Refused 𝓤 H A at-mem run) known-x (toX (m .refusal))
+      (and-then ! (load ! (from ! (fld ! refl (stop !))) (look-in ! 49 (sub ! 0 refl (whole !)))) (no-more !)) (λ rv.
+      use1 W (later (some (λ (r : RanFor). (‵ ftrue ⊛ ‵ (Rn.the-row .own r (rv ∷ []))) ⊛ raw
+      (ensured 𝓤 H A rf.ended (rf.clauses 𝓤 H A at-mem run) tt ((m .refusal), tt) tt r)))) (id⊢ 𝓤 _) $ await ! tt $ pick ! (λ r. split ! $
       move ! (1 ∷ []) $ use1 W (raw (fact 𝓤 (r ≡ refusedRunFor (m .refusal)))) (saidX (m .refusal) r) $ heard ! (r ≡ refusedRunFor (m .refusal)) (λ er. split ! $ move ! (1 ∷ []) $
-      peeks ! Rn.the-row (Is Rn.the-row) (shows 𝓤 H A Rn.the-row) r (rv ∷ []) (λ isr. let-go ! $ let-go ! $ land ! (from ! (stop !)) (init ! 60 refl (LL.lawful Rn.the-type Rn′.the-laws 𝓤 H A W .typed r (rv ∷ []) isr .0)) $
-      rewrite ! 60 (λ (u′ : Val). ‵ (fat fullShare Rn′.mir l0 0 u′)) (ap only (LL.tells Rn.the-type Rn′.the-laws r (rv ∷ []) isr)) refl $ returns-within ! Post refl (look ! 60 refl) $ forget ! 60 refl $ forget ! 58 refl $
-      forget ! 56 refl $ forget ! 54 refl $ forget ! 52 refl $ forget ! 50 refl $ forget ! 48 refl $ forget ! 36 refl $ forget ! 34 refl $ move ! (60 ∷ 61 ∷ []) $ free1 ! $ move ! (58 ∷ 59 ∷ []) $ free1 ! $ move ! (56 ∷ 57 ∷ []) $
-      free1 ! $ move ! (54 ∷ 55 ∷ []) $ free1 ! $ move ! (52 ∷ 53 ∷ []) $ free1 ! $ move ! (50 ∷ 51 ∷ []) $ free1 ! $ move ! (48 ∷ 49 ∷ []) $ free1 ! $ move ! (46 ∷ 47 ∷ []) $ free1 ! $ move ! (44 ∷ 45 ∷ []) $ free1 ! $
-      move ! (42 ∷ 43 ∷ []) $ free1 ! $ move ! (40 ∷ 41 ∷ []) $ free1 ! $ move ! (38 ∷ 39 ∷ []) $ free1 ! $ move ! (36 ∷ 37 ∷ []) $ free1 ! $ move ! (34 ∷ 35 ∷ []) $ free1 ! $ move ! (32 ∷ 33 ∷ []) $ free1 ! $ move ! (30 ∷ 31 ∷ []) $
-      free1 ! $ move ! (28 ∷ 29 ∷ []) $ free1 ! $ move ! (26 ∷ 27 ∷ []) $ free1 ! $ move ! (24 ∷ 25 ∷ []) $ free1 ! $ move ! (22 ∷ 23 ∷ []) $ free1 ! $ move ! (20 ∷ 21 ∷ []) $ free1 ! $ move ! (18 ∷ 19 ∷ []) $ free1 ! $
-      move ! (16 ∷ 17 ∷ []) $ free1 ! $ move ! (14 ∷ 15 ∷ []) $ free1 ! $ move ! (12 ∷ 13 ∷ []) $ free1 ! $ move ! (10 ∷ 11 ∷ []) $ free1 ! $ move ! (8 ∷ 9 ∷ []) $ free1 ! $ free0 ! $ keep ! (0 ∷ 7 ∷ 6 ∷ 5 ∷ 1 ∷ 4 ∷ 3 ∷ 2 ∷ []) $
+      peeks ! Rn.the-row (Is Rn.the-row) (shows 𝓤 H A Rn.the-row) r (rv ∷ [])
+      (λ isr. let-go ! $ let-go ! $ land ! (from ! (stop !)) (init ! 60 refl (LL.lawful Rn.the-type Rn′.the-laws 𝓤 H A W .typed r (rv ∷ []) isr .0)) $
+      rewrite ! 60 (λ (u′ : Val). ‵ (fat fullShare Rn′.mir l0 0 u′)) (ap only (LL.tells Rn.the-type Rn′.the-laws r (rv ∷ []) isr)) refl $
+      returns-within ! Post refl (look ! 60 refl) $ forget ! 60 refl $ forget ! 58 refl $
+      forget ! 56 refl $ forget ! 54 refl $ forget ! 52 refl $ forget ! 50 refl $ forget ! 48 refl $ forget ! 36 refl $ forget ! 34 refl $ move ! (60 ∷ 61 ∷ []) $
+      free1 ! $ move ! (58 ∷ 59 ∷ []) $ free1 ! $ move ! (56 ∷ 57 ∷ []) $
+      free1 ! $ move ! (54 ∷ 55 ∷ []) $ free1 ! $ move ! (52 ∷ 53 ∷ []) $ free1 ! $ move ! (50 ∷ 51 ∷ []) $ free1 ! $ move ! (48 ∷ 49 ∷ []) $ free1 ! $
+      move ! (46 ∷ 47 ∷ []) $ free1 ! $ move ! (44 ∷ 45 ∷ []) $ free1 ! $
+      move ! (42 ∷ 43 ∷ []) $ free1 ! $ move ! (40 ∷ 41 ∷ []) $ free1 ! $ move ! (38 ∷ 39 ∷ []) $ free1 ! $ move ! (36 ∷ 37 ∷ []) $ free1 ! $ move ! (34 ∷ 35 ∷ []) $
+      free1 ! $ move ! (32 ∷ 33 ∷ []) $ free1 ! $ move ! (30 ∷ 31 ∷ []) $
+      free1 ! $ move ! (28 ∷ 29 ∷ []) $ free1 ! $ move ! (26 ∷ 27 ∷ []) $ free1 ! $ move ! (24 ∷ 25 ∷ []) $ free1 ! $ move ! (22 ∷ 23 ∷ []) $ free1 ! $
+      move ! (20 ∷ 21 ∷ []) $ free1 ! $ move ! (18 ∷ 19 ∷ []) $ free1 ! $
+      move ! (16 ∷ 17 ∷ []) $ free1 ! $ move ! (14 ∷ 15 ∷ []) $ free1 ! $ move ! (12 ∷ 13 ∷ []) $ free1 ! $ move ! (10 ∷ 11 ∷ []) $ free1 ! $ move ! (8 ∷ 9 ∷ []) $
+      free1 ! $ free0 ! $ keep ! (0 ∷ 7 ∷ 6 ∷ 5 ∷ 1 ∷ 4 ∷ 3 ∷ 2 ∷ []) $
       by ! (leaves r ys os₀ (LL.owes Rn.the-type Rn′.the-laws r (LL.owed Rn.the-type Rn′.the-laws r (rv ∷ []) isr)) refl refl (run-refused a t ys es os₀ m em (nonzero (m .refusal) bad) r er)))))))
       (λ good.
-      assigns ! (of-opd ! (load ! (from ! (fld ! refl (stop !))) (look-in ! 58 (sub ! 4 refl (whole !))))) (from ! (stop !)) (init ! 46 refl (array-lawful 𝓤 H A W u8 (uint-lawful 𝓤 H A W w8) 16 .typed (copied cl) (bytesVal (copied cl) ∷ []) classes-copied .0)) $
+      assigns ! (of-opd ! (load ! (from ! (fld ! refl (stop !))) (look-in ! 58 (sub ! 4 refl (whole !))))) (from ! (stop !))
+      (init ! 46 refl (array-lawful 𝓤 H A W u8 (uint-lawful 𝓤 H A W w8) 16 .typed (copied cl) (bytesVal (copied cl) ∷ []) classes-copied .0)) $
       rewrite ! 46 (λ (zs : List ℕ). ‵ (fat fullShare four16 l7 0 (bytesVal zs))) (copied-same cl) refl $
       assigns ! (rep ! 500 (lit ! tt)) (from ! (stop !)) (init ! 44 refl (array-lawful 𝓤 H A W u8 (uint-lawful 𝓤 H A W w8) 500 .typed unmarked (vZ ∷ []) unmarked-is .0)) $ move ! (44 ∷ []) $
       use1 W (‵ (partOf (rawTy five ∷ []) (R500 .own) fullShare unmarked l8 0)) (in-memory 𝓤 H A W R500 five refl unmarked (vZ) l8 (array-makes 𝓤 H A W u8 (uint-makes 𝓤 H A W w8) 500) unmarked-is) $
-      assigns ! (addr ! (from ! (stop !))) (from ! (stop !)) (init ! 33 refl (tt, tt)) $ assigns ! (addr ! (from ! (fld ! refl (hop ! (look-in ! 54 (sub ! 0 refl (whole !))) (stop !))))) (from ! (stop !)) (init ! 31 refl (tt, tt)) $
-      assigns ! (agg ! (and-then ! (load ! (from ! (stop !)) (look ! 31 refl)) (and-then ! (load ! (from ! (fld ! refl (stop !))) (look-in ! 54 (sub ! 1 refl (whole !)))) (no-more !)))) (from ! (stop !)) (init ! 29 refl (tt, (tt, (record { fits = gn .0 }, tt)))) $
+      assigns ! (addr ! (from ! (stop !))) (from ! (stop !)) (init ! 33 refl (tt, tt)) $
+      assigns ! (addr ! (from ! (fld ! refl (hop ! (look-in ! 54 (sub ! 0 refl (whole !))) (stop !))))) (from ! (stop !)) (init ! 31 refl (tt, tt)) $
+      assigns ! (agg ! (and-then ! (load ! (from ! (stop !)) (look ! 31 refl))
+      (and-then ! (load ! (from ! (fld ! refl (stop !))) (look-in ! 54 (sub ! 1 refl (whole !)))) (no-more !)))) (from ! (stop !))
+      (init ! 29 refl (tt, (tt, (record { fits = gn .0 }, tt)))) $
       assigns ! (addr ! (from ! (stop !))) (from ! (stop !)) (init ! 27 refl (tt, tt)) $
       -- the classes, a share of the list and the marks are lent, each for a lifetime of the call
-      lft-new ! tt (λ ι. move ! (47 ∷ []) $ use1 W (‵ (partOf (rawTy four16 ∷ []) (R16 .own) fullShare cl l7 0)) (in-memory 𝓤 H A W R16 four16 refl cl (bytesVal cl) l7 (array-makes 𝓤 H A W u8 (uint-makes 𝓤 H A W w8) 16) classes-is) $
-      use1 W (later (some (λ (γc : GName). ‵ (ShrRef (named 0) (ι ∷ []) R16 .own (refL l7 γc cl) (vptr l7 0 ∷ [])) ⊛ ‵ (flent (ι ∷ []) (partAt R16 fullShare cl l7 0))))) (lends-shr 𝓤 H A W R16 (named 0) (ι ∷ []) fullShare cl l7 0) $ await ! tt $ pick ! (λ γc.
-      split ! $ move ! (8 ∷ []) $ fsplit ! $ move ! (1 ∷ []) $ fsplit ! $ move ! (0 ∷ 1 ∷ 13 ∷ []) $ opens-slice ! tt T.the-row ys b o $ lft-new ! tt (λ μ. move ! (1 ∷ []) $ feqI ! ℕ (length ys) (length ys) refl $ fjoin ! $
-      use1 W (later (some (λ (γs : GName). ‵ (ShrSlice (named 1) (μ ∷ []) T.the-row .own (refS γs) (vR ∷ [])) ⊛ ‵ (flent (μ ∷ []) (arr-parts (shares T.the-row) (length ys) .part fullShare ys b o))))) (lends-shr-slice 𝓤 H A W T.the-row (named 1) (μ ∷ []) fullShare ys b o gn) $ await ! tt $ pick ! (λ γs.
+      lft-new ! tt (λ ι. move ! (47 ∷ []) $ use1 W (‵ (partOf (rawTy four16 ∷ []) (R16 .own) fullShare cl l7 0))
+      (in-memory 𝓤 H A W R16 four16 refl cl (bytesVal cl) l7 (array-makes 𝓤 H A W u8 (uint-makes 𝓤 H A W w8) 16) classes-is) $
+      use1 W (later (some (λ (γc : GName). ‵ (ShrRef (named 0) (ι ∷ []) R16 .own (refL l7 γc cl) (vptr l7 0 ∷ [])) ⊛ ‵ (flent (ι ∷ []) (partAt R16 fullShare cl l7 0)))))
+      (lends-shr 𝓤 H A W R16 (named 0) (ι ∷ []) fullShare cl l7 0) $ await ! tt $ pick ! (λ γc.
+      split ! $ move ! (8 ∷ []) $ fsplit ! $ move ! (1 ∷ []) $ fsplit ! $ move ! (0 ∷ 1 ∷ 13 ∷ []) $ opens-slice ! tt T.the-row ys b o $
+      lft-new ! tt (λ μ. move ! (1 ∷ []) $ feqI ! ℕ (length ys) (length ys) refl $ fjoin ! $
+      use1 W (later (some (λ (γs : GName). ‵ (ShrSlice (named 1) (μ ∷ []) T.the-row .own (refS γs) (vR ∷ [])) ⊛ ‵
+      (flent (μ ∷ []) (arr-parts (shares T.the-row) (length ys) .part fullShare ys b o))))) (lends-shr-slice 𝓤 H A W T.the-row (named 1) (μ ∷ []) fullShare ys b o gn) $
+      await ! tt $ pick ! (λ γs.
       split ! $ lft-new ! tt (λ ω. move ! (11 ∷ []) $
-      use1 W (later (some (λ (γm : GName). ‵ (MutRef (named 2) (ω ∷ []) R500 .own (refL l8 γm unmarked) (vptr l8 0 ∷ [])) ⊛ ‵ (flent (ω ∷ []) (Body (mem R500) l8 0 γm))))) (lends-ref 𝓤 H A W R500 (named 2) (ω ∷ []) unmarked l8 0) $ await ! tt $ pick ! (λ γm.
+      use1 W (later (some (λ (γm : GName). ‵ (MutRef (named 2) (ω ∷ []) R500 .own (refL l8 γm unmarked) (vptr l8 0 ∷ [])) ⊛ ‵
+      (flent (ω ∷ []) (Body (mem R500) l8 0 γm))))) (lends-ref 𝓤 H A W R500 (named 2) (ω ∷ []) unmarked l8 0) $ await ! tt $ pick ! (λ γm.
       split ! $ nothing ! $ move ! (1 ∷ 0 ∷ []) $ fjoin ! $ move ! (3 ∷ 0 ∷ []) $ fjoin ! $ move ! (9 ∷ 0 ∷ []) $ fjoin ! $
-      owned ! Li.the-row (Is Li.the-row) (LL.makes Li.the-type Li′.the-plain 𝓤 H A) (m .limits) (vLi m ∷ []) (limits-is m v ism) $ fjoin ! $ nothing ! $ move ! (3 ∷ 0 ∷ []) $ join ! $ move ! (4 ∷ 0 ∷ []) $ join ! $ move ! (9 ∷ 0 ∷ []) $
+      owned ! Li.the-row (Is Li.the-row) (LL.makes Li.the-type Li′.the-plain 𝓤 H A) (m .limits) (vLi m ∷ []) (limits-is m v ism) $ fjoin ! $ nothing ! $
+      move ! (3 ∷ 0 ∷ []) $ join ! $ move ! (4 ∷ 0 ∷ []) $ join ! $ move ! (9 ∷ 0 ∷ []) $
       join ! $ use2 W (raw (Holding 𝓤 H A at-mem run .pre (toH ι μ ω m l7 l8 γc γs γm))) (goesH ι μ ω m l7 l8 γc γs γm (run-few a t ys es os₀ m em (is-zero (m .refusal) good))) $
-      calls-at ! (fmOf 𝓤 H (W .laws) 𝓣) (Holding 𝓤 H A at-mem run) known-h (toH ι μ ω m l7 l8 γc γs γm) (and-then ! (load ! (from ! (fld ! refl (stop !))) (look-in ! 52 (sub ! 1 refl (whole !)))) (and-then ! (load ! (from ! (stop !)) (look ! 38 refl)) (and-then ! (load ! (from ! (stop !)) (look ! 34 refl)) (and-then ! (load ! (from ! (stop !)) (look ! 32 refl)) (no-more !))))) (λ hv.
-      use1 W (later (some (λ (h : ℕ). ((‵ (flft (ι ∷ []) fullShare) ⊛ (‵ (flft (μ ∷ []) fullShare) ⊛ (‵ (flft (ω ∷ []) fullShare) ⊛ ‵ ftrue))) ⊛ ‵ (usize .own h (hv ∷ []))) ⊛ raw (ensured 𝓤 H A hd.ended (hd.clauses 𝓤 H A at-mem run) (ι ∷ [], (μ ∷ [], (ω ∷ [], tt))) (argsH m l7 l8 γc γs γm) tt h)))) (id⊢ 𝓤 _) $ await ! tt $ pick ! (λ h.
+      calls-at ! (fmOf 𝓤 H (W .laws) 𝓣) (Holding 𝓤 H A at-mem run) known-h (toH ι μ ω m l7 l8 γc γs γm)
+      (and-then ! (load ! (from ! (fld ! refl (stop !))) (look-in ! 52 (sub ! 1 refl (whole !))))
+      (and-then ! (load ! (from ! (stop !)) (look ! 38 refl))
+      (and-then ! (load ! (from ! (stop !)) (look ! 34 refl)) (and-then ! (load ! (from ! (stop !)) (look ! 32 refl)) (no-more !))))) (λ hv.
+      use1 W (later (some (λ (h : ℕ). ((‵ (flft (ι ∷ []) fullShare) ⊛ (‵ (flft (μ ∷ []) fullShare) ⊛ (‵ (flft (ω ∷ []) fullShare) ⊛ ‵ ftrue))) ⊛ ‵
+      (usize .own h (hv ∷ []))) ⊛ raw (ensured 𝓤 H A hd.ended (hd.clauses 𝓤 H A at-mem run) (ι ∷ [], (μ ∷ [], (ω ∷ [], tt))) (argsH m l7 l8 γc γs γm) tt h))))
+      (id⊢ 𝓤 _) $ await ! tt $ pick ! (λ h.
       split ! $ move ! (1 ∷ []) $
-      use1 W (some (λ (hs : LastsH). ‵ (lasts hd.ended (ι ∷ [], (μ ∷ [], (ω ∷ [], tt))) (argsH m l7 l8 γc γs γm) hs) ⊛ raw (fact 𝓤 ((h ≡ heldInAllBy (m .limits) cl ys) × (lastM hs ≡ sets unmarked 0 (marksBy (m .limits) cl ys)))))) (id⊢ 𝓤 _) $ pick ! (λ hs.
-      split ! $ move ! (1 ∷ []) $ heard ! ((h ≡ heldInAllBy (m .limits) cl ys) × (lastM hs ≡ sets unmarked 0 (marksBy (m .limits) cl ys))) (λ eh. fsplit ! $ let-go ! $ fsplit ! $ let-go ! $ fsplit ! $ let-go ! $ fsplit ! $
+      use1 W (some (λ (hs : LastsH). ‵ (lasts hd.ended (ι ∷ [], (μ ∷ [], (ω ∷ [], tt))) (argsH m l7 l8 γc γs γm) hs) ⊛ raw
+      (fact 𝓤 ((h ≡ heldInAllBy (m .limits) cl ys) × (lastM hs ≡ sets unmarked 0 (marksBy (m .limits) cl ys)))))) (id⊢ 𝓤 _) $ pick ! (λ hs.
+      split ! $ move ! (1 ∷ []) $ heard ! ((h ≡ heldInAllBy (m .limits) cl ys) × (lastM hs ≡ sets unmarked 0 (marksBy (m .limits) cl ys)))
+      (λ eh. fsplit ! $ let-go ! $ fsplit ! $ let-go ! $ fsplit ! $ let-go ! $ fsplit ! $
       move ! (1 ∷ []) $ let-go ! $ move ! (1 ∷ []) $ split ! $ move ! (1 ∷ []) $ peeks ! usize (Is usize) (shows 𝓤 H A usize) h (hv ∷ []) (λ ish. let-go ! $
       land ! (from ! (stop !)) (init ! 49 refl (uint-lawful 𝓤 H A W w64 .typed h _ ish .0)) $ rewrite ! 49 (λ (u′ : Val). ‵ (fat fullShare (tyInt w64) l9 0 u′)) (ap only (ish .0)) refl $
       -- they come back; the marks stay in memory, to be lent again
       split ! $ move ! (1 ∷ []) $ split ! $ move ! (1 ∷ []) $ split ! $ move ! (1 ∷ []) $ let-go ! $ lft-end ! tt $ move ! (0 ∷ 4 ∷ 3 ∷ []) $
-      use3 W (later (‵ (partOf (rawTy five ∷ []) (R500 .own) fullShare (lastM hs) l8 0))) (ref-back 𝓤 H A W R500 (ω ∷ []) γm (lastM hs) l8 0) $ await ! tt $ move ! (1 ∷ []) $ lft-end ! tt $ move ! (0 ∷ 3 ∷ []) $ lent-back ! tt $
-      fsplit ! $ let-go ! $ move ! (0 ∷ 3 ∷ 4 ∷ 5 ∷ []) $ closes-slice ! tt T.the-row ys ys refl b o $ fjoin ! $ move ! (4 ∷ 0 ∷ []) $ fjoin ! $ move ! (3 ∷ []) $ lft-end ! tt $ move ! (0 ∷ 4 ∷ []) $ lent-back ! tt $
-      use1 W (‵ (fat fullShare four16 l7 0 (bytesVal cl))) (out-of-memory 𝓤 H A W R16 four16 refl cl (bytesVal cl) l7 (array-vals (uint-vals w8)) (array-tells u8 (uint-vals w8) (uint-tells w8) 16) refl) $
+      use3 W (later (‵ (partOf (rawTy five ∷ []) (R500 .own) fullShare (lastM hs) l8 0))) (ref-back 𝓤 H A W R500 (ω ∷ []) γm (lastM hs) l8 0) $ await ! tt $
+      move ! (1 ∷ []) $ lft-end ! tt $ move ! (0 ∷ 3 ∷ []) $ lent-back ! tt $
+      fsplit ! $ let-go ! $ move ! (0 ∷ 3 ∷ 4 ∷ 5 ∷ []) $ closes-slice ! tt T.the-row ys ys refl b o $ fjoin ! $ move ! (4 ∷ 0 ∷ []) $ fjoin ! $ move ! (3 ∷ []) $
+      lft-end ! tt $ move ! (0 ∷ 4 ∷ []) $ lent-back ! tt $
+      use1 W (‵ (fat fullShare four16 l7 0 (bytesVal cl)))
+      (out-of-memory 𝓤 H A W R16 four16 refl cl (bytesVal cl) l7 (array-vals (uint-vals w8)) (array-tells u8 (uint-vals w8) (uint-tells w8) 16) refl) $
       assigns ! (of-opd ! (load ! (from ! (fld ! refl (stop !))) (look-in ! 50 (sub ! 1 refl (whole !))))) (from ! (stop !)) (store ! 38 refl (tt, record { fits = go .0 })) $
       assigns ! (of-opd ! (load ! (from ! (fld ! refl (stop !))) (look-in ! 52 (sub ! 1 refl (whole !))))) (from ! (stop !)) (init ! 24 refl (tt, record { fits = ge .0 .1 .0 })) $ nothing ! $
       use1 W (raw (Short 𝓤 H A at-mem run .pre (toS h))) (goesS h (ish .1)) $
-      calls-at ! (fmOf 𝓤 H (W .laws) 𝓣) (Short 𝓤 H A at-mem run) known-s (toS h) (and-then ! (load ! (from ! (stop !)) (look ! 39 refl)) (and-then ! (load ! (from ! (stop !)) (look ! 25 refl)) (and-then ! (load ! (from ! (stop !)) (look ! 45 refl)) (no-more !)))) (λ zv.
-      use1 W (later (some (λ (z : Bool). (‵ ftrue ⊛ ‵ (bool .own z (zv ∷ []))) ⊛ raw (ensured 𝓤 H A ts.ended (ts.clauses 𝓤 H A at-mem run) tt (argsS h) tt z)))) (id⊢ 𝓤 _) $ await ! tt $ pick ! (λ z. split ! $ move ! (1 ∷ []) $
-      use1 W (raw (fact 𝓤 (z ≡ ltb (length os₀) (length es + h)))) (saidS h z) $ heard ! (z ≡ ltb (length os₀) (length es + h)) (λ ez. split ! $ move ! (1 ∷ []) $ peeks ! bool (Is bool) (shows 𝓤 H A bool) z (zv ∷ []) (λ isz. let-go ! $
-      let-go ! $ land ! (from ! (stop !)) (init ! 26 refl (bool-lawful 𝓤 H A W .typed z _ isz .0)) $ rewrite ! 26 (λ (u′ : Val). ‵ (fat fullShare tyBool l18 0 u′)) (ap only isz) refl $ early ! (load ! (from ! (stop !)) (look ! 26 refl))
+      calls-at ! (fmOf 𝓤 H (W .laws) 𝓣) (Short 𝓤 H A at-mem run) known-s (toS h)
+      (and-then ! (load ! (from ! (stop !)) (look ! 39 refl))
+      (and-then ! (load ! (from ! (stop !)) (look ! 25 refl)) (and-then ! (load ! (from ! (stop !)) (look ! 45 refl)) (no-more !)))) (λ zv.
+      use1 W (later (some (λ (z : Bool). (‵ ftrue ⊛ ‵ (bool .own z (zv ∷ []))) ⊛ raw (ensured 𝓤 H A ts.ended (ts.clauses 𝓤 H A at-mem run) tt (argsS h) tt z))))
+      (id⊢ 𝓤 _) $ await ! tt $ pick ! (λ z. split ! $ move ! (1 ∷ []) $
+      use1 W (raw (fact 𝓤 (z ≡ ltb (length os₀) (length es + h)))) (saidS h z) $
+      heard ! (z ≡ ltb (length os₀) (length es + h)) (λ ez. split ! $ move ! (1 ∷ []) $ peeks ! bool (Is bool) (shows 𝓤 H A bool) z (zv ∷ []) (λ isz. let-go ! $
+      let-go ! $ land ! (from ! (stop !)) (init ! 26 refl (bool-lawful 𝓤 H A W .typed z _ isz .0)) $ rewrite ! 26 (λ (u′ : Val). ‵ (fat fullShare tyBool l18 0 u′))
+      (ap only isz) refl $ early ! (load ! (from ! (stop !)) (look ! 26 refl))
       (λ yes′. move ! (3 ∷ []) $
-      use1 W (‵ (fat fullShare five l8 0 (bytesVal (lastM hs)))) (out-of-memory 𝓤 H A W R500 five refl (lastM hs) (bytesVal (lastM hs)) l8 (array-vals (uint-vals w8)) (array-tells u8 (uint-vals w8) (uint-tells w8) 500) refl) $
-      nothing ! $ use1 W (raw (Refused 𝓤 H A at-mem run .pre (toX 16))) (goesX 16 (lit< tt)) $ calls-at ! (fmOf 𝓤 H (W .laws) 𝓣) (Refused 𝓤 H A at-mem run) known-x (toX 16) (and-then ! (lit ! tt) (no-more !)) (λ rv.
-      use1 W (later (some (λ (r : RanFor). (‵ ftrue ⊛ ‵ (Rn.the-row .own r (rv ∷ []))) ⊛ raw (ensured 𝓤 H A rf.ended (rf.clauses 𝓤 H A at-mem run) tt (16, tt) tt r)))) (id⊢ 𝓤 _) $ await ! tt $ pick ! (λ r. split ! $ move ! (1 ∷ []) $
-      use1 W (raw (fact 𝓤 (r ≡ refusedRunFor 16))) (saidX 16 r) $ heard ! (r ≡ refusedRunFor 16) (λ er. split ! $ move ! (1 ∷ []) $ peeks ! Rn.the-row (Is Rn.the-row) (shows 𝓤 H A Rn.the-row) r (rv ∷ []) (λ isr. let-go ! $ let-go ! $
+      use1 W (‵ (fat fullShare five l8 0 (bytesVal (lastM hs))))
+      (out-of-memory 𝓤 H A W R500 five refl (lastM hs) (bytesVal (lastM hs)) l8 (array-vals (uint-vals w8)) (array-tells u8 (uint-vals w8) (uint-tells w8) 500) refl) $
+      nothing ! $ use1 W (raw (Refused 𝓤 H A at-mem run .pre (toX 16))) (goesX 16 (lit< tt)) $ calls-at ! (fmOf 𝓤 H (W .laws) 𝓣) (Refused 𝓤 H A at-mem run) known-x
+      (toX 16) (and-then ! (lit ! tt) (no-more !)) (λ rv.
+      use1 W (later (some (λ (r : RanFor). (‵ ftrue ⊛ ‵ (Rn.the-row .own r (rv ∷ []))) ⊛ raw (ensured 𝓤 H A rf.ended (rf.clauses 𝓤 H A at-mem run) tt (16, tt) tt r))))
+      (id⊢ 𝓤 _) $ await ! tt $ pick ! (λ r. split ! $ move ! (1 ∷ []) $
+      use1 W (raw (fact 𝓤 (r ≡ refusedRunFor 16))) (saidX 16 r) $
+      heard ! (r ≡ refusedRunFor 16) (λ er. split ! $ move ! (1 ∷ []) $ peeks ! Rn.the-row (Is Rn.the-row) (shows 𝓤 H A Rn.the-row) r (rv ∷ [])
+      (λ isr. let-go ! $ let-go ! $
       land ! (from ! (stop !)) (init ! 60 refl (LL.lawful Rn.the-type Rn′.the-laws 𝓤 H A W .typed r (rv ∷ []) isr .0)) $
-      rewrite ! 60 (λ (u′ : Val). ‵ (fat fullShare Rn′.mir l0 0 u′)) (ap only (LL.tells Rn.the-type Rn′.the-laws r (rv ∷ []) isr)) refl $ returns-within ! Post refl (look ! 60 refl) $ forget ! 60 refl $ forget ! 58 refl $
-      forget ! 56 refl $ forget ! 54 refl $ forget ! 52 refl $ forget ! 50 refl $ forget ! 48 refl $ forget ! 1 refl $ forget ! 0 refl $ forget ! 44 refl $ forget ! 38 refl $ forget ! 36 refl $ forget ! 34 refl $ forget ! 32 refl $
-      forget ! 30 refl $ forget ! 28 refl $ forget ! 26 refl $ forget ! 24 refl $ move ! (60 ∷ 61 ∷ []) $ free1 ! $ move ! (58 ∷ 59 ∷ []) $ free1 ! $ move ! (56 ∷ 57 ∷ []) $ free1 ! $ move ! (54 ∷ 55 ∷ []) $ free1 ! $
-      move ! (52 ∷ 53 ∷ []) $ free1 ! $ move ! (50 ∷ 51 ∷ []) $ free1 ! $ move ! (48 ∷ 49 ∷ []) $ free1 ! $ move ! (1 ∷ 47 ∷ []) $ free1 ! $ move ! (0 ∷ 45 ∷ []) $ free1 ! $ move ! (42 ∷ 43 ∷ []) $ free1 ! $ move ! (40 ∷ 41 ∷ []) $
-      free1 ! $ move ! (38 ∷ 39 ∷ []) $ free1 ! $ move ! (36 ∷ 37 ∷ []) $ free1 ! $ move ! (34 ∷ 35 ∷ []) $ free1 ! $ move ! (32 ∷ 33 ∷ []) $ free1 ! $ move ! (30 ∷ 31 ∷ []) $ free1 ! $ move ! (28 ∷ 29 ∷ []) $ free1 ! $
-      move ! (26 ∷ 27 ∷ []) $ free1 ! $ move ! (24 ∷ 25 ∷ []) $ free1 ! $ move ! (22 ∷ 23 ∷ []) $ free1 ! $ move ! (20 ∷ 21 ∷ []) $ free1 ! $ move ! (18 ∷ 19 ∷ []) $ free1 ! $ move ! (16 ∷ 17 ∷ []) $ free1 ! $ move ! (14 ∷ 15 ∷ []) $
+      rewrite ! 60 (λ (u′ : Val). ‵ (fat fullShare Rn′.mir l0 0 u′)) (ap only (LL.tells Rn.the-type Rn′.the-laws r (rv ∷ []) isr)) refl $
+      returns-within ! Post refl (look ! 60 refl) $ forget ! 60 refl $ forget ! 58 refl $
+      forget ! 56 refl $ forget ! 54 refl $ forget ! 52 refl $ forget ! 50 refl $ forget ! 48 refl $ forget ! 1 refl $ forget ! 0 refl $ forget ! 44 refl $
+      forget ! 38 refl $ forget ! 36 refl $ forget ! 34 refl $ forget ! 32 refl $
+      forget ! 30 refl $ forget ! 28 refl $ forget ! 26 refl $ forget ! 24 refl $ move ! (60 ∷ 61 ∷ []) $ free1 ! $ move ! (58 ∷ 59 ∷ []) $ free1 ! $
+      move ! (56 ∷ 57 ∷ []) $ free1 ! $ move ! (54 ∷ 55 ∷ []) $ free1 ! $
+      move ! (52 ∷ 53 ∷ []) $ free1 ! $ move ! (50 ∷ 51 ∷ []) $ free1 ! $ move ! (48 ∷ 49 ∷ []) $ free1 ! $ move ! (1 ∷ 47 ∷ []) $ free1 ! $ move ! (0 ∷ 45 ∷ []) $
+      free1 ! $ move ! (42 ∷ 43 ∷ []) $ free1 ! $ move ! (40 ∷ 41 ∷ []) $
+      free1 ! $ move ! (38 ∷ 39 ∷ []) $ free1 ! $ move ! (36 ∷ 37 ∷ []) $ free1 ! $ move ! (34 ∷ 35 ∷ []) $ free1 ! $ move ! (32 ∷ 33 ∷ []) $ free1 ! $
+      move ! (30 ∷ 31 ∷ []) $ free1 ! $ move ! (28 ∷ 29 ∷ []) $ free1 ! $
+      move ! (26 ∷ 27 ∷ []) $ free1 ! $ move ! (24 ∷ 25 ∷ []) $ free1 ! $ move ! (22 ∷ 23 ∷ []) $ free1 ! $ move ! (20 ∷ 21 ∷ []) $ free1 ! $ move ! (18 ∷ 19 ∷ []) $
+      free1 ! $ move ! (16 ∷ 17 ∷ []) $ free1 ! $ move ! (14 ∷ 15 ∷ []) $
       free1 ! $ move ! (12 ∷ 13 ∷ []) $ free1 ! $ move ! (10 ∷ 11 ∷ []) $ free1 ! $ move ! (8 ∷ 9 ∷ []) $ free1 ! $ free0 ! $ keep ! (2 ∷ 1 ∷ 7 ∷ 6 ∷ 3 ∷ 0 ∷ 5 ∷ 4 ∷ []) $
-      by ! (leaves r ys os₀ (LL.owes Rn.the-type Rn′.the-laws r (LL.owed Rn.the-type Rn′.the-laws r (rv ∷ []) isr)) refl refl (run-short a t ys es os₀ m em (is-zero (m .refusal) good) h (lastM hs) eh z ez (holds z yes′) r er)))))))
+      by ! (leaves r ys os₀ (LL.owes Rn.the-type Rn′.the-laws r (LL.owed Rn.the-type Rn′.the-laws r (rv ∷ []) isr)) refl refl
+      (run-short a t ys es os₀ m em (is-zero (m .refusal) good) h (lastM hs) eh z ez (holds z yes′) r er)))))))
       (λ no′.
-      assigns ! (of-opd ! (load ! (from ! (fld ! refl (stop !))) (look-in ! 58 (sub ! 6 refl (whole !))))) (from ! (stop !)) (init ! 42 refl (array-lawful 𝓤 H A W u8 (uint-lawful 𝓤 H A W w8) 512 .typed (copied nx) (bytesVal (copied nx) ∷ []) next-copied .0)) $
+      assigns ! (of-opd ! (load ! (from ! (fld ! refl (stop !))) (look-in ! 58 (sub ! 6 refl (whole !))))) (from ! (stop !))
+      (init ! 42 refl (array-lawful 𝓤 H A W u8 (uint-lawful 𝓤 H A W w8) 512 .typed (copied nx) (bytesVal (copied nx) ∷ []) next-copied .0)) $
       rewrite ! 42 (λ (zs : List ℕ). ‵ (fat fullShare big l10 0 (bytesVal zs))) (copied-same nx) refl $
-      assigns ! (of-opd ! (load ! (from ! (fld ! refl (stop !))) (look-in ! 48 (sub ! 2 refl (whole !))))) (from ! (stop !)) (init ! 40 refl (array-lawful 𝓤 H A W u8 (uint-lawful 𝓤 H A W w8) 16 .typed (copied (m .ranks)) (bytesVal (copied (m .ranks)) ∷ []) (ranks-copied m v ism) .0)) $
+      assigns ! (of-opd ! (load ! (from ! (fld ! refl (stop !))) (look-in ! 48 (sub ! 2 refl (whole !))))) (from ! (stop !))
+      (init ! 40 refl (array-lawful 𝓤 H A W u8 (uint-lawful 𝓤 H A W w8) 16 .typed (copied (m .ranks)) (bytesVal (copied (m .ranks)) ∷ []) (ranks-copied m v ism) .0)) $
       rewrite ! 40 (λ (zs : List ℕ). ‵ (fat fullShare four16 l11 0 (bytesVal zs))) (copied-same (m .ranks)) refl $ assigns ! (addr ! (from ! (stop !))) (from ! (stop !)) (init ! 22 refl (tt, tt)) $
       assigns ! (addr ! (from ! (stop !))) (from ! (stop !)) (init ! 20 refl (tt, tt)) $ assigns ! (addr ! (from ! (stop !))) (from ! (stop !)) (init ! 18 refl (tt, tt)) $
       assigns ! (addr ! (from ! (fld ! refl (hop ! (look-in ! 54 (sub ! 0 refl (whole !))) (stop !))))) (from ! (stop !)) (init ! 16 refl (tt, tt)) $
-      assigns ! (agg ! (and-then ! (load ! (from ! (stop !)) (look ! 16 refl)) (and-then ! (load ! (from ! (fld ! refl (stop !))) (look-in ! 54 (sub ! 1 refl (whole !)))) (no-more !)))) (from ! (stop !)) (init ! 14 refl (tt, (tt, (record { fits = gn .0 }, tt)))) $
+      assigns ! (agg ! (and-then ! (load ! (from ! (stop !)) (look ! 16 refl))
+      (and-then ! (load ! (from ! (fld ! refl (stop !))) (look-in ! 54 (sub ! 1 refl (whole !)))) (no-more !)))) (from ! (stop !))
+      (init ! 14 refl (tt, (tt, (record { fits = gn .0 }, tt)))) $
       assigns ! (addr ! (from ! (fld ! refl (hop ! (look-in ! 50 (sub ! 0 refl (whole !))) (stop !))))) (from ! (stop !)) (init ! 12 refl (tt, tt)) $
-      assigns ! (agg ! (and-then ! (load ! (from ! (stop !)) (look ! 12 refl)) (and-then ! (load ! (from ! (fld ! refl (stop !))) (look-in ! 50 (sub ! 1 refl (whole !)))) (no-more !)))) (from ! (stop !)) (init ! 10 refl (tt, (tt, (record { fits = go .0 }, tt)))) $
+      assigns ! (agg ! (and-then ! (load ! (from ! (stop !)) (look ! 12 refl))
+      (and-then ! (load ! (from ! (fld ! refl (stop !))) (look-in ! 50 (sub ! 1 refl (whole !)))) (no-more !)))) (from ! (stop !))
+      (init ! 10 refl (tt, (tt, (record { fits = go .0 }, tt)))) $
       -- the marks and the other arrays are lent for ν, and the list and the output again, each for
       -- its own
       lft-new ! tt (λ ν. move ! (4 ∷ []) $
-      use1 W (later (some (λ (δm : GName). ‵ (ShrRef (named 0) (ν ∷ []) R500 .own (refL l8 δm (lastM hs)) (vptr l8 0 ∷ [])) ⊛ ‵ (flent (ν ∷ []) (partAt R500 fullShare (lastM hs) l8 0))))) (lends-shr 𝓤 H A W R500 (named 0) (ν ∷ []) fullShare (lastM hs) l8 0) $ await ! tt $ pick ! (λ δm.
-      split ! $ move ! (44 ∷ []) $ use1 W (‵ (partOf (rawTy big ∷ []) (R512 .own) fullShare nx l10 0)) (in-memory 𝓤 H A W R512 big refl nx (bytesVal nx) l10 (array-makes 𝓤 H A W u8 (uint-makes 𝓤 H A W w8) 512) next-is) $
-      use1 W (later (some (λ (γn : GName). ‵ (ShrRef (named 0) (ν ∷ []) R512 .own (refL l10 γn nx) (vptr l10 0 ∷ [])) ⊛ ‵ (flent (ν ∷ []) (partAt R512 fullShare nx l10 0))))) (lends-shr 𝓤 H A W R512 (named 0) (ν ∷ []) fullShare nx l10 0) $ await ! tt $ pick ! (λ γn.
+      use1 W (later (some (λ (δm : GName). ‵ (ShrRef (named 0) (ν ∷ []) R500 .own (refL l8 δm (lastM hs)) (vptr l8 0 ∷ [])) ⊛ ‵
+      (flent (ν ∷ []) (partAt R500 fullShare (lastM hs) l8 0))))) (lends-shr 𝓤 H A W R500 (named 0) (ν ∷ []) fullShare (lastM hs) l8 0) $ await ! tt $ pick ! (λ δm.
+      split ! $ move ! (44 ∷ []) $ use1 W (‵ (partOf (rawTy big ∷ []) (R512 .own) fullShare nx l10 0))
+      (in-memory 𝓤 H A W R512 big refl nx (bytesVal nx) l10 (array-makes 𝓤 H A W u8 (uint-makes 𝓤 H A W w8) 512) next-is) $
+      use1 W (later (some (λ (γn : GName). ‵ (ShrRef (named 0) (ν ∷ []) R512 .own (refL l10 γn nx) (vptr l10 0 ∷ [])) ⊛ ‵
+      (flent (ν ∷ []) (partAt R512 fullShare nx l10 0))))) (lends-shr 𝓤 H A W R512 (named 0) (ν ∷ []) fullShare nx l10 0) $ await ! tt $ pick ! (λ γn.
       split ! $ move ! (44 ∷ []) $
-      use1 W (‵ (partOf (rawTy four16 ∷ []) (R16 .own) fullShare (m .ranks) l11 0)) (in-memory 𝓤 H A W R16 four16 refl (m .ranks) (bytesVal (m .ranks)) l11 (array-makes 𝓤 H A W u8 (uint-makes 𝓤 H A W w8) 16) (ranks-is m v ism)) $
-      use1 W (later (some (λ (γk : GName). ‵ (ShrRef (named 0) (ν ∷ []) R16 .own (refL l11 γk (m .ranks)) (vptr l11 0 ∷ [])) ⊛ ‵ (flent (ν ∷ []) (partAt R16 fullShare (m .ranks) l11 0))))) (lends-shr 𝓤 H A W R16 (named 0) (ν ∷ []) fullShare (m .ranks) l11 0) $ await ! tt $ pick ! (λ γk.
+      use1 W (‵ (partOf (rawTy four16 ∷ []) (R16 .own) fullShare (m .ranks) l11 0))
+      (in-memory 𝓤 H A W R16 four16 refl (m .ranks) (bytesVal (m .ranks)) l11 (array-makes 𝓤 H A W u8 (uint-makes 𝓤 H A W w8) 16) (ranks-is m v ism)) $
+      use1 W (later (some (λ (γk : GName). ‵ (ShrRef (named 0) (ν ∷ []) R16 .own (refL l11 γk (m .ranks)) (vptr l11 0 ∷ [])) ⊛ ‵
+      (flent (ν ∷ []) (partAt R16 fullShare (m .ranks) l11 0))))) (lends-shr 𝓤 H A W R16 (named 0) (ν ∷ []) fullShare (m .ranks) l11 0) $ await ! tt $ pick ! (λ γk.
       split ! $ lft-new ! tt (λ ρ. move ! (9 ∷ 10 ∷ []) $
-      use2 W (later (some (λ (δr : GName). ‵ (AgainR ρ δr ys) ⊛ ‵ (LentOn T.the-row κr qr γ b o (ρ ∷ []) δr ys)))) (lends-on T.the-row κr qr γ b o 𝓤 H A W (named 1) ys gn (ρ ∷ []) (named 2)) $ await ! tt $ pick ! (λ δr. split ! $
+      use2 W (later (some (λ (δr : GName). ‵ (AgainR ρ δr ys) ⊛ ‵ (LentOn T.the-row κr qr γ b o (ρ ∷ []) δr ys))))
+      (lends-on T.the-row κr qr γ b o 𝓤 H A W (named 1) ys gn (ρ ∷ []) (named 2)) $ await ! tt $ pick ! (λ δr. split ! $
       lft-new ! tt (λ σ. move ! (14 ∷ 16 ∷ []) $
-      use2 W (later (some (λ (δo : GName). ‵ (AgainO σ δo os₀) ⊛ ‵ (LentOn u8 κo qo γo bo oo (σ ∷ []) δo os₀)))) (lends-on u8 κo qo γo bo oo 𝓤 H A W (named 3) os₀ go (σ ∷ []) (named 4)) $ await ! tt $ pick ! (λ δo. split ! $
-      move ! (15 ∷ []) $ use1 W (‵ OwnT ⊛ ‵ OwnT) (shr-slice-copy 𝓤 H A W (named 0) κt u32 .twice refT (vT ∷ [])) $ split ! $ move ! (17 ∷ []) $ use1 W (‵ OwnE ⊛ ‵ OwnE) (shr-slice-copy 𝓤 H A W (named 2) κe u32 .twice refE (vE ∷ [])) $
-      split ! $ nothing ! $ move ! (5 ∷ 0 ∷ []) $ fjoin ! $ move ! (2 ∷ 0 ∷ []) $ fjoin ! $ move ! (6 ∷ 0 ∷ []) $ fjoin ! $ move ! (3 ∷ 0 ∷ []) $ fjoin ! $ move ! (7 ∷ 0 ∷ []) $ fjoin ! $ move ! (8 ∷ 0 ∷ []) $ fjoin ! $
-      move ! (9 ∷ 0 ∷ []) $ fjoin ! $ owned ! Li.the-row (Is Li.the-row) (LL.makes Li.the-type Li′.the-plain 𝓤 H A) (m .limits) (vLi m ∷ []) (limits-is m v ism) $ fjoin ! $ nothing ! $ move ! (5 ∷ 0 ∷ []) $ join ! $
+      use2 W (later (some (λ (δo : GName). ‵ (AgainO σ δo os₀) ⊛ ‵ (LentOn u8 κo qo γo bo oo (σ ∷ []) δo os₀))))
+      (lends-on u8 κo qo γo bo oo 𝓤 H A W (named 3) os₀ go (σ ∷ []) (named 4)) $ await ! tt $ pick ! (λ δo. split ! $
+      move ! (15 ∷ []) $ use1 W (‵ OwnT ⊛ ‵ OwnT) (shr-slice-copy 𝓤 H A W (named 0) κt u32 .twice refT (vT ∷ [])) $ split ! $ move ! (17 ∷ []) $
+      use1 W (‵ OwnE ⊛ ‵ OwnE) (shr-slice-copy 𝓤 H A W (named 2) κe u32 .twice refE (vE ∷ [])) $
+      split ! $ nothing ! $ move ! (5 ∷ 0 ∷ []) $ fjoin ! $ move ! (2 ∷ 0 ∷ []) $ fjoin ! $ move ! (6 ∷ 0 ∷ []) $ fjoin ! $ move ! (3 ∷ 0 ∷ []) $ fjoin ! $
+      move ! (7 ∷ 0 ∷ []) $ fjoin ! $ move ! (8 ∷ 0 ∷ []) $ fjoin ! $
+      move ! (9 ∷ 0 ∷ []) $ fjoin ! $ owned ! Li.the-row (Is Li.the-row) (LL.makes Li.the-type Li′.the-plain 𝓤 H A) (m .limits) (vLi m ∷ []) (limits-is m v ism) $
+      fjoin ! $ nothing ! $ move ! (5 ∷ 0 ∷ []) $ join ! $
       move ! (13 ∷ 0 ∷ []) $ join ! $ move ! (6 ∷ 0 ∷ []) $ join ! $ move ! (11 ∷ 0 ∷ []) $ join ! $ move ! (9 ∷ 0 ∷ []) $ join ! $
-      use2 W (raw (Process 𝓤 H A at-mem run .pre (toP ν ρ σ m (lastM hs) l8 l10 l11 δm γn γk δr δo))) (goesP ν ρ σ m (lastM hs) l8 l10 l11 δm γn γk δr δo (run-asks a t ys es os₀ m em (is-zero (m .refusal) good) h (lastM hs) eh z ez (fails z no′))) $
-      calls-at ! (fmOf 𝓤 H (W .laws) 𝓣) (Process 𝓤 H A at-mem run) known-p (toP ν ρ σ m (lastM hs) l8 l10 l11 δm γn γk δr δo) (and-then ! (load ! (from ! (fld ! refl (stop !))) (look-in ! 45 (sub ! 1 refl (whole !)))) (and-then ! (load ! (from ! (stop !)) (look ! 21 refl)) (and-then ! (load ! (from ! (stop !)) (look ! 19 refl)) (and-then ! (load ! (from ! (stop !)) (look ! 17 refl)) (and-then ! (load ! (from ! (stop !)) (look ! 53 refl)) (and-then ! (load ! (from ! (stop !)) (look ! 13 refl)) (and-then ! (load ! (from ! (stop !)) (look ! 49 refl)) (and-then ! (load ! (from ! (stop !)) (look ! 9 refl)) (no-more !))))))))) (λ rv.
-      use1 W (later (some (λ (r : RanFor). ((‵ (flft (ν ∷ []) fullShare) ⊛ (‵ (flft κt qt) ⊛ (‵ (flft (ρ ∷ []) fullShare) ⊛ (‵ (flft κe qe) ⊛ (‵ (flft (σ ∷ []) fullShare) ⊛ ‵ ftrue))))) ⊛ ‵ (Rn.the-row .own r (rv ∷ []))) ⊛ raw (ensured 𝓤 H A pr.ended (pr.clauses 𝓤 H A at-mem run) (ν ∷ [], (κt, (ρ ∷ [], (κe, (σ ∷ [], tt))))) (argsP m (lastM hs) l8 l10 l11 δm γn γk δr δo) tt r)))) (id⊢ 𝓤 _) $ await ! tt $ pick ! (λ r.
+      use2 W (raw (Process 𝓤 H A at-mem run .pre (toP ν ρ σ m (lastM hs) l8 l10 l11 δm γn γk δr δo)))
+      (goesP ν ρ σ m (lastM hs) l8 l10 l11 δm γn γk δr δo (run-asks a t ys es os₀ m em (is-zero (m .refusal) good) h (lastM hs) eh z ez (fails z no′))) $
+      calls-at ! (fmOf 𝓤 H (W .laws) 𝓣) (Process 𝓤 H A at-mem run) known-p (toP ν ρ σ m (lastM hs) l8 l10 l11 δm γn γk δr δo)
+      (and-then ! (load ! (from ! (fld ! refl (stop !))) (look-in ! 45 (sub ! 1 refl (whole !))))
+      (and-then ! (load ! (from ! (stop !)) (look ! 21 refl))
+      (and-then ! (load ! (from ! (stop !)) (look ! 19 refl))
+      (and-then ! (load ! (from ! (stop !)) (look ! 17 refl))
+      (and-then ! (load ! (from ! (stop !)) (look ! 53 refl))
+      (and-then ! (load ! (from ! (stop !)) (look ! 13 refl))
+      (and-then ! (load ! (from ! (stop !)) (look ! 49 refl)) (and-then ! (load ! (from ! (stop !)) (look ! 9 refl)) (no-more !))))))))) (λ rv.
+      use1 W (later (some (λ (r : RanFor). ((‵ (flft (ν ∷ []) fullShare) ⊛
+      (‵ (flft κt qt) ⊛ (‵ (flft (ρ ∷ []) fullShare) ⊛ (‵ (flft κe qe) ⊛ (‵ (flft (σ ∷ []) fullShare) ⊛ ‵ ftrue))))) ⊛ ‵ (Rn.the-row .own r (rv ∷ []))) ⊛ raw
+      (ensured 𝓤 H A pr.ended (pr.clauses 𝓤 H A at-mem run) (ν ∷ [], (κt, (ρ ∷ [], (κe, (σ ∷ [], tt))))) (argsP m (lastM hs) l8 l10 l11 δm γn γk δr δo) tt r))))
+      (id⊢ 𝓤 _) $ await ! tt $ pick ! (λ r.
       split ! $ move ! (1 ∷ []) $
-      use1 W (some (λ (zs : Lasts). ‵ (lasts pr.ended (ν ∷ [], (κt, (ρ ∷ [], (κe, (σ ∷ [], tt))))) (argsP m (lastM hs) l8 l10 l11 δm γn γk δr δo) zs) ⊛ raw (fact 𝓤 (Days (m .limits) (lastM hs) nx (m .ranks) t ys es os₀ r (lastR zs) (lastO zs))))) (id⊢ 𝓤 _) $ pick ! (λ zs.
-      split ! $ move ! (1 ∷ []) $ heard ! (Days (m .limits) (lastM hs) nx (m .ranks) t ys es os₀ r (lastR zs) (lastO zs)) (λ days. fsplit ! $ let-go ! $ fsplit ! $ let-go ! $ fsplit ! $ let-go ! $ fsplit ! $ let-go ! $ fsplit ! $
-      let-go ! $ fsplit ! $ fsplit ! $ move ! (1 ∷ []) $ feqL ! (λ lr. move ! (1 ∷ []) $ fsplit ! $ let-go ! $ fsplit ! $ fsplit ! $ move ! (1 ∷ []) $ feqL ! (λ lo. move ! (1 ∷ []) $ let-go ! $ move ! (2 ∷ []) $ split ! $
-      move ! (1 ∷ []) $ peeks ! Rn.the-row (Is Rn.the-row) (shows 𝓤 H A Rn.the-row) r (rv ∷ []) (λ isr. let-go ! $ land ! (from ! (stop !)) (init ! 59 refl (LL.lawful Rn.the-type Rn′.the-laws 𝓤 H A W .typed r (rv ∷ []) isr .0)) $
+      use1 W (some (λ (zs : Lasts). ‵ (lasts pr.ended (ν ∷ [], (κt, (ρ ∷ [], (κe, (σ ∷ [], tt))))) (argsP m (lastM hs) l8 l10 l11 δm γn γk δr δo) zs) ⊛ raw
+      (fact 𝓤 (Days (m .limits) (lastM hs) nx (m .ranks) t ys es os₀ r (lastR zs) (lastO zs))))) (id⊢ 𝓤 _) $ pick ! (λ zs.
+      split ! $ move ! (1 ∷ []) $ heard ! (Days (m .limits) (lastM hs) nx (m .ranks) t ys es os₀ r (lastR zs) (lastO zs))
+      (λ days. fsplit ! $ let-go ! $ fsplit ! $ let-go ! $ fsplit ! $ let-go ! $ fsplit ! $ let-go ! $ fsplit ! $
+      let-go ! $ fsplit ! $ fsplit ! $ move ! (1 ∷ []) $
+      feqL ! (λ lr. move ! (1 ∷ []) $ fsplit ! $ let-go ! $ fsplit ! $ fsplit ! $ move ! (1 ∷ []) $ feqL ! (λ lo. move ! (1 ∷ []) $ let-go ! $ move ! (2 ∷ []) $ split ! $
+      move ! (1 ∷ []) $ peeks ! Rn.the-row (Is Rn.the-row) (shows 𝓤 H A Rn.the-row) r (rv ∷ [])
+      (λ isr. let-go ! $ land ! (from ! (stop !)) (init ! 59 refl (LL.lawful Rn.the-type Rn′.the-laws 𝓤 H A W .typed r (rv ∷ []) isr .0)) $
       rewrite ! 59 (λ (u′ : Val). ‵ (fat fullShare Rn′.mir l0 0 u′)) (ap only (LL.tells Rn.the-type Rn′.the-laws r (rv ∷ []) isr)) refl $
       -- all comes back
-      split ! $ move ! (1 ∷ []) $ split ! $ move ! (1 ∷ []) $ split ! $ move ! (1 ∷ []) $ split ! $ move ! (1 ∷ []) $ split ! $ move ! (1 ∷ []) $ let-go ! $ move ! (2 ∷ []) $ lft-end ! tt $ move ! (0 ∷ 10 ∷ 6 ∷ []) $
-      use3 W (later (‵ (OwnR (lastR zs)) ⊛ ‵ (flft κr qr))) (is-back T.the-row κr qr γ b o 𝓤 H A W (named 1) ys gn (ρ ∷ []) δr (lastR zs) lr) $ await ! tt $ split ! $ move ! (2 ∷ []) $ lft-end ! tt $ move ! (0 ∷ 9 ∷ 6 ∷ []) $
+      split ! $ move ! (1 ∷ []) $ split ! $ move ! (1 ∷ []) $ split ! $ move ! (1 ∷ []) $ split ! $ move ! (1 ∷ []) $ split ! $ move ! (1 ∷ []) $ let-go ! $
+      move ! (2 ∷ []) $ lft-end ! tt $ move ! (0 ∷ 10 ∷ 6 ∷ []) $
+      use3 W (later (‵ (OwnR (lastR zs)) ⊛ ‵ (flft κr qr))) (is-back T.the-row κr qr γ b o 𝓤 H A W (named 1) ys gn (ρ ∷ []) δr (lastR zs) lr) $ await ! tt $ split ! $
+      move ! (2 ∷ []) $ lft-end ! tt $ move ! (0 ∷ 9 ∷ 6 ∷ []) $
       use3 W (later (‵ (OwnO (lastO zs)) ⊛ ‵ (flft κo qo))) (is-back u8 κo qo γo bo oo 𝓤 H A W (named 3) os₀ go (σ ∷ []) δo (lastO zs) lo) $ await ! tt $ split ! $ move ! (6 ∷ []) $ lft-end ! tt $
       use1 W (‵ (fdead (ν ∷ [])) ⊛ ‵ (fdead (ν ∷ []))) (W .lfts .dead-dup (ν ∷ [])) $ split ! $ move ! (1 ∷ []) $ move ! (0 ∷ 12 ∷ []) $ lent-back ! tt $
-      use1 W (‵ (fat fullShare five l8 0 (bytesVal (lastM hs)))) (out-of-memory 𝓤 H A W R500 five refl (lastM hs) (bytesVal (lastM hs)) l8 (array-vals (uint-vals w8)) (array-tells u8 (uint-vals w8) (uint-tells w8) 500) refl) $
+      use1 W (‵ (fat fullShare five l8 0 (bytesVal (lastM hs))))
+      (out-of-memory 𝓤 H A W R500 five refl (lastM hs) (bytesVal (lastM hs)) l8 (array-vals (uint-vals w8)) (array-tells u8 (uint-vals w8) (uint-tells w8) 500) refl) $
       move ! (1 ∷ []) $ use1 W (‵ (fdead (ν ∷ [])) ⊛ ‵ (fdead (ν ∷ []))) (W .lfts .dead-dup (ν ∷ [])) $ split ! $ move ! (1 ∷ []) $ move ! (0 ∷ 12 ∷ []) $ lent-back ! tt $
-      use1 W (‵ (fat fullShare big l10 0 (bytesVal nx))) (out-of-memory 𝓤 H A W R512 big refl nx (bytesVal nx) l10 (array-vals (uint-vals w8)) (array-tells u8 (uint-vals w8) (uint-tells w8) 512) refl) $ move ! (1 ∷ 11 ∷ []) $
+      use1 W (‵ (fat fullShare big l10 0 (bytesVal nx)))
+      (out-of-memory 𝓤 H A W R512 big refl nx (bytesVal nx) l10 (array-vals (uint-vals w8)) (array-tells u8 (uint-vals w8) (uint-tells w8) 512) refl) $
+      move ! (1 ∷ 11 ∷ []) $
       lent-back ! tt $
-      use1 W (‵ (fat fullShare four16 l11 0 (bytesVal (m .ranks)))) (out-of-memory 𝓤 H A W R16 four16 refl (m .ranks) (bytesVal (m .ranks)) l11 (array-vals (uint-vals w8)) (array-tells u8 (uint-vals w8) (uint-tells w8) 16) refl) $
-      returns ! (look ! 60 refl) $ forget ! 60 refl $ forget ! 58 refl $ forget ! 56 refl $ forget ! 54 refl $ forget ! 52 refl $ forget ! 50 refl $ forget ! 48 refl $ forget ! 11 refl $ forget ! 2 refl $ forget ! 44 refl $
-      forget ! 1 refl $ forget ! 0 refl $ forget ! 40 refl $ forget ! 38 refl $ forget ! 36 refl $ forget ! 34 refl $ forget ! 32 refl $ forget ! 30 refl $ forget ! 28 refl $ forget ! 26 refl $ forget ! 24 refl $ forget ! 22 refl $
-      forget ! 20 refl $ forget ! 18 refl $ forget ! 16 refl $ forget ! 14 refl $ forget ! 12 refl $ move ! (60 ∷ 61 ∷ []) $ free1 ! $ move ! (58 ∷ 59 ∷ []) $ free1 ! $ move ! (56 ∷ 57 ∷ []) $ free1 ! $ move ! (54 ∷ 55 ∷ []) $ free1 ! $
-      move ! (52 ∷ 53 ∷ []) $ free1 ! $ move ! (50 ∷ 51 ∷ []) $ free1 ! $ move ! (48 ∷ 49 ∷ []) $ free1 ! $ move ! (11 ∷ 47 ∷ []) $ free1 ! $ move ! (2 ∷ 45 ∷ []) $ free1 ! $ move ! (42 ∷ 43 ∷ []) $ free1 ! $ move ! (1 ∷ 41 ∷ []) $
-      free1 ! $ move ! (0 ∷ 39 ∷ []) $ free1 ! $ move ! (36 ∷ 37 ∷ []) $ free1 ! $ move ! (34 ∷ 35 ∷ []) $ free1 ! $ move ! (32 ∷ 33 ∷ []) $ free1 ! $ move ! (30 ∷ 31 ∷ []) $ free1 ! $ move ! (28 ∷ 29 ∷ []) $ free1 ! $
-      move ! (26 ∷ 27 ∷ []) $ free1 ! $ move ! (24 ∷ 25 ∷ []) $ free1 ! $ move ! (22 ∷ 23 ∷ []) $ free1 ! $ move ! (20 ∷ 21 ∷ []) $ free1 ! $ move ! (18 ∷ 19 ∷ []) $ free1 ! $ move ! (16 ∷ 17 ∷ []) $ free1 ! $ move ! (14 ∷ 15 ∷ []) $
+      use1 W (‵ (fat fullShare four16 l11 0 (bytesVal (m .ranks))))
+      (out-of-memory 𝓤 H A W R16 four16 refl (m .ranks) (bytesVal (m .ranks)) l11 (array-vals (uint-vals w8)) (array-tells u8 (uint-vals w8) (uint-tells w8) 16) refl) $
+      returns ! (look ! 60 refl) $ forget ! 60 refl $ forget ! 58 refl $ forget ! 56 refl $ forget ! 54 refl $ forget ! 52 refl $ forget ! 50 refl $ forget ! 48 refl $
+      forget ! 11 refl $ forget ! 2 refl $ forget ! 44 refl $
+      forget ! 1 refl $ forget ! 0 refl $ forget ! 40 refl $ forget ! 38 refl $ forget ! 36 refl $ forget ! 34 refl $ forget ! 32 refl $ forget ! 30 refl $
+      forget ! 28 refl $ forget ! 26 refl $ forget ! 24 refl $ forget ! 22 refl $
+      forget ! 20 refl $ forget ! 18 refl $ forget ! 16 refl $ forget ! 14 refl $ forget ! 12 refl $ move ! (60 ∷ 61 ∷ []) $ free1 ! $ move ! (58 ∷ 59 ∷ []) $ free1 ! $
+      move ! (56 ∷ 57 ∷ []) $ free1 ! $ move ! (54 ∷ 55 ∷ []) $ free1 ! $
+      move ! (52 ∷ 53 ∷ []) $ free1 ! $ move ! (50 ∷ 51 ∷ []) $ free1 ! $ move ! (48 ∷ 49 ∷ []) $ free1 ! $ move ! (11 ∷ 47 ∷ []) $ free1 ! $ move ! (2 ∷ 45 ∷ []) $
+      free1 ! $ move ! (42 ∷ 43 ∷ []) $ free1 ! $ move ! (1 ∷ 41 ∷ []) $
+      free1 ! $ move ! (0 ∷ 39 ∷ []) $ free1 ! $ move ! (36 ∷ 37 ∷ []) $ free1 ! $ move ! (34 ∷ 35 ∷ []) $ free1 ! $ move ! (32 ∷ 33 ∷ []) $ free1 ! $
+      move ! (30 ∷ 31 ∷ []) $ free1 ! $ move ! (28 ∷ 29 ∷ []) $ free1 ! $
+      move ! (26 ∷ 27 ∷ []) $ free1 ! $ move ! (24 ∷ 25 ∷ []) $ free1 ! $ move ! (22 ∷ 23 ∷ []) $ free1 ! $ move ! (20 ∷ 21 ∷ []) $ free1 ! $ move ! (18 ∷ 19 ∷ []) $
+      free1 ! $ move ! (16 ∷ 17 ∷ []) $ free1 ! $ move ! (14 ∷ 15 ∷ []) $
       free1 ! $ move ! (12 ∷ 13 ∷ []) $ free1 ! $ move ! (10 ∷ 11 ∷ []) $ free1 ! $ move ! (8 ∷ 9 ∷ []) $ free1 ! $ free0 ! $ keep ! (5 ∷ 3 ∷ 4 ∷ 1 ∷ 7 ∷ 2 ∷ 6 ∷ 0 ∷ []) $
-      by ! (leaves r (lastR zs) (lastO zs) (LL.owes Rn.the-type Rn′.the-laws r (LL.owed Rn.the-type Rn′.the-laws r (rv ∷ []) isr)) lr lo (run-answers a t ys es os₀ m em (is-zero (m .refusal) good) h (lastM hs) eh z ez (fails z no′) r (lastR zs) (lastO zs) days)))))))))))))))))))))))))))))))))))))))))))))))))))))))))))))))))
+      by ! (leaves r (lastR zs) (lastO zs) (LL.owes Rn.the-type Rn′.the-laws r (LL.owed Rn.the-type Rn′.the-laws r (rv ∷ []) isr)) lr lo
+      (run-answers a t ys es os₀ m em (is-zero (m .refusal) good) h (lastM hs) eh z ez (fails z no′) r (lastR zs)
+      (lastO zs) days)))))))))))))))))))))))))))))))))))))))))))))))))))))))))))))))))
 
 module _ {M : Type 1} (𝓤 : URA M) (H : Heap 𝓤) (A : Atoms 𝓤) (W : Given 𝓤 H A) (at-mem : Memory → SProp 𝓤) (run : Routine → Fun 𝓤) (𝓣 : Tables 𝓤 H)
     (known-m : Triple 𝓤 (𝓣 .C #clients-entry·enter-list) (Enter 𝓤 H A at-mem run)) (known-x : Triple 𝓤 (𝓣 .C #clients-entry·refused-run) (Refused 𝓤 H A at-mem run))
