@@ -307,6 +307,16 @@ module _ {M : Type 1} (𝓤 : URA M) (H : Heap 𝓤) (A : Atoms 𝓤) (W : Given
       MutSlice (named 2) (ν ∷ []) u8 ∷ usize ∷ [])
       (argsT k c e δ os w) (valsT k c e w)) ∷ []) ∵ says ! g $ frame ! $ done !
 
+  -- what it hands back: its answer, and then its last views, with what it says
+  abbrev cameT : ℕ → ℕ → Configuration → ℕ → GName → List ℕ → ℕ → Val → Item 𝓤
+  cameT ν k c e δ os w v =
+      later (some (λ (r : Taken). ((‵ (flft κa qa) ⊛ (‵ (flft κt qt) ⊛ (‵ (flft (ν ∷ []) fullShare) ⊛ ‵ ftrue))) ⊛ ‵ (Ta.the-row .own r (v ∷ []))) ⊛
+      raw (ensured 𝓤 H A tk.ended (tk.clauses 𝓤 H A at-mem run) (κa, (κt, (ν ∷ [], tt))) (argsT k c e δ os w) tt r)))
+
+  abbrev lastsT : ℕ → ℕ → Configuration → ℕ → GName → List ℕ → ℕ → Taken → Item 𝓤
+  lastsT ν k c e δ os w r =
+      some (λ (zs : Lasts). ‵ (lasts tk.ended (κa, (κt, (ν ∷ [], tt))) (argsT k c e δ os w) zs) ⊛ raw (fact 𝓤 (Taking l mk k nx rk t c e w os r (last zs))))
+
   abbrev Standing : Type 0
   Standing = Stand l mk nx rk t ys es os₀ (asked .automaton)
 
@@ -450,13 +460,10 @@ module _ {M : Type 1} (𝓤 : URA M) (H : Heap 𝓤) (A : Atoms 𝓤) (W : Given
         (and-then ! (load ! (from ! (stop !)) (look ! 20 refl))
         (and-then ! (load ! (from ! (fld ! refl (stop !))) (look-in ! 34 (sub ! 1 refl (whole !))))
         (and-then ! (load ! (from ! (stop !)) (look ! 16 refl)) (and-then ! (load ! (from ! (stop !)) (look ! 40 refl)) (no-more !))))))))))) (λ v.
-        use1 W (later (some (λ (r : Taken). ((‵ (flft κa qa) ⊛ (‵ (flft κt qt) ⊛ (‵ (flft (ν ∷ []) fullShare) ⊛ ‵ ftrue))) ⊛ ‵ (Ta.the-row .own r (v ∷ []))) ⊛ raw
-        (ensured 𝓤 H A tk.ended (tk.clauses 𝓤 H A at-mem run) (κa, (κt, (ν ∷ [], tt))) (argsT (d .client) (old d) (d .symbol) δ (s .output) (s .written)) tt r))))
-        (id⊢ 𝓤 _) $ await ! tt $ pick ! (λ r.
+        use1 W (cameT ν (d .client) (old d) (d .symbol) δ (s .output) (s .written) v) (id⊢ 𝓤 _) $ await ! tt $ pick ! (λ r.
         split ! $ move ! (1 ∷ []) $
-        use1 W (some (λ (zs : Lasts). ‵ (lasts tk.ended (κa, (κt, (ν ∷ [], tt))) (argsT (d .client) (old d) (d .symbol) δ (s .output) (s .written)) zs) ⊛ raw
-        (fact 𝓤 (Taking l mk (d .client) nx rk t (old d) (d .symbol) (s .written) (s .output) r (last zs))))) (id⊢ 𝓤 _) $ pick ! (λ zs.
-        split ! $ move ! (1 ∷ []) $ heard ! (Taking l mk (d .client) nx rk t (old d) (d .symbol) (s .written) (s .output) r (last zs))
+        use1 W (lastsT ν (d .client) (old d) (d .symbol) δ (s .output) (s .written) r) (id⊢ 𝓤 _) $ pick ! (λ zs.
+        split ! $ move ! (1 ∷ []) $ heard ! (Took s d r (last zs))
         (λ e. fsplit ! $ let-go ! $ fsplit ! $ let-go ! $ fsplit ! $ let-go ! $ fsplit ! $ let-go ! $
         fsplit ! $ let-go ! $ fsplit ! $ let-go ! $ fsplit ! $ let-go ! $ fsplit ! $ let-go ! $ fsplit ! $ fsplit ! $ move ! (1 ∷ []) $
         feqL ! (λ lz. move ! (1 ∷ []) $ let-go ! $ move ! (1 ∷ []) $ split ! $ move ! (1 ∷ []) $
