@@ -211,6 +211,19 @@ module _ {M : Type 1} (𝓤 : URA M) (H : Heap 𝓤) (A : Atoms 𝓤) (W : Given
       qed W ((‵ (flft κa qa) ⊛ (‵ (flft (ν ∷ []) fullShare) ⊛ ‵ ftrue)) ∷
       ‵ (owns (Li.the-row ∷ ShrRef (named 0) κa R16 ∷ T.the-row ∷ MutRef (named 1) (ν ∷ []) R500 ∷ usize ∷ []) (argsH c δ zs i) (valsH c i)) ∷ []) ∵ says ! k $ frame ! $ done !
 
+  -- what it says of its answer and of the marks then
+  abbrev Held : Configuration → List ℕ → ℕ → ℕ → List ℕ → Type 0
+  Held c ms i r ms′ = (r ≡ heldInBy l cl c) × (ms′ ≡ set ms i (markBy l cl c))
+
+  -- what it hands back: its answer, and then its last views, with what it says
+  abbrev cameH : ℕ → Configuration → GName → List ℕ → ℕ → Val → Item 𝓤
+  cameH ν c δ ms i u =
+      later (some (λ (r : ℕ). ((‵ (flft κa qa) ⊛ (‵ (flft (ν ∷ []) fullShare) ⊛ ‵ ftrue)) ⊛ ‵ (usize .own r (u ∷ []))) ⊛
+      raw (ensured 𝓤 H A hi.ended (hi.clauses 𝓤 H A at-mem run) (κa, (ν ∷ [], tt)) (argsH c δ ms i) tt r)))
+
+  abbrev lastsH : ℕ → Configuration → GName → List ℕ → ℕ → ℕ → Item 𝓤
+  lastsH ν c δ ms i r = some (λ (zs : Lasts). ‵ (lasts hi.ended (κa, (ν ∷ [], tt)) (argsH c δ ms i) zs) ⊛ raw (fact 𝓤 (Held c ms i r (last zs))))
+
   abbrev Nearer : Stand l cl ys ms₀ → Stand l cl ys ms₀ → Type 0
   Nearer s′ s = length ys - s′ .i < length ys - s .i
 
@@ -289,12 +302,10 @@ module _ {M : Type 1} (𝓤 : URA M) (H : Heap 𝓤) (A : Atoms 𝓤) (W : Given
         (and-then ! (load ! (from ! (stop !)) (look ! 25 refl))
         (and-then ! (load ! (from ! (stop !)) (look ! 7 refl))
         (and-then ! (load ! (from ! (stop !)) (look ! 5 refl)) (and-then ! (load ! (from ! (stop !)) (look ! 17 refl)) (no-more !)))))) (λ u.
-        use1 W (later (some (λ (r : ℕ). ((‵ (flft κa qa) ⊛ (‵ (flft (ν ∷ []) fullShare) ⊛ ‵ ftrue)) ⊛ ‵ (usize .own r (u ∷ []))) ⊛ raw
-        (ensured 𝓤 H A hi.ended (hi.clauses 𝓤 H A at-mem run) (κa, (ν ∷ [], tt)) (argsH old δ (s .marks) (s .i)) tt r)))) (id⊢ 𝓤 _) $ await ! tt $ pick ! (λ r.
+        use1 W (cameH ν old δ (s .marks) (s .i) u) (id⊢ 𝓤 _) $ await ! tt $ pick ! (λ r.
         split ! $ move ! (1 ∷ []) $
-        use1 W (some (λ (zs : Lasts). ‵ (lasts hi.ended (κa, (ν ∷ [], tt)) (argsH old δ (s .marks) (s .i)) zs) ⊛ raw
-        (fact 𝓤 ((r ≡ heldInBy l cl old) × (last zs ≡ set (s .marks) (s .i) (markBy l cl old)))))) (id⊢ 𝓤 _) $ pick ! (λ zs.
-        split ! $ move ! (1 ∷ []) $ heard ! ((r ≡ heldInBy l cl old) × (last zs ≡ set (s .marks) (s .i) (markBy l cl old)))
+        use1 W (lastsH ν old δ (s .marks) (s .i) r) (id⊢ 𝓤 _) $ pick ! (λ zs.
+        split ! $ move ! (1 ∷ []) $ heard ! (Held old (s .marks) (s .i) r (last zs))
         (λ e. fsplit ! $ let-go ! $ fsplit ! $ let-go ! $ fsplit ! $ let-go ! $ fsplit ! $ move ! (1 ∷ []) $ let-go ! $
         move ! (1 ∷ []) $ split ! $ move ! (1 ∷ []) $ peeks ! usize (Is usize) (shows 𝓤 H A usize) r (u ∷ [])
         (λ isr. let-go ! $ land ! (from ! (stop !)) (store ! 16 refl (uint-lawful 𝓤 H A W w64 .typed r _ isr .0)) $

@@ -48,7 +48,7 @@ use lib.Dec.{ltb, lit<}
 use package.mir.Syntax.{tyArray}
 use package.mir.Raw.{raw as rawTy}
 use base.Fml.{fdead, flent}
-use types.Kit.{use3, feqL, feqI}
+use types.Kit.{Item, use3, feqL, feqI}
 use types.Part.{agg, rep}
 use types.SemTy.{Body}
 use types.Run.{addr}
@@ -335,6 +335,20 @@ module _ {M : Type 1} (𝓤 : URA M) (H : Heap 𝓤) (A : Atoms 𝓤) (W : Given
       ‵ (owns (Li.the-row ∷ ShrRef (named 0) (ι ∷ []) R16 ∷ ShrSlice (named 1) (μ ∷ []) T.the-row ∷ MutRef (named 2) (ω ∷ []) R500 ∷ []) (argsH m pc pm γc γs γm) (valsH m pc pm)) ∷ []) ∵
       says ! k $ frame ! $ done !
 
+  -- what it says of its answer and of the marks then
+  abbrev Marks : ListEntry → ℕ → List ℕ → Type 0
+  Marks m h mk = (h ≡ heldInAllBy (m .limits) cl ys) × (mk ≡ sets unmarked 0 (marksBy (m .limits) cl ys))
+
+  -- what it hands back: its answer, and then its last views, with what it says
+  abbrev cameH : ℕ → ℕ → ℕ → ListEntry → ℕ → ℕ → GName → GName → GName → Val → Item 𝓤
+  cameH ι μ ω m pc pm γc γs γm v =
+      later (some (λ (h : ℕ). ((‵ (flft (ι ∷ []) fullShare) ⊛ (‵ (flft (μ ∷ []) fullShare) ⊛ (‵ (flft (ω ∷ []) fullShare) ⊛ ‵ ftrue))) ⊛ ‵ (usize .own h (v ∷ []))) ⊛
+      raw (ensured 𝓤 H A hd.ended (hd.clauses 𝓤 H A at-mem run) (ι ∷ [], (μ ∷ [], (ω ∷ [], tt))) (argsH m pc pm γc γs γm) tt h)))
+
+  abbrev lastsH : ℕ → ℕ → ℕ → ListEntry → ℕ → ℕ → GName → GName → GName → ℕ → Item 𝓤
+  lastsH ι μ ω m pc pm γc γs γm h =
+      some (λ (hs : LastsH). ‵ (lasts hd.ended (ι ∷ [], (μ ∷ [], (ω ∷ [], tt))) (argsH m pc pm γc γs γm) hs) ⊛ raw (fact 𝓤 (Marks m h (lastM hs))))
+
   -- of `too_short`
   abbrev argsS : ℕ → Args ts.signature tt
   argsS h = (length os₀, (length es, (h, tt)))
@@ -369,6 +383,20 @@ module _ {M : Type 1} (𝓤 : URA M) (H : Heap 𝓤) (A : Atoms 𝓤) (W : Given
     ),
     tt,
   )
+
+  -- what it says, and what it hands back
+  abbrev Ran : ListEntry → List ℕ → RanFor → Lasts → Type 0
+  Ran m mk r zs = Days (m .limits) mk nx (m .ranks) t ys es os₀ r (lastR zs) (lastO zs)
+
+  abbrev cameP : ℕ → ℕ → ℕ → ListEntry → List ℕ → ℕ → ℕ → ℕ → GName → GName → GName → GName → GName → Val → Item 𝓤
+  cameP ν ρ σ m mk pm pn pk γm γn γk δr δo v =
+      later (some (λ (r : RanFor). ((‵ (flft (ν ∷ []) fullShare) ⊛ (‵ (flft κt qt) ⊛ (‵ (flft (ρ ∷ []) fullShare) ⊛ (‵ (flft κe qe) ⊛ (‵ (flft (σ ∷ []) fullShare) ⊛ ‵ ftrue))))) ⊛
+      ‵ (Rn.the-row .own r (v ∷ []))) ⊛
+      raw (ensured 𝓤 H A pr.ended (pr.clauses 𝓤 H A at-mem run) (ν ∷ [], (κt, (ρ ∷ [], (κe, (σ ∷ [], tt))))) (argsP m mk pm pn pk γm γn γk δr δo) tt r)))
+
+  abbrev lastsP : ℕ → ℕ → ℕ → ListEntry → List ℕ → ℕ → ℕ → ℕ → GName → GName → GName → GName → GName → RanFor → Item 𝓤
+  lastsP ν ρ σ m mk pm pn pk γm γn γk δr δo r =
+      some (λ (zs : Lasts). ‵ (lasts pr.ended (ν ∷ [], (κt, (ρ ∷ [], (κe, (σ ∷ [], tt))))) (argsP m mk pm pn pk γm γn γk δr δo) zs) ⊛ raw (fact 𝓤 (Ran m mk r zs)))
 
   goesP : (ν ρ σ : ℕ) (m : ListEntry) (mk : List ℕ) (pm pn pk : ℕ) (γm γn γk δr δo : GName) → DayRequires (m .limits) mk nx (m .ranks) t ys es (length os₀)
       → ent 𝓤 (onEntry 𝓤 H A pr.signature (ν ∷ [], (κt, (ρ ∷ [], (κe, (σ ∷ [], tt))))) (fullShare, (qt, (fullShare, (qe, (fullShare, tt))))) (argsP m mk pm pn pk γm γn γk δr δo)
@@ -494,13 +522,10 @@ module _ {M : Type 1} (𝓤 : URA M) (H : Heap 𝓤) (A : Atoms 𝓤) (W : Given
       (and-then ! (load ! (from ! (fld ! refl (stop !))) (look-in ! 52 (sub ! 1 refl (whole !))))
       (and-then ! (load ! (from ! (stop !)) (look ! 38 refl))
       (and-then ! (load ! (from ! (stop !)) (look ! 34 refl)) (and-then ! (load ! (from ! (stop !)) (look ! 32 refl)) (no-more !))))) (λ hv.
-      use1 W (later (some (λ (h : ℕ). ((‵ (flft (ι ∷ []) fullShare) ⊛ (‵ (flft (μ ∷ []) fullShare) ⊛ (‵ (flft (ω ∷ []) fullShare) ⊛ ‵ ftrue))) ⊛ ‵
-      (usize .own h (hv ∷ []))) ⊛ raw (ensured 𝓤 H A hd.ended (hd.clauses 𝓤 H A at-mem run) (ι ∷ [], (μ ∷ [], (ω ∷ [], tt))) (argsH m l7 l8 γc γs γm) tt h))))
-      (id⊢ 𝓤 _) $ await ! tt $ pick ! (λ h.
+      use1 W (cameH ι μ ω m l7 l8 γc γs γm hv) (id⊢ 𝓤 _) $ await ! tt $ pick ! (λ h.
       split ! $ move ! (1 ∷ []) $
-      use1 W (some (λ (hs : LastsH). ‵ (lasts hd.ended (ι ∷ [], (μ ∷ [], (ω ∷ [], tt))) (argsH m l7 l8 γc γs γm) hs) ⊛ raw
-      (fact 𝓤 ((h ≡ heldInAllBy (m .limits) cl ys) × (lastM hs ≡ sets unmarked 0 (marksBy (m .limits) cl ys)))))) (id⊢ 𝓤 _) $ pick ! (λ hs.
-      split ! $ move ! (1 ∷ []) $ heard ! ((h ≡ heldInAllBy (m .limits) cl ys) × (lastM hs ≡ sets unmarked 0 (marksBy (m .limits) cl ys)))
+      use1 W (lastsH ι μ ω m l7 l8 γc γs γm h) (id⊢ 𝓤 _) $ pick ! (λ hs.
+      split ! $ move ! (1 ∷ []) $ heard ! (Marks m h (lastM hs))
       (λ eh. fsplit ! $ let-go ! $ fsplit ! $ let-go ! $ fsplit ! $ let-go ! $ fsplit ! $
       move ! (1 ∷ []) $ let-go ! $ move ! (1 ∷ []) $ split ! $ move ! (1 ∷ []) $ peeks ! usize (Is usize) (shows 𝓤 H A usize) h (hv ∷ []) (λ ish. let-go ! $
       land ! (from ! (stop !)) (init ! 49 refl (uint-lawful 𝓤 H A W w64 .typed h _ ish .0)) $ rewrite ! 49 (λ (u′ : Val). ‵ (fat fullShare (tyInt w64) l9 0 u′)) (ap only (ish .0)) refl $
@@ -603,14 +628,10 @@ module _ {M : Type 1} (𝓤 : URA M) (H : Heap 𝓤) (A : Atoms 𝓤) (W : Given
       (and-then ! (load ! (from ! (stop !)) (look ! 53 refl))
       (and-then ! (load ! (from ! (stop !)) (look ! 13 refl))
       (and-then ! (load ! (from ! (stop !)) (look ! 49 refl)) (and-then ! (load ! (from ! (stop !)) (look ! 9 refl)) (no-more !))))))))) (λ rv.
-      use1 W (later (some (λ (r : RanFor). ((‵ (flft (ν ∷ []) fullShare) ⊛
-      (‵ (flft κt qt) ⊛ (‵ (flft (ρ ∷ []) fullShare) ⊛ (‵ (flft κe qe) ⊛ (‵ (flft (σ ∷ []) fullShare) ⊛ ‵ ftrue))))) ⊛ ‵ (Rn.the-row .own r (rv ∷ []))) ⊛ raw
-      (ensured 𝓤 H A pr.ended (pr.clauses 𝓤 H A at-mem run) (ν ∷ [], (κt, (ρ ∷ [], (κe, (σ ∷ [], tt))))) (argsP m (lastM hs) l8 l10 l11 δm γn γk δr δo) tt r))))
-      (id⊢ 𝓤 _) $ await ! tt $ pick ! (λ r.
+      use1 W (cameP ν ρ σ m (lastM hs) l8 l10 l11 δm γn γk δr δo rv) (id⊢ 𝓤 _) $ await ! tt $ pick ! (λ r.
       split ! $ move ! (1 ∷ []) $
-      use1 W (some (λ (zs : Lasts). ‵ (lasts pr.ended (ν ∷ [], (κt, (ρ ∷ [], (κe, (σ ∷ [], tt))))) (argsP m (lastM hs) l8 l10 l11 δm γn γk δr δo) zs) ⊛ raw
-      (fact 𝓤 (Days (m .limits) (lastM hs) nx (m .ranks) t ys es os₀ r (lastR zs) (lastO zs))))) (id⊢ 𝓤 _) $ pick ! (λ zs.
-      split ! $ move ! (1 ∷ []) $ heard ! (Days (m .limits) (lastM hs) nx (m .ranks) t ys es os₀ r (lastR zs) (lastO zs))
+      use1 W (lastsP ν ρ σ m (lastM hs) l8 l10 l11 δm γn γk δr δo r) (id⊢ 𝓤 _) $ pick ! (λ zs.
+      split ! $ move ! (1 ∷ []) $ heard ! (Ran m (lastM hs) r zs)
       (λ days. fsplit ! $ let-go ! $ fsplit ! $ let-go ! $ fsplit ! $ let-go ! $ fsplit ! $ let-go ! $ fsplit ! $
       let-go ! $ fsplit ! $ fsplit ! $ move ! (1 ∷ []) $
       feqL ! (λ lr. move ! (1 ∷ []) $ fsplit ! $ let-go ! $ fsplit ! $ fsplit ! $ move ! (1 ∷ []) $ feqL ! (λ lo. move ! (1 ∷ []) $ let-go ! $ move ! (2 ∷ []) $ split ! $
