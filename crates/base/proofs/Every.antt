@@ -1,7 +1,7 @@
 -- A fact of every number of a list.
 use Prim.Native.Nat.{ℕ, zero, suc, _+_, _-_, _<_}
-use mathlib.Core.Path.{_≡_}
-use mathlib.Core.List.{List, _∷_, _++_}
+use mathlib.Core.Path.{_≡_, refl}
+use mathlib.Core.List.{List, [], _∷_, _++_, map}
 use native.Mathlib.Omega.{arith}
 use lib.ListN.{length, getD, length-append, List·getD-append}
 use lib.Seq.{getD-append-add}
@@ -26,3 +26,9 @@ module _ (P : ℕ → Type 0) where
       let e : i ≡ length xs + j = omega (arith, ltb-false i (length xs) u) in
       let k : j < length ys = omega (arith, ltb-false i (length xs) u, length-append xs ys) in
       rw (e, getD-append-add xs ys j 0) (g j k))
+
+-- what stands at a place of a list under a map, whatever stands for what is past the end
+pub getD-map : {A B : Type 0} (f : A → B) (l : List A) (i : ℕ) (d : A) (b : B) → i < length l → getD (map f l) i b ≡ f (getD l i d)
+getD-map f [] i d b h = absurd (omega arith)
+getD-map f (x ∷ l) zero d b h = refl
+getD-map f (x ∷ l) (suc i) d b h = getD-map f l i d b (omega arith)

@@ -1,6 +1,6 @@
 -- How many events all of a list hold, and the marks of all, as a loop adds up and stores them, and
 -- by an automaton's own parts.
-use Prim.Native.Nat.{ℕ, zero, suc, _+_, _<_, _≤_}
+use Prim.Native.Nat.{ℕ, _+_, _<_, _≤_}
 use mathlib.Core.Path.{_≡_, refl, _∙_, ap}
 use mathlib.Core.List.{List, [], _∷_, map}
 use native.Mathlib.Numerals.{add-one}
@@ -8,6 +8,7 @@ use native.Mathlib.Omega.{arith}
 use lib.ListN.{length, getD, set, drop, drop-of-length-le, length-map, List·getD-append}
 use lib.Seq.{drop-cons, sets, sets-eq}
 use Rattle.base.proofs.Bools.{by}
+use Rattle.base.proofs.Every.{getD-map}
 use Rattle.automaton.specs.declared.Automaton.{Automaton}
 use Rattle.configuration.specs.declared.Configuration.{Configuration}
 use Rattle.configuration.specs.Configuration.{consistentIn}
@@ -46,11 +47,6 @@ module _ (l : Limits) (classes : List ℕ) where
   marks-end marks cs i h = rw (drop-of-length-le cs h)
 
   -- the marks stored, read at a client's place
-  mark-of : (cs : List Configuration) (k : ℕ) → k < length cs → getD (map (markBy l classes) cs) k 0 ≡ markBy l classes (getD cs k none)
-  mark-of [] k h = absurd (omega arith)
-  mark-of (c ∷ cs) zero h = refl
-  mark-of (c ∷ cs) (suc k) h = mark-of cs k (omega arith)
-
   mark-at : (marks : List ℕ) (cs : List Configuration) → length cs ≤ length marks → (k : ℕ) → k < length cs
       → getD (sets marks 0 (marksBy l classes cs)) k 0 ≡ markBy l classes (getD cs k none)
   unfolding marksBy
@@ -59,7 +55,7 @@ module _ (l : Limits) (classes : List ℕ) where
       let long : length all ≡ length cs = length-map cs (markBy l classes) in
       let room : 0 + length all ≤ length marks = omega (arith, long, fits) in
       let low : k < length all = omega (arith, long, h) in
-      ap (λ (xs : List ℕ). getD xs k 0) (sets-eq all marks 0 room) ∙ List·getD-append all (drop (0 + length all) marks) 0 k low ∙ mark-of cs k h
+      ap (λ (xs : List ℕ). getD xs k 0) (sets-eq all marks 0 room) ∙ List·getD-append all (drop (0 + length all) marks) 0 k low ∙ getD-map (markBy l classes) cs k none 0 h
 
   -- an automaton's own
   module _ (a : Automaton) (next ranks t : List ℕ) (o : Lends a l next ranks t) (s : classes ≡ a .classes) where

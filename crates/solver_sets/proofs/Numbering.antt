@@ -13,6 +13,7 @@ use lib.Seq.{getD-append-add}
 use borrow.Author.Tests.{ltb-true, ltb-false, eqb-true, eqb-false}
 use Rattle.base.specs.Each.{count, those}
 use Rattle.base.proofs.Bools.{by, either, clash}
+use Rattle.base.proofs.Every.{getD-map}
 use Rattle.automaton.specs.declared.Automaton.{Automaton}
 use Rattle.automaton.specs.Automaton.{controllable, controllables}
 use Rattle.automaton.specs.Arrays.{controllableIn}
@@ -43,11 +44,6 @@ module _ {A : Type 0} (d : A) where
         let f : getD (l ++ m) i d ≡ getD m (i - length l) d = ap (λ j. getD (l ++ m) j d) e ∙ getD-append-add l m (i - length l) d in
         rw f (same (getD m (i - length l) d) .1 (inr (r .0)), omega (arith, r .1)));
   }
-
-getD-map : {A B : Type 0} (f : A → B) (l : List A) (i : ℕ) (d : A) (b : B) → i < length l → getD (map f l) i b ≡ f (getD l i d)
-getD-map f [] i d b h = absurd (omega arith)
-getD-map f (x ∷ l) zero d b h = refl
-getD-map f (x ∷ l) (suc i) d b h = getD-map f l i d b (omega arith)
 
 -- each symbol in front of each buffer
 pub extended-length : (es : List ℕ) (ws : List (List ℕ)) → length (extended es ws) ≡ length es * length ws
