@@ -2,7 +2,8 @@
  * Compares the archive with the C version of the same rules, and measures both.
  *
  *   driver compare COUNT   COUNT rounds of every call on sheets, records, tables, states, days and
- *                          feeds, valid and damaged; stops at the first difference
+ *                          feeds, valid and damaged; stops at the first difference; then prints
+ *                          how often a controllable event came to a full hold, and what came of it
  *   driver time            the solver, one event and a day, then a day over lists of clients, then
  *                          one event and one record of a feed over such a list, both in turn, best
  *                          of several
@@ -229,7 +230,7 @@ static void damage_counts(uint8_t *c)
     }
 }
 
-/* A carried state of the sheet, or a damaged one. */
+/* A carried state of the sheet, often with a full hold, or a damaged one. */
 static void make_configuration(const uint8_t *r, uint8_t *c, int damaged)
 {
     uint8_t symbols[16];
@@ -239,7 +240,7 @@ static void make_configuration(const uint8_t *r, uint8_t *c, int damaged)
             symbols[k++] = (uint8_t)e;
     memset(c, 0, JAXHOPHASI_CONFIGURATION_SIZE);
     c[0] = (uint8_t)below(r[0] ? r[0] : 1);
-    c[1] = (uint8_t)(k ? below(r[2] + 1u) : 0);
+    c[1] = (uint8_t)(k ? below(3) ? below(r[2] + 1u) : r[2] : 0);
     for (unsigned i = 0; i < c[1] && i < 6; i++)
         c[2 + i] = symbols[below(k)];
     make_counts(c, least(c[1], 6));
@@ -391,6 +392,40 @@ static void same_row(uint8_t ours, uint8_t theirs)
     same("the refusal", &ours, &theirs, 1);
 }
 
+/* Controllable events that came to a full hold, one by one: over a table that is not solved or is,
+ * by the hold B, and by what came of them. */
+enum { OPENED, SHUT, OPENED_AT_END, SHUT_AT_END, MET };
+static unsigned long met[2][7][MET];
+static int solved_now;
+
+/* Counts an event that was given row 0, 15 or 23 in a carried state that no row refuses. */
+static void meet(const uint8_t *r, const uint8_t *c, uint32_t event, uint8_t row)
+{
+    unsigned held = c[JAXHOPHASI_CONFIGURATION_HELD];
+    int at_end = jaxhophasi_place_at(c + RECEIVED) == UINT32_MAX;
+    if ((row == 0 || row == 15 || row == 23) && r[4 + event] && held == r[2])
+        met[solved_now][held][row == 0 ? OPENED : row == 23 ? OPENED_AT_END : at_end ? SHUT_AT_END : SHUT]++;
+}
+
+/* Prints the counts; from 20,000 rounds on there must be some of each. */
+static int met_all(unsigned long count)
+{
+    static const char *const names[MET] = { "opened", "shut", "opened at the count's end", "shut at the count's end" };
+    int all = 1;
+    for (int solved = 0; solved < 2; solved++)
+        for (unsigned what = 0; what < MET; what++) {
+            printf("full holds of 1 to 6, %s table, %s:", solved ? "solved" : "any", names[what]);
+            for (unsigned b = 1; b <= 6; b++) {
+                printf(" %lu", met[solved][b][what]);
+                all &= met[solved][b][what] > 0;
+            }
+            puts("");
+        }
+    if (!all && count >= 20000)
+        puts("NOT MET: some of these");
+    return all || count < 20000;
+}
+
 static void compare_read(const uint8_t *bytes, size_t length)
 {
     twin source = twins(length, 0), record = twins(JAXHOPHASI_AUTOMATON_SIZE, 0), place = twins(JAXHOPHASI_NUMBER_SIZE, 0);
@@ -470,9 +505,12 @@ static void compare_judge(twin record, twin state)
 static void compare_receive(twin record, twin table, size_t places, twin state, uint32_t event)
 {
     twin answer = twins(JAXHOPHASI_RECEIVED_SIZE, 0);
+    uint8_t before[JAXHOPHASI_CONFIGURATION_SIZE];
     call_now = "receive";
-    same_row(jaxhophasi_receive(record.ours, (uint32_t *)table.ours, places, state.ours, event, answer.ours),
-        ref_receive(record.theirs, (uint32_t *)table.theirs, places, state.theirs, event, answer.theirs));
+    memcpy(before, state.theirs, sizeof before);
+    uint8_t row = ref_receive(record.theirs, (uint32_t *)table.theirs, places, state.theirs, event, answer.theirs);
+    same_row(jaxhophasi_receive(record.ours, (uint32_t *)table.ours, places, state.ours, event, answer.ours), row);
+    meet(record.theirs, before, event, row);
     same_twins("the state", state);
     same_twins("the answer", answer);
     drop_twins(answer);
@@ -639,6 +677,16 @@ static void compare_list(twin record, twin table, size_t places)
     drop_twins(expected);
 }
 
+/* Leaves fewer bits in a table, sometimes, so that fewer front parts of a hold may go. */
+static void thin_out(twin table, size_t places)
+{
+    unsigned times = below(4);
+    for (size_t i = 0; i < places; i++)
+        for (unsigned j = 0; j < times; j++)
+            ((uint32_t *)table.ours)[i] &= any();
+    memcpy(table.theirs, table.ours, table.size);
+}
+
 static void compare_round(uint32_t most)
 {
     uint8_t r[JAXHOPHASI_AUTOMATON_SIZE], bytes[3 * JAXHOPHASI_MAX_SHEET + 8] = { 0 }, count[8];
@@ -660,8 +708,10 @@ static void compare_round(uint32_t most)
     compare_count_and_initial(record);
     size_t needed = ref_buffers_count(r, count) ? below(20) : 2 * jaxhophasi_number_at(count);
     size_t places = below(4) ? needed : below(2) ? needed + below(9) : below((uint32_t)needed + 1);
-    twin table = twins(4 * places, (int)below(2));
-    if (below(4))
+    twin table = twins(4 * places, below(4) == 0);
+    thin_out(table, places);
+    solved_now = below(4) > 0;
+    if (solved_now)
         compare_solve(record, table, places);
     make_configuration(r, state.ours, below(4) == 0);
     memcpy(state.theirs, state.ours, JAXHOPHASI_CONFIGURATION_SIZE);
@@ -682,7 +732,7 @@ static int compare(unsigned long count)
         compare_round(round_now % 997 == 996 ? 299593 : round_now % 97 == 96 ? 20000 : 400);
     }
     printf("the same: %lu rounds, %lu comparisons\n", count, calls);
-    return 0;
+    return met_all(count) ? 0 : 1;
 }
 
 /* ---- measuring ---- */

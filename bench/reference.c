@@ -1,11 +1,16 @@
-/* The rules of document 01, and of document 02's lists of growers, its feed and its places in the
- * input, in plain C, to compare with and to measure against. */
+/* The rules of document 01, and of document 02's lists of growers, its feed, its places in the
+ * input and its full hold, in plain C, to compare with and to measure against. */
 #include <string.h>
 
 #include "reference.h"
 
 int ref_flat_check = 0;
 int ref_remember = 0;
+
+/* What an event with room needs is compiled in line, what one at a full hold needs is not. (Left
+ * to itself the compiler puts the search, which both call, behind a call for every event.) */
+#define INLINE inline __attribute__((always_inline))
+#define NO_INLINE __attribute__((noinline))
 
 enum { STATES = 32, SYMBOLS = 16, CAPACITY = 6, CONTROLLABLE = 8, CLIENTS = 500, SERIALS = 65536 };
 
@@ -397,84 +402,122 @@ static void drop(struct configuration *c, unsigned r)
     c->held = (uint8_t)left;
 }
 
-/* Puts out the longest front part of the hold that brings the state into S of what is left: its
- * length, or -1 where there is none. The places of what goes are written to `from`, if it is not
- * null. */
-static int release(const struct automaton *s, struct configuration *c, uint8_t *out, uint8_t *from)
+/* The longest front part of these events that brings the state into S of what is left: its length,
+ * with the state that it leads to, or -1 where there is none. */
+static INLINE int longest(const struct automaton *s, const uint8_t *events, unsigned count, unsigned *from)
 {
     uint32_t left[CAPACITY + 1], value = 0, weight = 1;
     unsigned state[CAPACITY + 1];
-    left[c->held] = 0;
-    for (unsigned i = c->held; i-- > 0;) {
-        value += s->rank[c->buffer[i]] * weight;
+    left[count] = 0;
+    for (unsigned i = count; i-- > 0;) {
+        value += s->rank[events[i]] * weight;
         weight *= s->k;
-        left[i] = s->first[c->held - i] + value;
+        left[i] = s->first[count - i] + value;
     }
-    state[0] = c->state;
-    for (unsigned i = 0; i < c->held; i++)
-        state[i + 1] = s->next[state[i] * SYMBOLS + c->buffer[i]];
-    for (unsigned r = c->held + 1; r-- > 0;)
+    state[0] = *from;
+    for (unsigned i = 0; i < count; i++)
+        state[i + 1] = s->next[state[i] * SYMBOLS + events[i]];
+    for (unsigned r = count + 1; r-- > 0;)
         if (s->table[2 * (size_t)left[r]] >> state[r] & 1) {
-            if (r) {
-                memcpy(out, c->buffer, r);
-                if (from)
-                    memcpy(from, c->places, r * sizeof *c->places);
-                drop(c, r);
-            }
-            c->state = (uint8_t)state[r];
+            *from = state[r];
             return (int)r;
         }
     return -1;
 }
 
-/* Row 14, 15 or 23 of an event, where so many were accepted before it; or 0. */
-static uint8_t event_row(const struct automaton *s, const struct configuration *c, uint32_t event, uint32_t received)
+/* Puts out the first r events of the hold. Their places are written to `from`, if it is not
+ * null. */
+static void let_go(struct configuration *c, unsigned r, uint8_t *out, uint8_t *from)
 {
-    if (event >= s->m)
-        return 14;
-    if (s->classes[event] && c->held == s->b)
-        return 15;
+    memcpy(out, c->buffer, r);
+    if (from)
+        memcpy(from, c->places, r * sizeof *c->places);
+    drop(c, r);
+}
+
+/* An event with this place becomes the last of the hold. */
+static void hold(struct configuration *c, uint8_t event, uint32_t place)
+{
+    c->places[c->held] = place;
+    c->buffer[c->held++] = event;
+}
+
+/* What comes of an event: its row, 14, 15 or 23, or 0 with how many kinds are put out and whether
+ * it is then guarded. */
+struct outcome {
+    uint8_t row, winning;
+    unsigned count;
+};
+
+/* Row 23, where so many events were accepted, or 0. */
+static uint8_t end_row(uint32_t received)
+{
     return received == UINT32_MAX ? 23 : 0;
 }
 
-/* What comes of an event: how many kinds are put out, and whether it is then guarded. */
-struct outcome {
-    unsigned count;
-    int winning;
-};
+/* A controllable event at a full hold. It is accepted where the hold with it has a front part, not
+ * the empty one, that may go. The first held event is in each such part: it goes, the newcomer
+ * stands behind the others, and the search is that over a hold of B events; row 15 where it finds
+ * none. Nothing is written before the row is known. */
+static NO_INLINE struct outcome step_full(const struct automaton *s, struct configuration *c, uint8_t event, uint32_t place,
+    uint8_t *out, uint8_t *from)
+{
+    uint8_t behind[CAPACITY];
+    unsigned state = s->next[c->state * SYMBOLS + c->buffer[0]];
+    memcpy(behind, c->buffer + 1, s->b - 1);
+    behind[s->b - 1] = event;
+    int r = longest(s, behind, s->b, &state);
+    uint8_t row = r < 0 ? 15 : end_row(place);
+    if (row)
+        return (struct outcome){ .row = row };
+    let_go(c, 1, out, from);
+    hold(c, event, place);
+    let_go(c, (unsigned)r, out + 1, from ? from + sizeof place : 0);
+    c->state = (uint8_t)state;
+    return (struct outcome){ .winning = 1, .count = (unsigned)r + 1 };
+}
 
-/* An event that no row refuses, at this place in the input. The places of the kinds put out are
- * written to `from`, if it is not null. (The two counts are left to the caller.) */
-static struct outcome step(const struct automaton *s, struct configuration *c, uint8_t event, uint32_t place, uint8_t *out,
-    uint8_t *from)
+/* An event, where so many were accepted before it, which is its place in the input. The places of
+ * the kinds put out are written to `from`, if it is not null. (The two counts are left to the
+ * caller.) */
+static INLINE struct outcome step(const struct automaton *s, struct configuration *c, uint32_t event, uint32_t place,
+    uint8_t *out, uint8_t *from)
 {
     unsigned count = 0;
-    if (s->classes[event]) {
-        c->places[c->held] = place;
-        c->buffer[c->held++] = event;
-    } else {
-        out[count++] = event;
+    if (event >= s->m)
+        return (struct outcome){ .row = 14 };
+    if (s->classes[event] && c->held == s->b)
+        return step_full(s, c, (uint8_t)event, place, out, from);
+    if (end_row(place))
+        return (struct outcome){ .row = end_row(place) };
+    if (s->classes[event])
+        hold(c, (uint8_t)event, place);
+    else {
+        out[count++] = (uint8_t)event;
         c->state = s->next[c->state * SYMBOLS + event];
         if (from) {
             memcpy(from, &place, sizeof place);
             from += sizeof place;
         }
     }
-    int r = release(s, c, out + count, from);
-    return (struct outcome){ r > 0 ? count + (unsigned)r : count, r >= 0 };
+    unsigned state = c->state;
+    int r = longest(s, c->buffer, c->held, &state);
+    if (r > 0)
+        let_go(c, (unsigned)r, out + count, from);
+    c->state = (uint8_t)state;
+    return (struct outcome){ .winning = r >= 0, .count = r > 0 ? count + (unsigned)r : count };
 }
 
 /* An event over an answer of zeros: rows 14, 15, 23, or 0. */
 static uint8_t answered(const struct automaton *s, struct configuration *c, uint32_t event, uint8_t *answer)
 {
-    uint8_t row = event_row(s, c, event, c->received);
-    if (row)
-        return row;
-    struct outcome came = step(s, c, (uint8_t)event, c->received, answer, answer + 9);
+    struct outcome came = step(s, c, event, c->received, answer, answer + 9);
+    if (came.row)
+        return came.row;
     c->received++;
     c->emitted += came.count;
     answer[7] = (uint8_t)came.count;
-    answer[8] = (uint8_t)came.winning;
+    answer[8] = came.winning;
     return 0;
 }
 
@@ -505,10 +548,12 @@ uint8_t ref_run(const uint8_t *automaton, const uint32_t *table, size_t table_le
         return 16;
     uint32_t received = c.received;
     for (size_t i = 0; i < events_length; i++) {
-        if (event_row(&s, &c, events[i], received))
+        struct outcome came = step(&s, &c, events[i], received, out + used, 0);
+        if (came.row)
             refused++;
         else
-            used += step(&s, &c, (uint8_t)events[i], received++, out + used, 0).count;
+            received++;
+        used += came.count;
     }
     c.received = received;
     c.emitted += (uint32_t)used;
@@ -583,15 +628,18 @@ uint8_t ref_run_for(const uint8_t *automaton, const uint32_t *table, size_t tabl
         return 16;
     for (size_t i = 0; i < events_length; i++) {
         uint32_t client = events[i] / 65536, event = events[i] % 65536;
-        if (client >= configurations_length || !marks[client] ||
-            event_row(&s, &list[client], event, list[client].received))
+        if (client >= configurations_length || !marks[client]) {
+            refused++;
+            continue;
+        }
+        struct configuration *c = &list[client];
+        struct outcome came = step(&s, c, event, c->received, out + used, 0);
+        if (came.row)
             refused++;
         else {
-            struct configuration *c = &list[client];
-            unsigned count = step(&s, c, (uint8_t)event, c->received, out + used, 0).count;
             c->received++;
-            c->emitted += count;
-            used += count;
+            c->emitted += came.count;
+            used += came.count;
         }
     }
     put_ran(answer, used, refused);

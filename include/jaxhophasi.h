@@ -195,8 +195,10 @@ enum {
                                         * against an input count of 0 is 13) */
     JAXHOPHASI_BAD_EVENT = 14,         /* receive, receive_for, feed: event not below m (a day
                                         * passes over it and counts it) */
-    JAXHOPHASI_BUFFER_FULL = 15,       /* receive, receive_for, feed: controllable event, hold full
-                                        * (a day passes over it and counts it) */
+    JAXHOPHASI_BUFFER_FULL = 15,       /* receive, receive_for, feed: controllable event, hold
+                                        * full, and no front part of the hold with the event
+                                        * behind it may go (the empty one does not count); by the
+                                        * table's bits (a day passes over it and counts it) */
     JAXHOPHASI_SHORT_OUTPUT = 16,      /* write: buffer too short; run: output shorter than events
                                         * plus held; run_for: shorter than all the day's events
                                         * plus what all clients hold, a carried state that 13
@@ -245,7 +247,14 @@ uint8_t jaxhophasi_winning(const uint8_t automaton[JAXHOPHASI_AUTOMATON_SIZE], c
  * place in the input of each kind put out: of the event itself, if it is put out, the input count
  * as it was before; of a released one the place that it had in the hold. With W's Page, Receipt
  * and Sign, Sign puts out 0 2 3 from the places 2 0 1. The input count grows by 1, the output
- * count by how many are put out. */
+ * count by how many are put out.
+ *
+ * A controllable event with the hold full (B held) stands behind the held ones. If a front part of
+ * these B + 1, of one event or more, leads to a state where the gate may rest with the others, by
+ * the table, the event is accepted, the longest such part goes (all seven, with a hold of six, if
+ * they may), and the gate is guarded; else it is 15. With V's Answer held, a second one lets the
+ * first go and is held itself. Where it would be accepted but the input count is at its end, it is
+ * 23. So it is in every call that takes events. */
 uint8_t jaxhophasi_receive(const uint8_t automaton[JAXHOPHASI_AUTOMATON_SIZE], const uint32_t *table, size_t table_length,
     uint8_t configuration[JAXHOPHASI_CONFIGURATION_SIZE], uint32_t event, uint8_t answer[JAXHOPHASI_RECEIVED_SIZE]);
 

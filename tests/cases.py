@@ -52,7 +52,7 @@ sys.path.insert(0, str(pathlib.Path(__file__).resolve().parent.parent / "example
 from day import AUTOMATON_SIZE, EXPECTED_SIZE, FED_SIZE, NUMBER_SIZE, RAN_SIZE, RECEIVED_SIZE, STATUS_SIZE, VERDICT_SIZE
 from day import Configuration, filled, lent, library_at, number_at, numbers, places_at
 
-TABLE_PLACES = 64
+TABLE_PLACES = 256
 STATE_NUMBERS = 16  # of a carried state
 
 

@@ -507,6 +507,15 @@ static void check_rows_of_calls(void)
     jaxhophasi_initial(automaton, configuration);
     row(14, JAXHOPHASI_BAD_EVENT, jaxhophasi_receive(automaton, table, 4, configuration, 2, answer));
     row(16, JAXHOPHASI_SHORT_OUTPUT, jaxhophasi_run(automaton, table, 4, configuration, queries, 2, out, 1, answer));
+    /* Answer opens V's full hold: the held one goes, and it stays in its place; then at the end */
+    set_configuration(0, 1, 1, 5);
+    row(0, JAXHOPHASI_FINE, jaxhophasi_receive(automaton, table, 4, configuration, 1, answer));
+    same("how many leave a full hold", answer[JAXHOPHASI_RECEIVED_COUNT], 1);
+    same("guarded after a full hold", answer[JAXHOPHASI_RECEIVED_WINNING], 1);
+    same("held after a full hold", configuration[JAXHOPHASI_CONFIGURATION_HELD], 1);
+    same_counts("counts after a full hold", configuration, 6, 5);
+    set_configuration(0, 1, 1, end);
+    row(23, JAXHOPHASI_INPUT_COUNT_END, jaxhophasi_receive(automaton, table, 4, configuration, 1, answer));
     solve_w();
     event(2);
     event(2);

@@ -203,7 +203,7 @@ def try_cases(house):
     house.put_programs()
     for what, words, status, stdout, stderr in CASES:
         house.check(what, house.run(words), status, stdout, stderr)
-    for name in "W", "phi_ex":
+    for name in "W", "phi_ex", "receipt":
         words = [house.root / "samples" / (name + end) for end in (".txt", "-day.txt")]
         house.check(name, house.run(words), 0, (house.root / "samples" / (name + "-day.out")).read_bytes())
     helped = house.run(["--help"])

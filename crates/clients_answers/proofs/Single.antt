@@ -19,11 +19,11 @@ use Rattle.monitor_rule.specs.Step.{byTable, effectFrom, sources, advance}
 use Rattle.monitor_answers.specs.Answers.{isWinning, received}
 use Rattle.monitor_answers.specs.Turns.{turnRefusal, turnEmitted, turnSources, turnNext}
 use Rattle.monitor_answers.proofs.Turns.{Opened, receive-turns, turn-emits, turn-traces, turn-moves}
-use Rattle.monitor_answers.proofs.Accepted.{emitted-padded}
+use Rattle.monitor_answers.proofs.Accepted.{emitted-padded, opened-answers}
 use Rattle.monitor_answers.proofs.Eventwise.{same-row, same-emitted, same-sources, same-next}
 use Rattle.clients_answers.specs.Listed.{changedBy}
 use Rattle.clients_answers.specs.Clients.{none, monitored, clientRows, receiveForRefusal, receivedFor, answerOf, receivedClients}
-use Rattle.clients_answers.specs.Claims.{ListClear, EventsAlone, ClientsEmittedPadded}
+use Rattle.clients_answers.specs.Claims.{ListClear, EventsAlone, ClientsOpened, ClientsEmittedPadded}
 use Rattle.clients_answers.proofs.Isolation.{changed-own}
 use Rattle.clients_answers.proofs.Refusals.{list-passes, clear-list, clear-opened}
 use Rattle.clients_answers.proofs.Room.{outcome-in}
@@ -67,6 +67,14 @@ events-alone a t cs k i e l =
           outcome-in a t cs i e l ∙
           (λ j. record { refusal = same-row a t o c e j; emitted = same-emitted a t o c e j; sources = same-sources a t o c e j });
     }
+
+pub clients-opened : ClientsOpened
+clients-opened a t cs i e h full =
+    let k = client-rows-as-worded a t cs .event i e .accepted .0 h in
+    let alone = events-alone a t cs (k .0) i e (k .1) in
+    let own = receive-turns a t (getD cs i none) e (clear-opened a t (length cs) (k .0)) ∙ sym (own-row a t cs (k .0) i e (k .1)) ∙ h in
+    let o = opened-answers a t (getD cs i none) e own full in
+    record { opened = rw (alone .answer, alone .next) (o .opened); winning = rw (alone .answer) (o .winning) }
 
 pub clients-emitted-padded : ClientsEmittedPadded
 clients-emitted-padded a t cs i e =

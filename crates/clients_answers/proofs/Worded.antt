@@ -12,15 +12,12 @@ use Rattle.base.specs.Rows.{first}
 use Rattle.base.proofs.Bools.{by, either}
 use Rattle.base.proofs.Refusals.{first-stands, first-passes, first-never, first-own, first-later, contrary}
 use Rattle.automaton.specs.declared.Automaton.{Automaton}
-use Rattle.automaton.specs.Automaton.{valid}
-use Rattle.automaton.proofs.Facts.{valid-facts}
 use Rattle.configuration_places.specs.Places.{inputNumber}
 use Rattle.configuration.specs.declared.Configuration.{Configuration}
-use Rattle.configuration.specs.Configuration.{positionOf, consistent}
-use Rattle.configuration.proofs.Facts.{consistent-facts}
+use Rattle.configuration.specs.Configuration.{heldEvents, positionOf, consistent}
 use Rattle.monitor_rule.specs.Step.{byTable, eventRows, eventRefusal}
-use Rattle.monitor_rule.specs.Claims.{RowsOfEvent}
-use Rattle.monitor_rule.proofs.Worded.{event-number, event-rows-as-worded}
+use Rattle.monitor_rule.specs.Claims.{RowsOfEvent, Tabled}
+use Rattle.monitor_rule.proofs.Rows.{event-number, event-rows-as-worded}
 use Rattle.monitor_answers.specs.Answers.{configurationRows, tooShort}
 use Rattle.monitor_answers.specs.Claims.{RowOfRun}
 use Rattle.monitor_answers.specs.Turns.{turnRows, turnRefusal}
@@ -97,23 +94,22 @@ module _ (a : Automaton) (t : List ℕ) (cs : List Configuration) (i e : ℕ) wh
       (λ k. subst Inner (sym (first-passes 13 broken _ k)) own-inner)))
 
   -- its configuration's rows, in words
-  own-rows : valid a ≡ true → consistent a c ≡ true → RowsOfEvent a (c .held) (inputNumber (c .received)) e own
-  unfolding eventRefusal
-  own-rows v k =
-      rw (consistent-facts a c (valid-facts a v) k .held-length) at (event-rows-as-worded (byTable a t) a (positionOf c) e)
+  own-rows : RowsOfEvent (Tabled a t) a (c .state) (heldEvents c) (inputNumber (c .received)) e own
+  unfolding eventRefusal byTable
+  own-rows = event-rows-as-worded (byTable a t) a (positionOf c) e
 
   -- under a condition P that the call's first rows want
-  module _ {P : Type 0} (m : ℕ) (on : (Z : Type 0) (k : ℕ) → Inner k → (P → (row ≡ k) ↔ Z) → (m ≡ k) ↔ (P × Z)) (v : P → valid a ≡ true) where
-    of-own : {X : Type 0} (k : ℕ) → Inner k → (19 ≡ k → ⊥) → (13 ≡ k → ⊥) → (P → consistent a c ≡ true → (own ≡ k) ↔ X)
+  module _ {P : Type 0} (m : ℕ) (on : (Z : Type 0) (k : ℕ) → Inner k → (P → (row ≡ k) ↔ Z) → (m ≡ k) ↔ (P × Z)) where
+    of-own : {X : Type 0} (k : ℕ) → Inner k → (19 ≡ k → ⊥) → (13 ≡ k → ⊥) → ((own ≡ k) ↔ X)
         → (m ≡ k) ↔ (P × (i < length cs) × (consistent a c ≡ true) × X)
     unfolding clientRows turnRows configurationRows
     of-own k l n19 n13 f =
         Iff·trans
-        (on _ k l (λ p. first-later 19 absent from-13 absent-words there-words k n19
-        (λ _. first-later 13 broken _ (contrary (consistent a c) .0) (contrary (consistent a c) .1) k n13 (f p))))
+        (on _ k l (λ _. first-later 19 absent from-13 absent-words there-words k n19
+        (λ _. first-later 13 broken _ (contrary (consistent a c) .0) (contrary (consistent a c) .1) k n13 (λ _. f))))
         (λ (p, (b, (d, x))). (p, b, d, x), λ (p, b, d, x). (p, (b, (d, x))))
 
-    pub client-rows : ClientRows P a cs i e m
+    pub client-rows : ClientRows P a t cs i e m
     unfolding clientRows turnRows configurationRows
     client-rows =
         record {
@@ -125,10 +121,10 @@ module _ (a : Automaton) (t : List ℕ) (cs : List Configuration) (i e : ℕ) wh
               (λ _. first-later 19 absent from-13 absent-words there-words 13 (λ h. omega arith)
               (λ _. first-own 13 broken _ (contrary (consistent a c) .0) (contrary (consistent a c) .1) (own-other 13 (inl refl)))))
               (λ (p, (b, d)). (p, b, d), λ (p, b, d). (p, (b, d)));
-          row-14 = of-own 14 (inner-between 14 (omega arith) (omega arith)) (λ h. omega arith) (λ h. omega arith) (λ p k. own-rows (v p) k .row-14);
-          row-15 = of-own 15 (inner-between 15 (omega arith) (omega arith)) (λ h. omega arith) (λ h. omega arith) (λ p k. own-rows (v p) k .row-15);
-          row-23 = of-own 23 (inner-beyond 23 (omega arith)) (λ h. omega arith) (λ h. omega arith) (λ p k. own-rows (v p) k .row-23);
-          accepted = of-own 0 (inl refl) (λ h. omega arith) (λ h. omega arith) (λ p k. own-rows (v p) k .accepted);
+          row-14 = of-own 14 (inner-between 14 (omega arith) (omega arith)) (λ h. omega arith) (λ h. omega arith) (own-rows .row-14);
+          row-15 = of-own 15 (inner-between 15 (omega arith) (omega arith)) (λ h. omega arith) (λ h. omega arith) (own-rows .row-15);
+          row-23 = of-own 23 (inner-beyond 23 (omega arith)) (λ h. omega arith) (λ h. omega arith) (own-rows .row-23);
+          accepted = of-own 0 (inl refl) (λ h. omega arith) (λ h. omega arith) (own-rows .accepted);
         }
 
   -- the row of an event inside a day
@@ -172,14 +168,14 @@ client-rows-as-worded a t cs =
       event-first = λ i e. list-rows a t count (clientRows a t cs i e) (inner-later _ (client-inner a t cs i e));
       event = λ i e.
           let rows = clientRows a t cs i e in
-          client-rows a t cs i e (first (listRows a t count ++ rows)) (λ Z k l. list-later a t count rows k (inner-later k l)) (λ k. k .record-valid);
+          client-rows a t cs i e (first (listRows a t count ++ rows)) (λ Z k l. list-later a t count rows k (inner-later k l));
       answered = answered-row a t cs;
       day-first = λ vs out. list-rows a t count (roomRows a cs vs out) (inner-later _ (day-inner a cs vs out));
       row-16 = λ vs out. list-later a t count (roomRows a cs vs out) 16 (inner-later 16 (inner-between 16 (omega arith) (omega arith))) (λ _. day-row a cs vs out .row-16);
       accepted = λ vs out. list-later a t count (roomRows a cs vs out) 0 (inner-later 0 (inl refl)) (λ _. day-row a cs vs out .accepted);
       day-answered = λ vs out. refl;
-      inside = λ v i e.
-          rw (outcome-row a t cs i e) (client-rows a t cs i e (first (clientRows a t cs i e)) (λ Z k l z. (λ h. (tt, z tt .0 h), λ (_, x). z tt .1 x)) (λ _. v));
+      inside = λ i e.
+          rw (outcome-row a t cs i e) (client-rows a t cs i e (first (clientRows a t cs i e)) (λ Z k l z. (λ h. (tt, z tt .0 h), λ (_, x). z tt .1 x)));
       broken = λ c h. rw h;
       holding = λ c h. rw h;
       together = held-sum a cs;

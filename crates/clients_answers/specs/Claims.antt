@@ -14,8 +14,8 @@ use Rattle.automaton.specs.Automaton.{valid}
 use Rattle.solver_sets.specs.Table.{short}
 use Rattle.configuration_places.specs.Places.{inputNumber}
 use Rattle.configuration.specs.declared.Configuration.{Configuration}
-use Rattle.configuration.specs.Configuration.{consistent}
-use Rattle.monitor_rule.specs.Claims.{Unknown, Full, CountEnded, Admitted}
+use Rattle.configuration.specs.Configuration.{heldEvents, consistent}
+use Rattle.monitor_rule.specs.Claims.{Unknown, Full, Shut, CountEnded, Admitted, Tabled, Opened}
 use Rattle.monitor_answers.specs.declared.Received.{Received}
 use Rattle.monitor_answers.specs.Answers.{received}
 use Rattle.clients_answers.specs.declared.ReceivedFor.{ReceivedFor}
@@ -96,15 +96,22 @@ pub record ListClear (a : Automaton) (t : List ℕ) (count : ℕ) : Type 0 where
 
 -- The rows of an event for a client, n being the number that it gives, and P saying that no row
 -- before these holds: 19, then 13 of that client's configuration alone, then 14, 15 and 23.
-pub record ClientRows (P : Type 0) (a : Automaton) (cs : List Configuration) (i e n : ℕ) : Type 0 where
+-- Whether the newcomer opens that client's full buffer is read from the bits of the table, solved
+-- or not.
+pub record ClientRows (P : Type 0) (a : Automaton) (t : List ℕ) (cs : List Configuration) (i e n : ℕ) : Type 0 where
   pub row-19 : (n ≡ 19) ↔ (P × (length cs ≤ i))
   pub row-13 : (n ≡ 13) ↔ (P × (i < length cs) × (consistent a (getD cs i none) ≡ false))
   pub row-14 : (n ≡ 14) ↔ (P × (i < length cs) × (consistent a (getD cs i none) ≡ true) × Unknown a e)
-  pub row-15 : (n ≡ 15) ↔ (P × (i < length cs) × (consistent a (getD cs i none) ≡ true) × Full a (getD cs i none .held) e)
+  pub row-15 : let c = getD cs i none in
+      (n ≡ 15) ↔ (P × (i < length cs) × (consistent a c ≡ true) × Shut (Tabled a t) a (c .state) (heldEvents c) e)
   pub row-23 : let c = getD cs i none in
-      (n ≡ 23) ↔ (P × (i < length cs) × (consistent a c ≡ true) × CountEnded a (c .held) (inputNumber (c .received)) e)
+      (n ≡ 23)
+      ↔ (P × (i < length cs) × (consistent a c ≡ true)
+      × CountEnded (Tabled a t) a (c .state) (heldEvents c) (inputNumber (c .received)) e)
   pub accepted : let c = getD cs i none in
-      (n ≡ 0) ↔ (P × (i < length cs) × (consistent a c ≡ true) × Admitted a (c .held) (inputNumber (c .received)) e)
+      (n ≡ 0)
+      ↔ (P × (i < length cs) × (consistent a c ≡ true)
+      × Admitted (Tabled a t) a (c .state) (heldEvents c) (inputNumber (c .received)) e)
 
 -- the sum over the numbers below n
 unfoldable pub sumBelow : ℕ → (ℕ → ℕ) → ℕ
@@ -118,7 +125,7 @@ holds a cs = sumBelow (length cs) (λ g. heldIn a (getD cs g none))
 pub record RowsOf (a : Automaton) (t : List ℕ) (cs : List Configuration) : Type 0 where
   -- one event
   pub event-first : (i e : ℕ) → ListRows a t (length cs) (receiveForRefusal a t cs i e)
-  pub event : (i e : ℕ) → ClientRows (ListClear a t (length cs)) a cs i e (receiveForRefusal a t cs i e)
+  pub event : (i e : ℕ) → ClientRows (ListClear a t (length cs)) a t cs i e (receiveForRefusal a t cs i e)
   pub answered : (i e : ℕ) → receivedFor a t cs i e .refusal ≡ receiveForRefusal a t cs i e
   -- a day
   pub day-first : (vs out : List ℕ) → ListRows a t (length cs) (runForRefusal a t cs vs out)
@@ -127,8 +134,8 @@ pub record RowsOf (a : Automaton) (t : List ℕ) (cs : List Configuration) : Typ
   pub accepted : (vs out : List ℕ)
       → (runForRefusal a t cs vs out ≡ 0) ↔ (ListClear a t (length cs) × (length vs + holds a cs ≤ length out))
   pub day-answered : (vs out : List ℕ) → ranFor a t cs vs out .refusal ≡ runForRefusal a t cs vs out
-  -- each event inside a day, which only a valid automaton has
-  pub inside : valid a ≡ true → (i e : ℕ) → ClientRows (Unit {0}) a cs i e (outcome (monitored a t) cs i e .refusal)
+  -- each event inside a day
+  pub inside : (i e : ℕ) → ClientRows (Unit {0}) a t cs i e (outcome (monitored a t) cs i e .refusal)
   -- a configuration that 13 refuses counts as holding nothing
   pub broken : (c : Configuration) → consistent a c ≡ false → heldIn a c ≡ 0
   pub holding : (c : Configuration) → consistent a c ≡ true → heldIn a c ≡ c .held
@@ -170,6 +177,21 @@ abbrev pub EventsAlone : Type 0
 EventsAlone =
     (a : Automaton) (t : List ℕ) (cs : List Configuration) → ListClear a t (length cs) → (i e : ℕ) → i < length cs
     → AsReceived a t cs i e (received a t (getD cs i none) e)
+
+-- The answer to an event that a client's full buffer accepts (document 02, Card 5): the longest
+-- front part with which the newcomer opens that buffer is put out, what is left is held in the
+-- client's configuration afterwards, and that is winning, whatever the table.
+pub record ClientOpened (a : Automaton) (t : List ℕ) (cs : List Configuration) (i e : ℕ) : Type 0 where
+  pub opened : let c = getD cs i none in
+      let r = receivedFor a t cs i e in
+      let d = getD (receivedClients a t cs i e) i none in
+      Opened (Tabled a t) a (c .state) (heldEvents c) e (take (r .count) (r .emitted)) (heldEvents d) (d .state)
+  pub winning : receivedFor a t cs i e .winning ≡ true
+
+abbrev pub ClientsOpened : Type 0
+ClientsOpened =
+    (a : Automaton) (t : List ℕ) (cs : List Configuration) (i e : ℕ) → receiveForRefusal a t cs i e ≡ 0
+    → Full a (heldEvents (getD cs i none)) e → ClientOpened a t cs i e
 
 -- an event's answer, refused or not, has seven places for what is emitted, and as many for its
 -- places in the input; those past the count hold 0

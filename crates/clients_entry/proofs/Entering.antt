@@ -13,19 +13,18 @@ use Rattle.base.proofs.Bools.{by}
 use Rattle.automaton.specs.declared.Automaton.{Automaton}
 use Rattle.automaton.specs.Automaton.{valid}
 use Rattle.solver_sets.specs.Table.{short}
-use Rattle.configuration_places.specs.Places.{inputNumber}
 use Rattle.configuration.specs.declared.Configuration.{Configuration}
 use Rattle.configuration.specs.Configuration.{consistent}
 use Rattle.monitor_answers.specs.Answers.{tableRows, tableRefusal, refusedEvent, received}
 use Rattle.monitor_answers.specs.declared.Turned.{Turned}
 use Rattle.monitor_answers.specs.Turns.{turnRefusal, turnEmitted, turnNext, turned, turnedBuffer}
 use Rattle.monitor_answers.proofs.Turns.{Opened, receive-unopened, turn-inconsistent, turn-refused, turn-silent, turn-unmoved, turn-keeps}
-use Rattle.monitor_step.specs.Stepping.{eventRowBy}
+use Rattle.monitor_step.specs.declared.Stepped.{Stepped}
 use Rattle.monitor_entry.specs.declared.Entry.{Entry}
 use Rattle.monitor_entry.specs.Entries.{entryOf}
 use Rattle.monitor_loop.specs.declared.Limits.{Limits}
 use Rattle.monitor_loop.specs.Lending.{Lends, ProcessRequires}
-use Rattle.monitor_loop.proofs.Taking.{processed, Takes, opens, turn-row}
+use Rattle.monitor_loop.proofs.Taking.{processed, Takes, opens}
 use Rattle.clients_answers.specs.Clients.{rightCount, listRows, listRefusal, refusedFor}
 use Rattle.clients_answers.proofs.Refusals.{list-passes, list-clear, list-stands}
 use Rattle.clients_entry.specs.Entries.{ListEntry, Taken, countRow, listEntryOf, markBy, markOf, takenOf, TakeRequires, Taking, presentOf, absentOf}
@@ -186,14 +185,15 @@ module _ (l : Limits) (marks : List ℕ) (client : ℕ) (next ranks t : List ℕ
 
     module _ (k : mark ≡ 0 → ⊥) where
       -- by rows 14, 15 and 23
-      pub takes-refused : (capacity held n : ℕ) → capacity ≡ l .capacity → held ≡ c .held
-          → n ≡ eventRowBy ranks (l .symbols) capacity held (inputNumber (c .received)) e → (n ≡ 0 → ⊥)
-          → (r : Taken) → r ≡ record { configuration = c; written = at; refused = 1 } → Taking l marks client next ranks t c e at out r out
-      takes-refused capacity held n ec eh en z r er =
-          refuses n z (λ a o s. turn-row l next ranks t c e capacity held n ec eh en a o (mark-some a c mark s k)) r er
+      pub takes-passed : (x : Stepped) (out′ : List ℕ) → Takes l next ranks t c e at out x out′ → (x .row ≡ 0 → ⊥)
+          → (r : Taken) → r ≡ record { configuration = c; written = at; refused = 1 } → Taking l marks client next ranks t c e at out r out′
+      unfolding processed turnedBuffer
+      takes-passed x out′ f z r er a o s =
+          let w = f a o (mark-some a c mark s k) in
+          (refuses (x .row) z (λ b p q. sym (ap (λ (y : Stepped). y .row) (f b p (mark-some b c mark q k) .0))) r er a o s .0, w .1)
 
       -- accepted
-      pub takes-event : (d : Configuration) (r : _) (out′ : List ℕ) → (s : Takes l next ranks t c e at out r out′) → r .row ≡ 0
+      pub takes-event : (d : Configuration) (r : Stepped) (out′ : List ℕ) → (s : Takes l next ranks t c e at out r out′) → r .row ≡ 0
           → ((a : Automaton) → Lends a l next ranks t → consistent a c ≡ true → (d ≡ turnNext a t c e) × (r .written ≡ at + length (turnEmitted a t c e)))
           → Taking l marks client next ranks t c e at out (record { configuration = d; written = r .written; refused = 0 }) out′
       unfolding takenOf processed

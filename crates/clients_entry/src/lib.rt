@@ -14,8 +14,10 @@ use monitor_entry::enter;
 use monitor_loop::Limits;
 use monitor_loop::counted;
 use monitor_loop::derive;
+use monitor_loop::refuses;
 use monitor_places::places_after;
-use monitor_step::event_row;
+use monitor_step::early_row;
+use monitor_step::overflow;
 use monitor_step::step;
 ghost use mathlib.Core.Path.{_≡_};
 ghost use Prim.Native.Nat.{_+_, _<_};
@@ -151,7 +153,7 @@ pub fn take<'a>(
         return passed_over(c, at);
     }
     let held = as_usize(c.held);
-    let row = event_row(
+    let row = early_row(
         ranks,
         limits.symbols,
         as_usize(limits.capacity),
@@ -159,22 +161,41 @@ pub fn take<'a>(
         c.received,
         event,
     );
-    if row != 0 {
+    if refuses(row) {
         return passed_over(c, at);
     }
     let buffer = c.buffer;
-    let after = step(
-        next,
-        ranks,
-        limits.controllables,
-        table,
-        as_usize(c.state),
-        buffer,
-        held,
-        event as u8,
-        out,
-        at,
-    );
+    let after = if row == 15 {
+        overflow(
+            next,
+            ranks,
+            limits.controllables,
+            table,
+            as_usize(c.state),
+            buffer,
+            held,
+            c.received,
+            event as u8,
+            out,
+            at,
+        )
+    } else {
+        step(
+            next,
+            ranks,
+            limits.controllables,
+            table,
+            as_usize(c.state),
+            buffer,
+            held,
+            event as u8,
+            out,
+            at,
+        )
+    };
+    if after.row != 0 {
+        return passed_over(c, at);
+    }
     let held_places = c.places;
     let places = places_after(held_places, held, c.received, after.released, after.held);
     let left = after.buffer;

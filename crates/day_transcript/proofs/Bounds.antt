@@ -20,13 +20,13 @@ use Rattle.automaton_format.proofs.Trips.{read-is-valid}
 use Rattle.automaton.specs.declared.Automaton.{Automaton}
 use Rattle.automaton.specs.Automaton.{controllable, valid}
 use Rattle.automaton.proofs.Facts.{Valid, valid-facts}
-use Rattle.solver_sets.specs.Table.{Buffer, table}
+use Rattle.solver_sets.specs.Table.{Controllable, table}
 use Rattle.solver_sets.proofs.Total.{Total, total}
 use Rattle.configuration.specs.declared.Configuration.{Configuration}
 use Rattle.configuration.specs.Configuration.{heldEvents, positionOf}
 use Rattle.configuration.proofs.Facts.{controllable-every}
 use Rattle.monitor_rule.specs.Step.{Rest, byTable, release, arrival, effect, eventRows}
-use Rattle.monitor_rule.proofs.Effects.{Occurs, Accepts, accepted-facts, arrival-occurs, effect-occurs, effect-length}
+use Rattle.monitor_rule.proofs.Effects.{Occurs, Accepts, accepted-facts, arrival-arrives, effect-occurs, effect-length}
 use Rattle.monitor_answers.specs.Answers.{tableRows, configurationRows, callRows, receiveRefusal, refusedEvent, received}
 use Rattle.text.specs.Decimal.{ascii, decimal}
 use Rattle.text.proofs.Digits.{byte-length, word-length}
@@ -91,12 +91,12 @@ every-take P k l f i h =
     rw (getD-take k l i 0 (b .0)) (f i (b .1))
 
 module _ (rest : Rest) (a : Automaton) (v : Valid a) (q : ℕ) (w : List ℕ) (e : ℕ) (total : Total a) (o : Occurs a q w)
-    (h : Accepts a w e) where
+    (h : Accepts rest a q w e) where
   abbrev Symbols : List ℕ → Type 0
   Symbols = Every (λ x. x < 256)
 
-  held-symbols : (b : List ℕ) → Buffer a b → Symbols b
-  held-symbols b c i l = omega (arith, controllable-every a b (c .0) i l .0, v .symbols-high)
+  held-symbols : (b : List ℕ) → Controllable a b → Symbols b
+  held-symbols b c i l = omega (arith, controllable-every a b c i l .0, v .symbols-high)
 
   arrival-symbols : Symbols (arrival a q w e .emitted)
   unfolding arrival
@@ -111,7 +111,7 @@ module _ (rest : Rest) (a : Automaton) (v : Valid a) (q : ℕ) (w : List ℕ) (e
       let x = arrival a q w e in
       let k = release rest a (x .state) (x .buffer) in
       every-append (λ y. y < 256) (x .emitted) (take k (x .buffer)) arrival-symbols
-      (every-take (λ y. y < 256) k (x .buffer) (held-symbols (x .buffer) (arrival-occurs a q w e total o h .buffer)))
+      (every-take (λ y. y < 256) k (x .buffer) (held-symbols (x .buffer) (arrival-arrives a q w e (h .symbol) total o .symbols)))
 
 -- an answer's row
 first-high : (k n : ℕ) (b : Bool) (rows : List (ℕ × Bool)) → n ≤ k → first rows ≤ k → first ((n, b) ∷ rows) ≤ k

@@ -20,7 +20,7 @@ use Rattle.text.specs.Decimal.{ascii, digit, digits, decimal}
 use Rattle.text_lines.specs.Lines.{refusedEventLine, endLine, faultLine, refusalLine}
 use Rattle.day_lines.specs.StatusLines.{winningEnd, automatonLine, spaced, emission, eventLine}
 use Rattle.day_transcript.specs.Transcript.{automatonAt, opening, sessionFrom, firstLine, answerLine, after, eventLines, sessionLines, tooLong, overPlaces, transcript}
-use Rattle.day_transcript.specs.Claims.{v, large, lines, CasesPrinted, LongRefused}
+use Rattle.day_transcript.specs.Claims.{v, w, large, lines, CasesPrinted, LongRefused}
 
 -- every definition that the transcript rests on
 unfoldable all : ℕ
@@ -31,7 +31,7 @@ unfolding each count those lastOr has mask pad first groups read controllableIn 
     placeNumbers inputStands inputsStand consistentIn initialOf byTable qualifies qualifying release remaining arrival effect inLine sources eventRows tableRows configurationRows
     callRows isWinning
     callRefusal status receiveRefusal received ascii digit digits decimal spaced emission eventLine refusedEventLine endLine
-    faultLine refusalLine opening sessionFrom firstLine answerLine after eventLines sessionLines tooLong overPlaces transcript v large
+    faultLine refusalLine opening sessionFrom firstLine answerLine after eventLines sessionLines tooLong overPlaces transcript v w large
     lines winningEnd automatonLine automatonAt
 all = 0
 
@@ -40,6 +40,7 @@ unfolding all
 cases-printed =
     record {
       sample = refl;
+      full-opened = refl;
       row-15 = refl;
       event-unfinished = refl;
       padded-length = refl;

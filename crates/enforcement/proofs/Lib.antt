@@ -1,5 +1,5 @@
-pub mod Published
 pub mod Stores
+pub mod Published
 pub mod Alone
 pub mod Places
 pub mod Replies

@@ -13,7 +13,7 @@ use Rattle.base.proofs.Bools.{by}
 use Rattle.automaton.specs.declared.Automaton.{Automaton}
 use Rattle.automaton.specs.Automaton.{controllable}
 use Rattle.monitor_rule.specs.Step.{bySets, release, remaining}
-use Rattle.monitor_rule.proofs.Worded.{event-rows-as-worded}
+use Rattle.monitor_rule.proofs.Rows.{event-rows-as-worded}
 use Rattle.enforcement.specs.Store.{Store, empty, stateOf, positionAt, refusalAt, added, released, store, storeAll, Feed, event, events, lacksRoom}
 use Rattle.enforcement.specs.Store.{feed, feedAll, acceptedOf, acceptedBy, acceptedAll}
 use Rattle.enforcement.specs.Places.{eventAt, times, Traced, FunctionTraced}

@@ -9,17 +9,20 @@ use lib.ListN.{length, take, drop}
 use lib.Seq.{length-take-le}
 use Rattle.base.proofs.Bools.{by, either, refuted}
 use Rattle.automaton.specs.declared.Automaton.{Automaton}
-use Rattle.automaton.specs.Automaton.{class, controllable}
+use Rattle.automaton.specs.Automaton.{class, controllable, reached}
 use Rattle.automaton.proofs.Classes.{class-one}
 use Rattle.monitor_rule.specs.Step.{bySets, release, remaining}
-use Rattle.monitor_rule.specs.Claims.{Admitted}
-use Rattle.monitor_rule.proofs.Worded.{event-rows-as-worded, releases-longest}
+use Rattle.solver_sets.specs.Claims.{Winning}
+use Rattle.monitor_rule.specs.Claims.{Full, RowsOfEvent}
+use Rattle.monitor_rule.proofs.Worded.{releases-longest}
+use Rattle.monitor_rule.proofs.Rows.{event-rows-as-worded, opens-as-worded}
 use Rattle.monitor_rule.proofs.Longest.{release-le}
 use Rattle.monitor_answers.specs.Claims.{RowOfRun}
 use Rattle.monitor_answers.proofs.Worded.{room-as-worded, row-of-run}
 use Rattle.enforcement.specs.Store.{Store, stateOf, positionAt, refusalAt, added, released, store, storeAll, events, lacksRoom, feed, refusedOf}
 use Rattle.enforcement.specs.Calls.{runCall, refusalIn, expected}
-use Rattle.enforcement.specs.Published.{Releases, Refused, FollowsPublished}
+use Rattle.enforcement.specs.Published.{Releases, AdmittedAt, Refused, OpensBuffer, FollowsPublished}
+use Rattle.enforcement.proofs.Stores.{byStore, store-accepts, stored-position}
 
 -- the release, from any output and buffer with their places
 moved-releases : (a : Automaton) (s : Store) → Releases a (s .output) (s .sources) (s .buffer) (s .places) (released a s)
@@ -43,11 +46,15 @@ module _ (a : Automaton) (s : Store) where
   -- one event
   module _ (e : ℕ) where
     abbrev Taken : Type 0
-    Taken = Admitted a held (s .accepted) e
+    Taken = AdmittedAt a s e
+
+    pub event-rows : RowsOfEvent (Winning a) a (reached a (a .initial) (s .output)) (s .buffer) (s .accepted) e (refusalAt a s e)
+    unfolding bySets stateOf
+    event-rows = event-rows-as-worded (bySets a) a (positionAt a s) e
 
     stored : Taken → store a s e ≡ released a (added a s e)
     unfolding store
-    stored h = rw (event-rows-as-worded (bySets a) a (positionAt a s) e .accepted .1 h)
+    stored h = rw (event-rows .accepted .1 h)
 
     -- the release is from where the event was added
     passes : (class a e ≡ 1 → ⊥) → Taken
@@ -76,6 +83,15 @@ module _ (a : Automaton) (s : Store) where
           accepted = s .accepted + 1;
         }))
 
+    -- at a full buffer
+    opens : Full a (s .buffer) e → Taken → OpensBuffer a s e (store a s e)
+    unfolding bySets stateOf
+    opens full h =
+        let z = event-rows .accepted .1 h in
+        let o = opens-as-worded (bySets a) a (positionAt a s) e z full in
+        rw (store-accepts a s e z)
+        (record { front = byStore a s e .emitted; put-out = refl; opened = rw (ap (λ p. p .state) (stored-position a s e)) o })
+
     counts : Taken → store a s e .accepted ≡ suc (s .accepted)
     unfolding released added
     counts h =
@@ -83,9 +99,8 @@ module _ (a : Automaton) (s : Store) where
 
     not-taken : Refused a s e → eqb (refusalAt a s e) 0 ≡ false
     not-taken h =
-        let rows = event-rows-as-worded (bySets a) a (positionAt a s) e in
-        either h (λ u. rw (rows .row-14 .1 u))
-        (λ r. either r (λ f. rw (rows .row-15 .1 f)) (λ f. rw (rows .row-23 .1 f)))
+        either h (λ u. rw (event-rows .row-14 .1 u))
+        (λ r. either r (λ f. rw (event-rows .row-15 .1 f)) (λ f. rw (event-rows .row-23 .1 f)))
 
     refuses : Refused a s e → store a s e ≡ s
     unfolding store
@@ -97,7 +112,7 @@ module _ (a : Automaton) (s : Store) where
 
     not-counted : (es : List ℕ) → Taken → refusedOf a s (e ∷ es) ≡ refusedOf a (store a s e) es
     unfolding refusedOf
-    not-counted es h = rw (event-rows-as-worded (bySets a) a (positionAt a s) e .accepted .1 h) (omega arith)
+    not-counted es h = rw (event-rows .accepted .1 h) (omega arith)
 
   -- a day
   module _ (es : List ℕ) (size : ℕ) where
@@ -119,6 +134,7 @@ follows-published a s = record {
   passes = passes a s;
   holds = holds a s;
   counts = counts a s;
+  opens = opens a s;
   refuses = refuses a s;
   event-fed = λ e. refl;
   none-fed = refl;
@@ -128,6 +144,6 @@ follows-published a s = record {
   none-counted = refl;
   counted = counted a s;
   not-counted = not-counted a s;
-  event-row = event-rows-as-worded (bySets a) a (positionAt a s);
+  event-row = event-rows a s;
   run-row = run-row a s;
 }

@@ -14,7 +14,9 @@ use Rattle.solver_sets.proofs.Total.{total}
 use Rattle.solver_sets.proofs.Largest.{sets-are}
 use Rattle.configuration.specs.Configuration.{Position, emptyAt, heldEvents, initialOf}
 use Rattle.monitor_rule.specs.Step.{bySets, byTable}
+use Rattle.monitor_rule.specs.Claims.{Full}
 use Rattle.monitor_answers.specs.Answers.{isWinning}
+use Rattle.monitor_rule.proofs.Rows.{opens-as-worded}
 use Rattle.monitor_rule.proofs.Effects.{initial-occurs, accepted-facts, effect-agrees}
 use Rattle.monitor_rule.proofs.Solved.{solved-agree}
 use Rattle.enforcement.specs.Calls.{Call}
@@ -60,6 +62,14 @@ module _ (a : Automaton) (t : List ℕ) (v : valid a ≡ true) (sv : Solved a t)
       (positionAfter a t m) (position-met a t (total a v) m k) (output-leads a t m k) wins in
       (fine m k wins, all-of Fine (following a t m es) later)
 
+  -- an event accepted at a full buffer
+  abbrev Opening : Moment → List Moment → Type 0
+  Opening m ms = Full a (m .position .buffer) (m .event) → Stays a t (m ∷ ms)
+
+  opening : (m : Moment) (es : List ℕ) → Met a t m → Unit {0} → Opening m (following a t m es)
+  unfolding winningAfter
+  opening m es k _ full = onward m es k tt (opens-as-worded (byTable a t) a (m .position) (m .event) (k .accepted) full .rests)
+
   initial-wins : isWinning a t (initialOf a) ≡ true → Wins (emptyAt (a .initial))
   unfolding isWinning initialOf heldEvents pad bySets
   initial-wins h = sym (solved-agree a t sv [] (a .initial) (initial-occurs a v .occurs)) ∙ h
@@ -72,8 +82,12 @@ module _ (a : Automaton) (t : List ℕ) (v : valid a ≡ true) (sv : Solved a t)
   stays-later : (calls : List Call) → Suffixes Onward (moments a t (initialOf a) calls)
   stays-later calls = moments-each a t (total a v) (λ _. Unit {0}) Onward (λ m k i. tt) onward calls (initial-occurs a v) tt
 
+  stays-opened : (calls : List Call) → Suffixes Opening (moments a t (initialOf a) calls)
+  stays-opened calls = moments-each a t (total a v) (λ _. Unit {0}) Opening (λ m k i. tt) opening calls (initial-occurs a v) tt
+
 pub winning-stays : WinningStays
 winning-stays a t v sv calls = record {
   initially = stays-initially a t v sv calls;
   later = λ before m after e. suffix-at (Onward a t v sv) before m after (rw e at (stays-later a t v sv calls));
+  opened = λ before m after e. suffix-at (Opening a t v sv) before m after (rw e at (stays-opened a t v sv calls));
 }

@@ -17,7 +17,7 @@ use Rattle.solver_sets.specs.Table.{Solved}
 use Rattle.solver_sets.proofs.Total.{total}
 use Rattle.monitor_rule.specs.Step.{bySets, byTable, qualifies, release, arrival}
 use Rattle.monitor_rule.proofs.Longest.{release-le, release-longest}
-use Rattle.monitor_rule.proofs.Effects.{accepted-facts, arrival-occurs, arrival-leads, released-occurs}
+use Rattle.monitor_rule.proofs.Effects.{accepted-facts, arrival-arrives, arrival-leads, released-occurs}
 use Rattle.monitor_rule.proofs.Solved.{solved-agree}
 use Rattle.enforcement.specs.Moments.{Moment}
 use Rattle.enforcement.specs.Claims.{arrivalAt, strategyRelease, ourRelease, strategyOutput, strategyBuffer, LongerIsLost, LongerStrategiesLose}
@@ -34,7 +34,7 @@ longer-loses a t v sv m k rule h =
     let j = length (take n (x .buffer)) in
     let p = reached a (x .state) (take j (x .buffer)) in
     let accepted = accepted-facts (byTable a t) a (m .position) (m .event) (k .accepted) in
-    let at = released-occurs a (total a v) (x .state) (x .buffer) (arrival-occurs a q w (m .event) (total a v) (k .occurs .occurs) accepted) j in
+    let at = released-occurs a (total a v) (x .state) (x .buffer) (arrival-arrives a q w (m .event) (accepted .symbol) (total a v) (k .occurs .occurs)) j (omega arith) in
     let ours = length-take-le (release (byTable a t) a (x .state) (x .buffer)) (x .buffer) (release-le (byTable a t) a (x .state) (x .buffer)) in
     let out = refuted (has (setsFor a (drop j (x .buffer)) .winning) p) (λ y.
     let z = release-longest (byTable a t) a (x .state) (x .buffer) j (part-length n (x .buffer)) (solved-agree a t sv (drop j (x .buffer)) p at ∙ y) .1 in

@@ -13,6 +13,7 @@ use Rattle.solver_sets.specs.Table.{Solved}
 use Rattle.solver_answers.specs.Solving.{solveRefusal, solvedTable}
 use Rattle.configuration.specs.Configuration.{consistent, initialOf}
 use Rattle.monitor_rule.specs.Step.{byTable, Effect, release, arrival}
+use Rattle.monitor_rule.specs.Claims.{Full}
 use Rattle.monitor_answers.specs.Answers.{isWinning}
 use Rattle.enforcement.specs.Store.{empty, positionAt, storeAll, feedAll, acceptedAll}
 use Rattle.enforcement.specs.Calls.{Call, replies, configurationAfter, emittedAll, fedBy, configurationAt, expectedAll}
@@ -71,7 +72,8 @@ abbrev pub MomentsAccounted : Type 0
 MomentsAccounted = (a : Automaton) (t : List ℕ) → valid a ≡ true → Solved a t → (calls : List Call) → Accounted a t calls
 
 -- Once winning, initially or after an accepted event, winning after each later accepted event,
--- also inside a day; and the output then leads to an accepting state.
+-- also inside a day; and the output then leads to an accepting state. An event accepted at a full
+-- buffer always brings the monitor there.
 abbrev pub Stays : Automaton → List ℕ → List Moment → Type 0
 Stays a t = AllOf (λ m. (winningAfter a t m ≡ true) × (accepts a (reached a (a .initial) (outputAfter a t m)) ≡ true))
 
@@ -79,11 +81,14 @@ pub record OnceWinning (a : Automaton) (t : List ℕ) (calls : List Call) : Type
   pub initially : isWinning a t (initialOf a) ≡ true → Stays a t (moments a t (initialOf a) calls)
   pub later : (before : List Moment) (m : Moment) (after : List Moment) → moments a t (initialOf a) calls ≡ before ++ m ∷ after
       → winningAfter a t m ≡ true → Stays a t (m ∷ after)
+  -- after an event accepted at a full buffer the monitor is winning
+  pub opened : (before : List Moment) (m : Moment) (after : List Moment) → moments a t (initialOf a) calls ≡ before ++ m ∷ after
+      → Full a (m .position .buffer) (m .event) → Stays a t (m ∷ after)
 
 abbrev pub WinningStays : Type 0
 WinningStays = (a : Automaton) (t : List ℕ) → valid a ≡ true → Solved a t → (calls : List Call) → OnceWinning a t calls
 
--- an accepted event before the release
+-- an accepted event before the release: one more than the capacity may be in hand then
 unfoldable pub arrivalAt : Automaton → Moment → Effect
 arrivalAt a m = arrival a (m .position .state) (m .position .buffer) (m .event)
 

@@ -9,7 +9,7 @@ use lib.ListN.{length, take, drop}
 use Rattle.automaton.specs.declared.Automaton.{Automaton}
 use Rattle.automaton.specs.Automaton.{class, reached}
 use Rattle.solver_sets.specs.Claims.{Winning}
-use Rattle.monitor_rule.specs.Claims.{Unknown, Full, CountEnded, Admitted, RowsOfEvent, Longest}
+use Rattle.monitor_rule.specs.Claims.{Unknown, Full, Shut, CountEnded, Admitted, RowsOfEvent, Longest, Opened}
 use Rattle.monitor_answers.specs.Claims.{RowOfRun}
 use Rattle.enforcement.specs.Store.{Store, store, storeAll, event, events, feed, refusedOf}
 use Rattle.enforcement.specs.Calls.{receiveCall, runCall, refusalIn, expected}
@@ -24,18 +24,42 @@ pub record Releases (a : Automaton) (output sources buffer places : List ℕ) (z
   pub moved : z .sources ≡ sources ++ take (length front) places
   pub left : z .places ≡ drop (length front) places
 
--- an event that a row refuses, by what is held and how many were accepted before
+-- An event that row 15 refuses, one that row 23 does, and one that none does, by where the output
+-- leads, what is held and how many were accepted before; whether the newcomer opens a full buffer
+-- is by the sets S.
+abbrev pub ShutAt : Automaton → Store → ℕ → Type 0
+ShutAt a s e = Shut (Winning a) a (reached a (a .initial) (s .output)) (s .buffer) e
+
+abbrev pub EndedAt : Automaton → Store → ℕ → Type 0
+EndedAt a s e = CountEnded (Winning a) a (reached a (a .initial) (s .output)) (s .buffer) (s .accepted) e
+
+abbrev pub AdmittedAt : Automaton → Store → ℕ → Type 0
+AdmittedAt a s e = Admitted (Winning a) a (reached a (a .initial) (s .output)) (s .buffer) (s .accepted) e
+
+-- an event that a row refuses
 abbrev pub Refused : Automaton → Store → ℕ → Type 0
-Refused a s e = Unknown a e ⊎ Full a (length (s .buffer)) e ⊎ CountEnded a (length (s .buffer)) (s .accepted) e
+Refused a s e = Unknown a e ⊎ ShutAt a s e ⊎ EndedAt a s e
+
+-- From s the function goes on to z by an event that a full buffer accepts (document 02, Card 5):
+-- a front part of the buffer with the newcomer moves to the output's end that is not empty, and
+-- the longest that leads the state into S of what is left; where the output leads then lies in S
+-- of what is held then.
+pub record OpensBuffer (a : Automaton) (s : Store) (e : ℕ) (z : Store) : Type 0 where
+  pub front : List ℕ
+  pub put-out : z .output ≡ s .output ++ front
+  pub opened : Opened (Winning a) a (reached a (a .initial) (s .output)) (s .buffer) e front (z .buffer)
+      (reached a (a .initial) (z .output))
 
 pub record AsPublished (a : Automaton) (s : Store) : Type 0 where
   -- an accepted event goes to the output's end if it is not controllable, else to the buffer's,
   -- and so does its place, which is how many were accepted before it
-  pub passes : (e : ℕ) → (class a e ≡ 1 → ⊥) → Admitted a (length (s .buffer)) (s .accepted) e
+  pub passes : (e : ℕ) → (class a e ≡ 1 → ⊥) → AdmittedAt a s e
       → Releases a (s .output ++ e ∷ []) (s .sources ++ s .accepted ∷ []) (s .buffer) (s .places) (store a s e)
-  pub holds : (e : ℕ) → class a e ≡ 1 → Admitted a (length (s .buffer)) (s .accepted) e
+  pub holds : (e : ℕ) → class a e ≡ 1 → AdmittedAt a s e
       → Releases a (s .output) (s .sources) (s .buffer ++ e ∷ []) (s .places ++ s .accepted ∷ []) (store a s e)
-  pub counts : (e : ℕ) → Admitted a (length (s .buffer)) (s .accepted) e → store a s e .accepted ≡ suc (s .accepted)
+  pub counts : (e : ℕ) → AdmittedAt a s e → store a s e .accepted ≡ suc (s .accepted)
+  -- at a full buffer it opens the buffer
+  pub opens : (e : ℕ) → Full a (s .buffer) e → AdmittedAt a s e → OpensBuffer a s e (store a s e)
   -- one that a row refuses changes nothing
   pub refuses : (e : ℕ) → Refused a s e → store a s e ≡ s
   -- an event is fed as it is; of a list, one after the other
@@ -48,10 +72,11 @@ pub record AsPublished (a : Automaton) (s : Store) : Type 0 where
   -- of a day's events those are counted that a row refuses
   pub none-counted : refusedOf a s [] ≡ 0
   pub counted : (e : ℕ) (es : List ℕ) → Refused a s e → refusedOf a s (e ∷ es) ≡ suc (refusedOf a s es)
-  pub not-counted : (e : ℕ) (es : List ℕ) → Admitted a (length (s .buffer)) (s .accepted) e
-      → refusedOf a s (e ∷ es) ≡ refusedOf a (store a s e) es
+  pub not-counted : (e : ℕ) (es : List ℕ) → AdmittedAt a s e → refusedOf a s (e ∷ es) ≡ refusedOf a (store a s e) es
   -- its replies give the number of the row that refuses, and else 0
-  pub event-row : (e : ℕ) → RowsOfEvent a (length (s .buffer)) (s .accepted) e (refusalIn (expected a s (receiveCall e)))
+  pub event-row : (e : ℕ)
+      → RowsOfEvent (Winning a) a (reached a (a .initial) (s .output)) (s .buffer) (s .accepted) e
+      (refusalIn (expected a s (receiveCall e)))
   pub run-row : (es out : List ℕ) → RowOfRun (length out) es (length (s .buffer)) (refusalIn (expected a s (runCall es out)))
 
 -- so it is of every automaton and whatever was put out and is held

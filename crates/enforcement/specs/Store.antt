@@ -71,7 +71,7 @@ released a s =
       accepted = s .accepted;
     }
 
--- the row that refuses an event, by this buffer, the sets and its own count
+-- the row that refuses an event, by its state, this buffer, the sets and its own count
 abbrev pub refusalAt : Automaton → Store → ℕ → ℕ
 refusalAt a s e = eventRefusal (bySets a) a (positionAt a s) e
 

@@ -18,7 +18,7 @@ use Rattle.solver_answers.specs.Solving.{countAnswer}
 use Rattle.monitor_rule.specs.Step.{byTable, qualifies, qualifying, release, remaining, arrival, effect, inLine, sources, eventRows}
 use Rattle.monitor_answers.specs.Answers.{tableRows, configurationRows, callRows, isWinning, callRefusal, status, receiveRefusal, received}
 use Rattle.enforcement.specs.Calls.{handedBack, reply, replies}
-use Rattle.enforcement_cases.specs.Cases.{automatonV, automatonW, automatonPair, sized, Holds, cases, MarkedCases}
+use Rattle.enforcement_cases.specs.Cases.{automatonV, automatonW, automatonPair, behind, sized, Holds, cases, MarkedCases}
 
 -- all that a case computes by
 unfoldable opened : ℕ
@@ -32,19 +32,24 @@ unfolding
     heldEvents placeNumbers controllableSymbol placeStands bufferStands inputStands inputsStand consistentIn initialOf countAnswer
     byTable qualifies qualifying release remaining arrival effect inLine sources eventRows
     tableRows configurationRows callRows isWinning callRefusal status receiveRefusal received handedBack reply replies
-    automatonV automatonW automatonPair sized
+    automatonV automatonW automatonPair behind sized
 opened = 0
 
 -- numbers and their bytes, and how many buffers there are
-numbers-hold : AllOf Holds (drop 22 cases)
+numbers-hold : AllOf Holds (drop 27 cases)
 unfolding opened
 numbers-hold = ((refl, refl), ((refl, refl), ((refl, refl), (refl, ((refl, refl), ((refl, refl), ((refl, refl), tt)))))))
 
 -- the end of the input count, and row 13
-ends-hold : AllOf Holds (drop 12 cases)
+ends-hold : AllOf Holds (drop 16 cases)
 unfolding opened
-ends-hold = (refl, (refl, (refl, (refl, (refl, (refl, (refl, (refl, (refl, (refl, numbers-hold))))))))))
+ends-hold = (refl, (refl, (refl, (refl, (refl, (refl, (refl, (refl, (refl, (refl, (refl, numbers-hold)))))))))))
+
+-- a full buffer
+full-hold : AllOf Holds (drop 12 cases)
+unfolding opened
+full-hold = (refl, (refl, (refl, (refl, ends-hold))))
 
 pub marked-cases : MarkedCases
 unfolding opened
-marked-cases = (refl, (refl, ((refl, refl), ((refl, refl), (refl, (refl, (refl, (refl, (refl, (refl, (refl, (refl, ends-hold))))))))))))
+marked-cases = (refl, (refl, ((refl, refl), ((refl, refl), (refl, (refl, (refl, (refl, (refl, (refl, (refl, (refl, full-hold))))))))))))

@@ -1,5 +1,5 @@
--- The marked cases of document 01, and those of places and counts (document 02, Card 4), as rows
--- of one list.
+-- The marked cases of document 01, and those of places and counts and of a full buffer that the
+-- newcomer opens (document 02, Cards 4 and 5), as rows of one list.
 use Prim.Native.Nat.{ℕ, suc}
 use mathlib.Core.Path.{_≡_}
 use mathlib.Core.Bool.{Bool, true, false}
@@ -70,6 +70,19 @@ automatonPair =
       classes = pad 16 (0 ∷ 1 ∷ []);
       accepting = pad 32 (1 ∷ 1 ∷ 0 ∷ []);
       next = pad 512 (pad 16 (1 ∷ 2 ∷ []) ++ pad 16 (1 ∷ 1 ∷ []) ++ pad 16 (2 ∷ 2 ∷ []));
+    }
+
+-- an automaton without uncontrollable symbols, on which 0 goes out only with a 1 behind it
+unfoldable pub behind : ℕ → Automaton
+behind b =
+    record {
+      states = 2;
+      symbols = 2;
+      capacity = b;
+      initial = 0;
+      classes = pad 16 (1 ∷ 1 ∷ []);
+      accepting = pad 32 (1 ∷ 0 ∷ []);
+      next = pad 512 (pad 16 (1 ∷ 0 ∷ []) ++ pad 16 (1 ∷ 0 ∷ []));
     }
 
 -- an automaton of one state with an uncontrollable symbol and k controllable ones
@@ -173,13 +186,27 @@ cases =
     (answer 0 [] [] (at 0 (1 ∷ []) (0 ∷ []) 1 0) true ∷
     answer 0 [] [] (at 0 (1 ∷ 1 ∷ []) (0 ∷ 1 ∷ []) 2 0) true ∷
     answer 0 (0 ∷ 1 ∷ 1 ∷ []) (2 ∷ 0 ∷ 1 ∷ []) (at 1 [] [] 3 3) true ∷ []) ∷
+    -- Answer twice: the second comes at a full buffer and opens it for the first
+    events automatonV (1 ∷ 1 ∷ [])
+    (answer 0 [] [] (at 0 (1 ∷ []) (0 ∷ []) 1 0) true ∷
+    answer 0 (1 ∷ []) (0 ∷ []) (at 0 (1 ∷ []) (1 ∷ []) 2 1) true ∷ []) ∷
+    -- 0 does not open the full buffer, though nothing of it need go out; 1 opens it, for both
+    events (behind 1) (0 ∷ 0 ∷ 1 ∷ [])
+    (answer 0 [] [] (at 0 (0 ∷ []) (0 ∷ []) 1 0) true ∷
+    answer 15 [] [] (at 0 (0 ∷ []) (0 ∷ []) 1 0) false ∷
+    answer 0 (0 ∷ 1 ∷ []) (0 ∷ 1 ∷ []) (at 0 [] [] 2 2) true ∷ []) ∷
+    -- six held: 1 puts out all seven, and 0 is refused
+    later (behind 6) (at 0 (replicate 6 0) (0 ∷ 1 ∷ 2 ∷ 3 ∷ 4 ∷ 5 ∷ []) 6 0) 1
+    (answer 0 (replicate 6 0 ++ 1 ∷ []) (0 ∷ 1 ∷ 2 ∷ 3 ∷ 4 ∷ 5 ∷ 6 ∷ []) (at 0 [] [] 7 7) true) ∷
+    refused (behind 6) (at 0 (replicate 6 0) (0 ∷ 1 ∷ 2 ∷ 3 ∷ 4 ∷ 5 ∷ []) 6 0) 0 15 ∷
     -- the last event that can be accepted: Sign; then the input count is at its end
     later automatonW (at 0 [] [] 4294967294 4294967294) 0
     (answer 0 (0 ∷ []) (4294967294 ∷ []) (at 1 [] [] 4294967295 4294967295) true) ∷
-    -- there Sign, and Page with room, are refused by row 23, Page with the buffer full by row 15,
-    -- and what is no symbol by row 14
+    -- there Sign, and Page with room, are refused by row 23, and so is Answer at a full buffer
+    -- that it opens; Page at one that it does not by row 15, and what is no symbol by row 14
     refused automatonW (at 1 [] [] 4294967295 4294967295) 0 23 ∷
     refused automatonW (at 0 (2 ∷ []) (7 ∷ []) 4294967295 4294967294) 2 23 ∷
+    refused automatonV (at 0 (1 ∷ []) (7 ∷ []) 4294967295 4294967294) 1 23 ∷
     refused automatonW (at 0 (2 ∷ 2 ∷ []) (7 ∷ 8 ∷ []) 4294967295 4294967293) 2 15 ∷
     refused automatonW (at 1 [] [] 4294967295 4294967295) 4 14 ∷
     -- row 13: a place at the count, equal places, an unused place that is not 0, counts that do

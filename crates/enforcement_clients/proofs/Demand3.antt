@@ -124,6 +124,7 @@ module _ (a : Automaton) (t : List ℕ) (v : valid a ≡ true) (sv : Solved a t)
           emitted = e .accounted .emitted ∙ e .enforces .all-emitted ∙ ap (λ (s : Store). s .output) fed-is;
           initially = e .once-winning .initially;
           later = e .once-winning .later;
+          opened = e .once-winning .opened;
           said-initially = λ w. flag-stays a t sv (initialOf a) (first-status a t v sv w) alone;
           said = once-winning-said a t v sv alone;
           strategies = e .strategies;

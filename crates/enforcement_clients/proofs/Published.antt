@@ -2,6 +2,7 @@
 use Prim.Native.Nat.{ℕ, suc, _+_, _<_, _≤_}
 use mathlib.Core.Path.{_≡_, refl, sym, _∙_, ap}
 use mathlib.Core.Logic.{_↔_}
+use mathlib.Core.Bool.{true}
 use mathlib.Core.List.{List, [], _∷_, _++_, map}
 use native.Mathlib.Omega.{arith}
 use lib.ListN.{length, drop}
@@ -10,13 +11,16 @@ use borrow.Author.Tests.{eqb-true, eqb-false, eq-eqb, ne-eqb, ltb-true, ltb-fals
 use Rattle.base.specs.Pad.{pad}
 use Rattle.base.proofs.Bools.{by, either}
 use Rattle.automaton.specs.declared.Automaton.{Automaton}
+use Rattle.automaton.specs.Automaton.{reached}
+use Rattle.solver_sets.specs.Claims.{Winning}
 use Rattle.configuration_places.specs.Places.{inputPlace}
 use Rattle.monitor_rule.specs.Step.{bySets}
-use Rattle.monitor_rule.specs.Claims.{Admitted, RowsOfEvent}
-use Rattle.monitor_rule.proofs.Worded.{event-number, event-rows-as-worded}
+use Rattle.monitor_rule.specs.Claims.{Full, RowsOfEvent}
+use Rattle.monitor_rule.proofs.Rows.{event-number}
 use Rattle.enforcement.specs.Store.{stateOf, positionAt, refusalAt, store}
 use Rattle.enforcement.specs.Calls.{since, sourcesSince}
-use Rattle.enforcement.specs.Published.{Refused}
+use Rattle.enforcement.specs.Published.{AdmittedAt, Refused, OpensBuffer}
+use Rattle.enforcement.proofs.Published.{event-rows, follows-published}
 use Rattle.enforcement.proofs.Stores.{since-same, sources-same, store-refuses}
 use Rattle.clients_answers.specs.declared.ReceivedFor.{ReceivedFor}
 use Rattle.clients_answers.specs.Clients.{named}
@@ -89,8 +93,8 @@ module _ (a : Automaton) (n : ℕ) (ss : Functions) (k i e : ℕ) where
     λ (r, b, x). there-own (r, b) ∙ f .1 x,
   )
 
-  rows : RowsOfEvent a (length (ss i .buffer)) (ss i .accepted) e own
-  rows = event-rows-as-worded (bySets a) a (positionAt a (ss i)) e
+  rows : RowsOfEvent (Winning a) a (reached a (a .initial) (ss i .output)) (ss i .buffer) (ss i .accepted) e own
+  rows = event-rows a (ss i) e
 
   given-20 : eventRefusalOf a n ss i e ≡ 20 → WrongCount n
   given-20 h =
@@ -129,7 +133,7 @@ module _ (a : Automaton) (n : ℕ) (ss : Functions) (k i e : ℕ) where
   unfolding fedIn refusalOf eventsBy
   as-lent = refl
 
-  answered : RightCount n → i < n → Admitted a (length (ss i .buffer)) (ss i .accepted) e
+  answered : RightCount n → i < n → AdmittedAt a (ss i) e
       → let z = store a (ss i) e in
       answer
       ≡ receive (record {
@@ -141,6 +145,11 @@ module _ (a : Automaton) (n : ℕ) (ss : Functions) (k i e : ℕ) where
       })
   unfolding expectedIn answerIn
   answered r l h = rw (there-own (r, l), rows .accepted .1 h, as-lent, fed r l)
+
+  opens : RightCount n → i < n → Full a (ss i .buffer) e → AdmittedAt a (ss i) e
+      → OpensBuffer a (ss i) e (after i) × (bySets a (after i .buffer) (stateOf a (after i)) ≡ true)
+  unfolding bySets stateOf
+  opens r l full h = let o = follows-published a (ss i) .opens e full h in rw (fed r l) (o, o .opened .rests)
 
   refused : (m : ℕ) → (m ≡ 0 → ⊥) → eventRefusalOf a n ss i e ≡ m
       → answer ≡ receive (silent m)
@@ -162,6 +171,7 @@ module _ (a : Automaton) (n : ℕ) (ss : Functions) (k i e : ℕ) where
         wrong-count = wrong-count;
         absent = absent;
         answer = answered;
+        opens = opens;
         refused = refused;
       }
 
@@ -188,7 +198,7 @@ module _ (a : Automaton) (n : ℕ) (ss : Functions) where
     -- an event that its client's function refuses
     not-taken : Refused a (ss i) e → refusalAt a (ss i) e ≡ 0 → ⊥
     not-taken f z =
-        let r = event-rows-as-worded (bySets a) a (positionAt a (ss i)) e in
+        let r = event-rows a (ss i) e in
         either f (λ u. omega (arith, r .row-14 .1 u))
         (λ g. either g (λ b. omega (arith, r .row-15 .1 b)) (λ b. omega (arith, r .row-23 .1 b)))
 
@@ -204,9 +214,9 @@ module _ (a : Automaton) (n : ℕ) (ss : Functions) where
         let same = ap (λ (r : Functions). refusedDay a n r xs) (kept (passed-over l z)) in
         day-counts a n ss i e xs l ∙ rw (ne-eqb (refusalAt a (ss i) e) 0 z) (omega (arith, same))
 
-    not-counted : i < n → Admitted a (length (ss i .buffer)) (ss i .accepted) e → refusedDay a n ss ((i, e) ∷ xs) ≡ refusedDay a n next xs
+    not-counted : i < n → AdmittedAt a (ss i) e → refusedDay a n ss ((i, e) ∷ xs) ≡ refusedDay a n next xs
     not-counted l f =
-        let z = event-rows-as-worded (bySets a) a (positionAt a (ss i)) e .accepted .1 f in
+        let z = event-rows a (ss i) e .accepted .1 f in
         day-counts a n ss i e xs l ∙ rw z (omega arith)
 
     absent-counted : n ≤ i → refusedDay a n ss ((i, e) ∷ xs) ≡ suc (refusedDay a n ss xs)

@@ -13,6 +13,7 @@ use Rattle.solver_answers.specs.Solving.{solveRefusal, solvedTable}
 use Rattle.configuration_places.specs.Places.{inputNumber, outputNumber}
 use Rattle.configuration.specs.declared.Configuration.{Configuration}
 use Rattle.configuration.specs.Configuration.{heldEvents, placeNumbers, initialOf, consistent}
+use Rattle.monitor_rule.specs.Claims.{Full}
 use Rattle.monitor_answers.specs.Answers.{isWinning, status}
 use Rattle.enforcement.specs.Store.{Store, empty, store, storeAll}
 use Rattle.enforcement.specs.Calls.{receiveCall, configurationAfter, configurationAt}
@@ -169,6 +170,9 @@ pub record MetEnforced (a : Automaton) (t : List ℕ) (ms : List Moment) (s : St
   pub initially : isWinning a t (initialOf a) ≡ true → Stays a t ms
   pub later : (before : List Moment) (m : Moment) (after : List Moment) → ms ≡ before ++ m ∷ after
       → winningAfter a t m ≡ true → Stays a t (m ∷ after)
+  -- after one accepted at a full buffer the monitor is winning
+  pub opened : (before : List Moment) (m : Moment) (after : List Moment) → ms ≡ before ++ m ∷ after
+      → Full a (m .position .buffer) (m .event) → Stays a t (m ∷ after)
   -- .. and so the calls on its configuration say
   pub said-initially : isWinning a t (initialOf a) ≡ true → SaysWinning a t c
   pub said : (before : List Moment) (m : Moment) (after : List Moment) → ms ≡ before ++ m ∷ after

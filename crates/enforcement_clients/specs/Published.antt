@@ -6,17 +6,17 @@
 use Prim.Native.Nat.{ℕ, suc, _+_, _<_, _≤_}
 use mathlib.Core.Path.{_≡_}
 use mathlib.Core.Logic.{_↔_}
-use mathlib.Core.Bool.{false}
+use mathlib.Core.Bool.{true, false}
 use mathlib.Core.List.{List, [], _∷_, _++_, map}
 use lib.ListN.{length, drop, replicate}
 use Rattle.base.specs.Pad.{pad}
 use Rattle.automaton.specs.declared.Automaton.{Automaton}
 use Rattle.configuration_places.specs.Places.{inputPlace}
 use Rattle.monitor_rule.specs.Step.{bySets}
-use Rattle.monitor_rule.specs.Claims.{Unknown, Full, CountEnded, Admitted}
+use Rattle.monitor_rule.specs.Claims.{Unknown, Full}
 use Rattle.enforcement.specs.Store.{stateOf, store}
 use Rattle.enforcement.specs.Calls.{since, sourcesSince}
-use Rattle.enforcement.specs.Published.{Refused}
+use Rattle.enforcement.specs.Published.{ShutAt, EndedAt, AdmittedAt, Refused, OpensBuffer}
 use Rattle.clients_answers.specs.declared.ReceivedFor.{ReceivedFor}
 use Rattle.clients_answers.specs.Clients.{named}
 use Rattle.clients_answers.specs.Claims.{WrongCount, RightCount, sumBelow}
@@ -35,16 +35,16 @@ silent m = record { refusal = m; emitted = replicate 7 0; count = 0; winning = f
 -- One event: k is how many the call asks to lend, n how many it lends, i the client, e the symbol.
 pub record EventAsPublished (a : Automaton) (n : ℕ) (ss : Functions) (k i e : ℕ) : Type 0 where
   -- row 20, a list of none or over 500; row 19, a client's number not below the count; then 14, 15
-  -- and 23, by the client's own buffer and its own count
+  -- and 23, by the client's own output, buffer and count
   pub row-20 : (refusalIn (expectedIn a n ss (receiveFor k i e)) ≡ 20) ↔ WrongCount n
   pub row-19 : (refusalIn (expectedIn a n ss (receiveFor k i e)) ≡ 19) ↔ (RightCount n × (n ≤ i))
   pub row-14 : (refusalIn (expectedIn a n ss (receiveFor k i e)) ≡ 14) ↔ (RightCount n × (i < n) × Unknown a e)
   pub row-15 : (refusalIn (expectedIn a n ss (receiveFor k i e)) ≡ 15)
-      ↔ (RightCount n × (i < n) × Full a (length (ss i .buffer)) e)
+      ↔ (RightCount n × (i < n) × ShutAt a (ss i) e)
   pub row-23 : (refusalIn (expectedIn a n ss (receiveFor k i e)) ≡ 23)
-      ↔ (RightCount n × (i < n) × CountEnded a (length (ss i .buffer)) (ss i .accepted) e)
+      ↔ (RightCount n × (i < n) × EndedAt a (ss i) e)
   pub accepted : (refusalIn (expectedIn a n ss (receiveFor k i e)) ≡ 0)
-      ↔ (RightCount n × (i < n) × Admitted a (length (ss i .buffer)) (ss i .accepted) e)
+      ↔ (RightCount n × (i < n) × AdmittedAt a (ss i) e)
   -- it is fed to its client's function and to no other; a call that 20 refuses, or 19, brings none
   -- of them an event
   pub fed : RightCount n → i < n → fedIn a n ss (receiveFor k i e) i ≡ store a (ss i) e
@@ -53,7 +53,7 @@ pub record EventAsPublished (a : Automaton) (n : ℕ) (ss : Functions) (k i e : 
   pub absent : (g : ℕ) → n ≤ i → fedIn a n ss (receiveFor k i e) g ≡ ss g
   -- the answer to an accepted one: what the client's function put out then with the places, and
   -- whether its state lies in S of its buffer
-  pub answer : RightCount n → i < n → Admitted a (length (ss i .buffer)) (ss i .accepted) e
+  pub answer : RightCount n → i < n → AdmittedAt a (ss i) e
       → let z = store a (ss i) e in
       expectedIn a n ss (receiveFor k i e)
       ≡ receive (record {
@@ -67,6 +67,10 @@ pub record EventAsPublished (a : Automaton) (n : ℕ) (ss : Functions) (k i e : 
   pub refused : (m : ℕ) → (m ≡ 0 → ⊥) → refusalIn (expectedIn a n ss (receiveFor k i e)) ≡ m
       → expectedIn a n ss (receiveFor k i e)
       ≡ receive (silent m)
+  -- one that its client's full buffer accepts opens that buffer, and so its answer says winning
+  pub opens : RightCount n → i < n → Full a (ss i .buffer) e → AdmittedAt a (ss i) e
+      → let z = fedIn a n ss (receiveFor k i e) i in
+      OpensBuffer a (ss i) e z × (bySets a (z .buffer) (stateOf a z) ≡ true)
 
 -- Events with their clients' numbers, one after the other: each is fed to its client's function
 -- and to no other, one for a client that is not there to none; what the functions put out stands
@@ -85,7 +89,7 @@ pub record EventsAsPublished (a : Automaton) (n : ℕ) (ss : Functions) : Type 0
   pub none-counted : refusedDay a n ss [] ≡ 0
   pub counted : (i e : ℕ) (xs : List (ℕ × ℕ)) → i < n → Refused a (ss i) e
       → refusedDay a n ss ((i, e) ∷ xs) ≡ suc (refusedDay a n ss xs)
-  pub not-counted : (i e : ℕ) (xs : List (ℕ × ℕ)) → i < n → Admitted a (length (ss i .buffer)) (ss i .accepted) e
+  pub not-counted : (i e : ℕ) (xs : List (ℕ × ℕ)) → i < n → AdmittedAt a (ss i) e
       → refusedDay a n ss ((i, e) ∷ xs) ≡ refusedDay a n (fedOwn a n ss ((i, e) ∷ [])) xs
   pub absent-counted : (i e : ℕ) (xs : List (ℕ × ℕ)) → n ≤ i
       → refusedDay a n ss ((i, e) ∷ xs) ≡ suc (refusedDay a n ss xs)

@@ -33,7 +33,7 @@ use Rattle.enforcement_clients.specs.Functions.{unfed, fedAll, eventsTo, refusa
 use Rattle.enforcement_clients.proofs.Parts.{calls-noninterference, events-brought-as-worded, outcomes-as-answered}
 use Rattle.enforcement_clients.proofs.Ignored.{clients-others-ignored}
 use Rattle.enforcement_clients_instances.proofs.Computing.{admitting, listing, calling, feeding}
-use Rattle.enforcement_clients_instances.proofs.ListInstances.{short-13, long-w, broken-fails, held-stands, waiting-stands, end-stands, crowd-length, clear-w}
+use Rattle.enforcement_clients_instances.proofs.ListInstances.{short-13, long-w, broken-fails, held-stands, receipt-shut, waiting-stands, end-stands, crowd-length, clear-w}
 use Rattle.enforcement_clients_instances.proofs.CallInstances.{enforced-w, clear-two, none-20, answer-sign, own-here, outcomes-here, leaves-here}
 use Rattle.enforcement_clients_instances.proofs.CallInstances.{both-long, same-bits}
 use Rattle.enforcement_clients_instances.proofs.RecordInstances.{turn-in, gap-in, record-fields}
@@ -140,11 +140,11 @@ feed-row-fields =
       row-14 = said pair (inTurn 1 4) (Serial 7) .event .row-14 .1 ((clear-pair, refl), omega arith, held-stands, omega arith);
       row-15 =
           said pair (inTurn 1 3) (Serial 7) .event .row-15 .1
-          ((clear-pair, refl), omega arith, held-stands, (omega arith, refl, omega arith));
-      row-23 = said endPair (inTurn 0 0) (Serial 7) .event .row-23 .1 ((clear-end, refl), omega arith, end-stands, (sign-fits _, refl));
+          ((clear-pair, refl), omega arith, held-stands, receipt-shut);
+      row-23 = said endPair (inTurn 0 0) (Serial 7) .event .row-23 .1 ((clear-end, refl), omega arith, end-stands, (sign-fits _ _ _, refl));
       row-0-beside =
           said endPair (inTurn 1 0) (Serial 7) .event .accepted .1
-          ((clear-end, refl), omega arith, waiting-stands, (sign-fits _, λ z. omega arith));
+          ((clear-end, refl), omega arith, waiting-stands, (sign-fits _ _ _, λ z. omega arith));
       row-0 =
           said pair (inTurn 1 1) (Serial 7) .event .accepted .1
           ((clear-pair, refl), omega arith, held-stands, ((omega arith, inl λ c. omega arith), λ z. omega arith));
@@ -158,7 +158,7 @@ feed-row-fields =
       only-19 = λ cs s x h. said cs s x .event .row-19 .0 h .1;
       only-13 = λ c h. said (broken ∷ c ∷ []) (inTurn 1 0) (Serial 7) .event .row-13 .0 h .2;
       only-14 = λ cs s x h. said cs s x .event .row-14 .0 h .3;
-      only-15 = λ c h. said (broken ∷ c ∷ []) (inTurn 1 3) (Serial 7) .event .row-15 .0 h .3 .2;
+      only-15 = λ c h. let k = said (broken ∷ c ∷ []) (inTurn 1 3) (Serial 7) .event .row-15 .0 h .3 in (k .0 .2, k .1);
       only-23 = λ c h. said (broken ∷ c ∷ []) (inTurn 1 3) (Serial 7) .event .row-23 .0 h .3 .1;
       only-0 = λ c h.
           either (said (broken ∷ c ∷ []) (inTurn 1 3) (Serial 7) .event .accepted .0 h .3 .0 .1) (λ k. absurd (k refl)) (λ l. l);

@@ -4,4 +4,5 @@ pub mod CallInstances
 pub mod RecordInstances
 pub mod FeedInstances
 pub mod PublishedInstances
+pub mod FullInstances
 pub mod LayoutInstances

@@ -12,7 +12,10 @@ use Rattle.solver_sets.specs.Table.{short, table}
 use Rattle.solver_sets.proofs.Tables.{short-as-worded}
 use Rattle.configuration_places.specs.Places.{inputNumber}
 use Rattle.configuration.specs.declared.Configuration.{Configuration}
-use Rattle.configuration.specs.Configuration.{configuration, consistent, initialOf}
+use Rattle.configuration.specs.Configuration.{configuration, heldEvents, consistent, initialOf}
+use Rattle.monitor_rule.specs.Step.{byTable}
+use Rattle.monitor_rule.specs.Claims.{Full, Shut, Tabled}
+use Rattle.monitor_rule.proofs.Rows.{opens-releases}
 use Rattle.monitor_answers.specs.Answers.{tableRows, callRows, receiveRefusal, refusedEvent, received}
 use Rattle.enforcement_cases.specs.Cases.{automatonV, automatonW, at, answer}
 use Rattle.enforcement_instances.specs.Statements.{filled, tableW}
@@ -36,7 +39,7 @@ use Rattle.clients_answers.proofs.Days.{bytes-placed}
 use Rattle.enforcement_clients_instances.proofs.Computing.{stepping, listing}
 use Rattle.enforcement_clients_instances.specs.ListStatements.{sent, broken, waiting, waitingSigned, full, here, there, dayHere, dayThere, beside, dayBeside}
 use Rattle.enforcement_clients_instances.specs.ListStatements.{brings, ownOutcomes, afterDay, answerFor, Isolating, adding, added, AnyStep}
-use Rattle.enforcement_clients_instances.specs.ListStatements.{crowd, pair, atEnd, endPair, Rows, DayRows}
+use Rattle.enforcement_clients_instances.specs.ListStatements.{crowd, pair, atEnd, endPair, OpensW, Rows, DayRows}
 use Rattle.enforcement_clients_instances.specs.ListStatements.{OneDay, Refusals, Keeping, Alone, numbers, Numbering}
 
 -- a day that is accepted is not one that 16 refuses, nor is one that 12 refuses
@@ -203,6 +206,18 @@ pub held-stands : consistent automatonW full ≡ true
 unfolding listing
 held-stands = refl
 
+-- with two Pages held, signed, W is full for Receipt, which does not open the buffer
+receipt-full : Full automatonW (heldEvents full) 3
+unfolding automatonW pad heldEvents
+receipt-full = (omega arith, refl, omega arith)
+
+receipt-opens-nothing : OpensW full 3 → ⊥
+unfolding stepping
+receipt-opens-nothing o = omega (arith, opens-releases (byTable automatonW tableW) automatonW 1 (2 ∷ 2 ∷ []) 3 o)
+
+pub receipt-shut : Shut (Tabled automatonW tableW) automatonW (full .state) (heldEvents full) 3
+receipt-shut = (receipt-full, receipt-opens-nothing)
+
 pub waiting-stands : consistent automatonW waiting ≡ true
 unfolding listing
 waiting-stands = refl
@@ -223,9 +238,9 @@ one-stands : (n i : ℕ) → i < n → consistent automatonW (getD (crowd n) i n
 unfolding stepping
 one-stands n i h = ap (consistent automatonW) (one-of n i h)
 
-one-holds : (n i : ℕ) → i < n → getD (crowd n) i none .held ≡ 0
-unfolding initialOf
-one-holds n i h = ap (λ (c : Configuration). c .held) (one-of n i h)
+one-holds : (n i : ℕ) → i < n → length (heldEvents (getD (crowd n) i none)) ≡ 0
+unfolding initialOf heldEvents pad
+one-holds n i h = ap (λ (c : Configuration). length (heldEvents c)) (one-of n i h)
 
 one-counts : (n i : ℕ) → i < n → inputNumber (getD (crowd n) i none .received) ≡ 0
 unfolding initialOf
@@ -266,7 +281,7 @@ rows =
             clear-crowd 1 (omega arith, omega arith),
             omega (arith, crowd-length 1),
             one-stands 1 0 (omega arith),
-            (sign-fits _, λ z. omega (arith, one-counts 1 0 (omega arith))),
+            (sign-fits _ _ _, λ z. omega (arith, one-counts 1 0 (omega arith))),
           );
       past-one = said (crowd 1) .event 1 0 .row-19 .1 (clear-crowd 1 (omega arith, omega arith), omega (arith, crowd-length 1));
       last-of-500 =
@@ -274,15 +289,15 @@ rows =
             clear-crowd 500 (omega arith, omega arith),
             omega (arith, crowd-length 500),
             one-stands 500 499 (omega arith),
-            ((omega arith, inr (omega (arith, one-holds 500 499 (omega arith)))), λ z. omega (arith, one-counts 500 499 (omega arith))),
+            ((omega arith, inr (inl (omega (arith, one-holds 500 499 (omega arith))))), λ z. omega (arith, one-counts 500 499 (omega arith))),
           );
       past-500 = said (crowd 500) .event 500 2 .row-19 .1 (clear-crowd 500 (omega arith, omega arith), omega (arith, crowd-length 500));
       no-client = said pair .event 2 9 .row-19 .1 (two, omega arith);
       row-13 = said pair .event 0 9 .row-13 .1 (two, omega arith, broken-fails);
       row-14 = said pair .event 1 4 .row-14 .1 (two, omega arith, held-stands, omega arith);
-      row-15 = said pair .event 1 3 .row-15 .1 (two, omega arith, held-stands, (omega arith, refl, omega arith));
-      row-23 = said endPair .event 0 0 .row-23 .1 (ends, omega arith, end-stands, (sign-fits _, refl));
-      row-0-beside = said endPair .event 1 0 .accepted .1 (ends, omega arith, waiting-stands, (sign-fits _, λ z. omega arith));
+      row-15 = said pair .event 1 3 .row-15 .1 (two, omega arith, held-stands, receipt-shut);
+      row-23 = said endPair .event 0 0 .row-23 .1 (ends, omega arith, end-stands, (sign-fits _ _ _, refl));
+      row-0-beside = said endPair .event 1 0 .accepted .1 (ends, omega arith, waiting-stands, (sign-fits _ _ _, λ z. omega arith));
       row-0 = said pair .event 1 1 .accepted .1 (two, omega arith, held-stands, ((omega arith, inl λ c. omega arith), λ z. omega arith));
       answered =
           said (crowd 500) .answered 500 2 ∙
@@ -295,7 +310,7 @@ rows =
       only-19 = λ cs i e h. said cs .event i e .row-19 .0 h .1;
       only-13 = λ c e h. said (broken ∷ c ∷ []) .event 1 e .row-13 .0 h .2;
       only-14 = λ cs i e h. said cs .event i e .row-14 .0 h .3;
-      only-15 = λ cs i e h. said cs .event i e .row-15 .0 h .3 .2;
+      only-15 = λ cs i e h. let k = said cs .event i e .row-15 .0 h .3 in (k .0 .2, k .1);
       only-23 = λ cs i e h. said cs .event i e .row-23 .0 h .3 .1;
       only-0 = λ c h. either (said (broken ∷ c ∷ []) .event 1 2 .accepted .0 h .3 .0 .1) (λ k. absurd (k refl)) (λ l. l);
     }
@@ -325,19 +340,19 @@ day-rows =
       only-20 = λ cs vs out h. said cs .day-first vs out .row-20 .0 h .2;
       only-16 = λ out h. let l = said pair .row-16 (sent 0 0 ∷ []) out .0 h .1 in omega (arith, holds-pair);
       only-0 = λ out h. let l = said pair .accepted (sent 0 0 ∷ []) out .0 h .1 in omega (arith, holds-pair);
-      inside-19 = said pair .inside valid-w 2 9 .row-19 .1 (tt, omega arith);
-      inside-13 = said pair .inside valid-w 0 9 .row-13 .1 (tt, omega arith, broken-fails);
-      inside-14 = said pair .inside valid-w 1 4 .row-14 .1 (tt, omega arith, held-stands, omega arith);
-      inside-15 = said pair .inside valid-w 1 3 .row-15 .1 (tt, omega arith, held-stands, (omega arith, refl, omega arith));
-      inside-23 = said endPair .inside valid-w 0 0 .row-23 .1 (tt, omega arith, end-stands, (sign-fits _, refl));
+      inside-19 = said pair .inside 2 9 .row-19 .1 (tt, omega arith);
+      inside-13 = said pair .inside 0 9 .row-13 .1 (tt, omega arith, broken-fails);
+      inside-14 = said pair .inside 1 4 .row-14 .1 (tt, omega arith, held-stands, omega arith);
+      inside-15 = said pair .inside 1 3 .row-15 .1 (tt, omega arith, held-stands, receipt-shut);
+      inside-23 = said endPair .inside 0 0 .row-23 .1 (tt, omega arith, end-stands, (sign-fits _ _ _, refl));
       inside-0 =
-          said pair .inside valid-w 1 1 .accepted .1 (tt, omega arith, held-stands, ((omega arith, inl λ c. omega arith), λ z. omega arith));
-      inside-only-19 = λ cs i e h. said cs .inside valid-w i e .row-19 .0 h .1;
-      inside-only-14 = λ cs i e h. said cs .inside valid-w i e .row-14 .0 h .3;
-      inside-only-15 = λ cs i e h. said cs .inside valid-w i e .row-15 .0 h .3 .2;
-      inside-only-23 = λ cs i e h. said cs .inside valid-w i e .row-23 .0 h .3 .1;
-      inside-only-0 = λ cs i e h. said cs .inside valid-w i e .accepted .0 h .2;
-      inside-only-13 = λ c e h. said (broken ∷ c ∷ []) .inside valid-w 1 e .row-13 .0 h .2;
+          said pair .inside 1 1 .accepted .1 (tt, omega arith, held-stands, ((omega arith, inl λ c. omega arith), λ z. omega arith));
+      inside-only-19 = λ cs i e h. said cs .inside i e .row-19 .0 h .1;
+      inside-only-14 = λ cs i e h. said cs .inside i e .row-14 .0 h .3;
+      inside-only-15 = λ cs i e h. let k = said cs .inside i e .row-15 .0 h .3 in (k .0 .2, k .1);
+      inside-only-23 = λ cs i e h. said cs .inside i e .row-23 .0 h .3 .1;
+      inside-only-0 = λ cs i e h. said cs .inside i e .accepted .0 h .2;
+      inside-only-13 = λ c e h. said (broken ∷ c ∷ []) .inside 1 e .row-13 .0 h .2;
     }
 
 -- the day here
@@ -453,7 +468,7 @@ refused-absent : receiveForRefusal automatonW tableW here 3 0 ≡ 19
 refused-absent = client-rows-as-worded automatonW tableW here .event 3 0 .row-19 .1 (clear-w here (omega arith, omega arith), omega arith)
 
 passed-absent : outcome (monitored automatonW tableW) here 3 0 .refusal ≡ 19
-passed-absent = client-rows-as-worded automatonW tableW here .inside valid-w 3 0 .row-19 .1 (tt, omega arith)
+passed-absent = client-rows-as-worded automatonW tableW here .inside 3 0 .row-19 .1 (tt, omega arith)
 
 no-room-here : runForRefusal automatonW tableW here dayHere (filled 9 9) ≡ 16
 unfolding listing

@@ -1,18 +1,22 @@
 -- The instances of the claim on the published functions.
-use Prim.Native.Nat.{ℕ, zero, suc, _<_}
-use mathlib.Core.Path.{_≡_, refl, _∙_, ap}
+use Prim.Native.Nat.{ℕ, suc, _<_}
+use mathlib.Core.Path.{_≡_, refl, sym, _∙_, ap, subst}
 use mathlib.Core.Logic.{inl, inr}
 use mathlib.Core.List.{List, [], _∷_, _++_}
 use native.Mathlib.Omega.{arith}
 use lib.ListN.{length}
 use Rattle.base.specs.Pad.{pad}
 use Rattle.base.proofs.Bools.{either}
+use Rattle.monitor_rule.specs.Step.{bySets}
+use Rattle.monitor_rule.specs.Claims.{Full}
+use Rattle.monitor_rule.proofs.Rows.{opens-releases}
+use Rattle.enforcement.specs.Published.{ShutAt}
 use Rattle.enforcement.specs.Store.{Store, store}
 use Rattle.enforcement.specs.Calls.{since}
 use Rattle.enforcement_cases.specs.Cases.{automatonW}
 use Rattle.enforcement_instances.specs.Statements.{filled}
 use Rattle.enforcement_instances.specs.MonitorStatements.{storeOf, twoHeld}
-use Rattle.enforcement_instances.proofs.MonitorInstances.{sign-fits}
+use Rattle.enforcement_instances.proofs.MonitorInstances.{sign-fits, third-shut-out}
 use Rattle.clients_answers.specs.Clients.{named, refusedFor}
 use Rattle.clients_answers.specs.Claims.{RightCount, sumBelow}
 use Rattle.feed_record.specs.declared.Expected.{Expected}
@@ -28,7 +32,7 @@ use Rattle.enforcement_clients_instances.proofs.RecordInstances.{turn-i
 use Rattle.enforcement_clients_instances.specs.ListStatements.{sent, answerFor}
 use Rattle.enforcement_clients_instances.specs.RecordStatements.{repeated, oneMore, inTurn}
 use Rattle.enforcement_clients_instances.specs.FeedStatements.{keptAs}
-use Rattle.enforcement_clients_instances.specs.PublishedStatements.{signedStore, pagedStore, family, ending, EventFields, xs, EventsFields, DayFields, FeedFields}
+use Rattle.enforcement_clients_instances.specs.PublishedStatements.{signedStore, pagedStore, family, ending, OpensAt, EventFields, xs, EventsFields, DayFields, FeedFields}
 
 -- what the claim says of W's functions
 said : (n : ℕ) (ss : Functions) → ClientsAsPublished automatonW n ss
@@ -57,28 +61,40 @@ at-end n i e = said n ending .event n i e
 receipt-answered : expectedIn automatonW 2 family (receiveFor 2 1 3) ≡ receive (answerFor (3 ∷ []) (1 ∷ []))
 unfolding storing
 receipt-answered =
-    event 2 1 3 .answer (omega arith, omega arith) (omega arith) ((omega arith, inr (omega arith)), λ z. omega arith)
+    event 2 1 3 .answer (omega arith, omega arith) (omega arith) ((omega arith, inr (inl (omega arith))), λ z. omega arith)
+
+-- with two Pages held the function is full for Receipt, which does not open its buffer
+receipt-full : Full automatonW (2 ∷ 2 ∷ []) 3
+unfolding automatonW pad
+receipt-full = (omega arith, refl, omega arith)
+
+receipt-opens-nothing : OpensAt twoHeld 3 → ⊥
+unfolding storing
+receipt-opens-nothing o = omega (arith, opens-releases (bySets automatonW) automatonW 0 (2 ∷ 2 ∷ []) 3 o)
+
+receipt-shut : ShutAt automatonW twoHeld 3
+receipt-shut = (receipt-full, receipt-opens-nothing)
 
 pub event-fields : EventFields
 unfolding automatonW pad
 event-fields =
-    let full = event 2 0 3 .row-15 .1 ((omega arith, omega arith), omega arith, (omega arith, refl, omega arith)) in
+    let full = event 2 0 3 .row-15 .1 ((omega arith, omega arith), omega arith, receipt-shut) in
     record {
       row-20 = event 0 0 0 .row-20 .1 (inl refl);
       row-20-many = event 501 0 0 .row-20 .1 (inr (omega arith));
       row-19 = event 2 2 9 .row-19 .1 ((omega arith, omega arith), omega arith);
       row-14 = event 2 0 4 .row-14 .1 ((omega arith, omega arith), omega arith, omega arith);
       row-15 = full;
-      row-23 = at-end 2 0 0 .row-23 .1 ((omega arith, omega arith), omega arith, (sign-fits _, refl));
-      accepted-beside = at-end 2 1 0 .accepted .1 ((omega arith, omega arith), omega arith, (sign-fits _, λ z. omega arith));
+      row-23 = at-end 2 0 0 .row-23 .1 ((omega arith, omega arith), omega arith, (sign-fits _ _ _, refl));
+      accepted-beside = at-end 2 1 0 .accepted .1 ((omega arith, omega arith), omega arith, (sign-fits _ _ _, λ z. omega arith));
       accepted =
-          event 2 1 3 .accepted .1 ((omega arith, omega arith), omega arith, ((omega arith, inr (omega arith)), λ z. omega arith));
+          event 2 1 3 .accepted .1 ((omega arith, omega arith), omega arith, ((omega arith, inr (inl (omega arith))), λ z. omega arith));
       last-of-500 =
-          event 500 499 2 .accepted .1 ((omega arith, omega arith), omega arith, ((omega arith, inr (omega arith)), λ z. omega arith));
+          event 500 499 2 .accepted .1 ((omega arith, omega arith), omega arith, ((omega arith, inr (inl (omega arith))), λ z. omega arith));
       only-20 = λ n i e h. event n i e .row-20 .0 h;
       only-19 = λ n i e h. event n i e .row-19 .0 h .1;
       only-14 = λ n i e h. event n i e .row-14 .0 h .2;
-      only-15 = λ n i e h. event n i e .row-15 .0 h .2 .2;
+      only-15 = λ n i e h. let k = event n i e .row-15 .0 h .2 in (k .0 .2, k .1);
       only-23 = λ n i e h. at-end n i e .row-23 .0 h .2 .1;
       only-0 = λ n i h. either (event n i 2 .accepted .0 h .2 .0 .1) (λ k. absurd (k refl)) (λ l. l);
       fed = event 2 1 2 .fed (omega arith, omega arith) (omega arith) ∙ page-held;
@@ -148,13 +164,13 @@ count-xs : refusedDay automatonW 2 family xs ≡ 3
 unfolding automatonW pad
 count-xs =
     let one : length (paged 1 .buffer) ≡ 1 = ap (λ s. length (s .buffer)) paged-one in
-    let zero : length (received 0 .buffer) ≡ 2 = ap (λ s. length (s .buffer)) received-zero in
+    let shut = subst (λ s. ShutAt automatonW s 2) (sym received-zero) third-shut-out in
     let count : paged 1 .accepted ≡ 2 = ap (λ s. s .accepted) paged-one in
-    events family .not-counted 1 2 _ (omega arith) ((omega arith, inr (omega arith)), λ z. omega arith) ∙
+    events family .not-counted 1 2 _ (omega arith) ((omega arith, inr (inl (omega arith))), λ z. omega arith) ∙
     events paged .absent-counted 5 0 _ (omega arith) ∙
     ap suc
-    (events paged .not-counted 1 3 _ (omega arith) ((omega arith, inr (omega (arith, one))), λ z. omega (arith, count)) ∙
-    events received .counted 0 2 _ (omega arith) (inr (inl (omega arith, refl, omega (arith, zero)))) ∙
+    (events paged .not-counted 1 3 _ (omega arith) ((omega arith, inr (inl (omega (arith, one)))), λ z. omega (arith, count)) ∙
+    events received .counted 0 2 _ (omega arith) (inr (inl shut)) ∙
     ap suc (events received .counted 1 4 _ (omega arith) (inl (omega arith)) ∙ ap suc (events received .none-counted)))
 
 -- Page of client 0, Sign of a client 5
@@ -174,8 +190,8 @@ one-by-one g = events family .first-fed (0, 2) _ g ∙ events afterFull .first-f
 -- of the family whose first has its count at the end: its Sign is counted, and the other's is not
 count-end : refusedDay automatonW 2 ending ((0, 0) ∷ (1, 0) ∷ []) ≡ 1
 count-end =
-    events ending .counted 0 0 _ (omega arith) (inr (inr (sign-fits _, refl))) ∙
-    ap suc (events ending .not-counted 1 0 _ (omega arith) (sign-fits _, λ z. omega arith) ∙ events _ .none-counted)
+    events ending .counted 0 0 _ (omega arith) (inr (inr (sign-fits _ _ _, refl))) ∙
+    ap suc (events ending .not-counted 1 0 _ (omega arith) (sign-fits _ _ _, λ z. omega arith) ∙ events _ .none-counted)
 
 pub events-fields : EventsFields
 events-fields =
@@ -214,8 +230,8 @@ unfolding automatonW pad
 both-counted =
     let one : length (paged 1 .buffer) ≡ 1 = ap (λ s. length (s .buffer)) paged-one in
     let count : paged 1 .accepted ≡ 2 = ap (λ s. s .accepted) paged-one in
-    events family .not-counted 1 2 _ (omega arith) ((omega arith, inr (omega arith)), λ z. omega arith) ∙
-    events paged .not-counted 1 3 _ (omega arith) ((omega arith, inr (omega (arith, one))), λ z. omega (arith, count)) ∙
+    events family .not-counted 1 2 _ (omega arith) ((omega arith, inr (inl (omega arith))), λ z. omega arith) ∙
+    events paged .not-counted 1 3 _ (omega arith) ((omega arith, inr (inl (omega (arith, one)))), λ z. omega (arith, count)) ∙
     events _ .none-counted
 
 held-two : sumBelow 2 (λ g. length (family g .buffer)) ≡ 2

@@ -1,6 +1,7 @@
 -- The claims on records of the feed over a list of clients, at sheet W, hypotheses met.
 use Prim.Native.Nat.{ℕ, _<_, _≤_}
 use mathlib.Core.Path.{_≡_}
+use mathlib.Core.Logic.{_⊎_}
 use mathlib.Core.Bool.{true, false}
 use mathlib.Core.List.{List, [], _∷_, map}
 use lib.ListN.{length, getD}
@@ -9,7 +10,7 @@ use Rattle.automaton.specs.Automaton.{valid}
 use Rattle.solver_sets.specs.Table.{short, table}
 use Rattle.configuration_places.specs.Places.{inputNumber}
 use Rattle.configuration.specs.declared.Configuration.{Configuration}
-use Rattle.configuration.specs.Configuration.{consistent}
+use Rattle.configuration.specs.Configuration.{heldEvents, consistent}
 use Rattle.enforcement_cases.specs.Cases.{automatonV, automatonW}
 use Rattle.enforcement_instances.specs.Statements.{filled, tableW}
 use Rattle.enforcement_instances.specs.MonitorStatements.{storeOf, wideV}
@@ -27,7 +28,7 @@ use Rattle.enforcement_clients.specs.Functions.{unfed, expectedAll, fedAll, eve
 use Rattle.enforcement_clients.specs.Claims.{outcomesTo}
 use Rattle.enforcement_clients_instances.specs.ListStatements.{sent, broken, waiting, waitingSigned, waitingServed}
 use Rattle.enforcement_clients_instances.specs.ListStatements.{signedOnce, here, there, beside}
-use Rattle.enforcement_clients_instances.specs.ListStatements.{lets, answerFor, crowd, pair, endPair}
+use Rattle.enforcement_clients_instances.specs.ListStatements.{lets, answerFor, crowd, pair, endPair, OpensW}
 use Rattle.enforcement_clients_instances.specs.CallStatements.{ran, startW, two, signed, otherTable}
 use Rattle.enforcement_clients_instances.specs.RecordStatements.{lastSerial, serialZero, afterGap, repeated}
 use Rattle.enforcement_clients_instances.specs.RecordStatements.{oneMore, tooLarge, noClient, inTurn}
@@ -154,10 +155,12 @@ pub record FeedRowFields : Type 0 where
   pub only-13 : (c : Configuration) → feedRow (broken ∷ c ∷ []) (inTurn 1 0) (Serial 7) ≡ 13
       → consistent automatonW c ≡ false
   pub only-14 : (cs : List Configuration) (s : List ℕ) (x : Expected) → feedRow cs s x ≡ 14 → 4 ≤ admission s x .symbol
-  pub only-15 : (c : Configuration) → feedRow (broken ∷ c ∷ []) (inTurn 1 3) (Serial 7) ≡ 15 → 2 ≤ c .held
+  pub only-15 : (c : Configuration) → feedRow (broken ∷ c ∷ []) (inTurn 1 3) (Serial 7) ≡ 15
+      → (2 ≤ length (heldEvents c)) × (OpensW c 3 → ⊥)
   pub only-23 : (c : Configuration) → feedRow (broken ∷ c ∷ []) (inTurn 1 3) (Serial 7) ≡ 23
       → inputNumber (c .received) ≡ 4294967295
-  pub only-0 : (c : Configuration) → feedRow (broken ∷ c ∷ []) (inTurn 1 3) (Serial 7) ≡ 0 → c .held < 2
+  pub only-0 : (c : Configuration) → feedRow (broken ∷ c ∷ []) (inTurn 1 3) (Serial 7) ≡ 0
+      → (length (heldEvents c) < 2) ⊎ OpensW c 3
 
 -- whole answers, and the list then
 pub record FeedAnswerFields : Type 0 where

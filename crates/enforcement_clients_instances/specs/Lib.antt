@@ -3,4 +3,5 @@ pub mod CallStatements
 pub mod RecordStatements
 pub mod FeedStatements
 pub mod PublishedStatements
+pub mod FullStatements
 pub mod LayoutStatements

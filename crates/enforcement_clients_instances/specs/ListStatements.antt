@@ -1,6 +1,7 @@
 -- The claims on the calls over a list of clients at sheet W, hypotheses met.
 use Prim.Native.Nat.{ℕ, _+_, _*_, _<_, _≤_}
 use mathlib.Core.Path.{_≡_}
+use mathlib.Core.Logic.{_⊎_}
 use mathlib.Core.Bool.{true, false}
 use mathlib.Core.List.{List, [], _∷_, _++_, map}
 use lib.ListN.{length, getD, take, drop, replicate}
@@ -10,7 +11,8 @@ use Rattle.automaton.specs.Automaton.{valid}
 use Rattle.solver_sets.specs.Table.{short, table}
 use Rattle.configuration_places.specs.Places.{inputPlace, inputNumber, outputPlace}
 use Rattle.configuration.specs.declared.Configuration.{Configuration}
-use Rattle.configuration.specs.Configuration.{configuration, consistent}
+use Rattle.configuration.specs.Configuration.{configuration, heldEvents, consistent}
+use Rattle.monitor_rule.specs.Claims.{Opens, Tabled}
 use Rattle.enforcement_cases.specs.Cases.{automatonV, automatonW, at}
 use Rattle.enforcement_instances.specs.Statements.{filled, tableW}
 use Rattle.enforcement_instances.specs.MonitorStatements.{wideV}
@@ -90,7 +92,7 @@ abbrev pub brings : ℕ → Outcome
 brings row = record { refusal = row; emitted = []; sources = [] }
 
 -- Sign goes out, Receipt lets the Page and itself go, two Pages are held, the third finds the
--- buffer full, and the last is no kind
+-- buffer full and does not open it, and the last is no kind
 abbrev pub ownOutcomes : List Outcome
 ownOutcomes =
     lets (0 ∷ []) (1 ∷ []) ∷ lets (2 ∷ 3 ∷ []) (0 ∷ 2 ∷ []) ∷ brings 0 ∷ brings 0 ∷ brings 15 ∷ brings 14 ∷ []
@@ -173,6 +175,10 @@ atEnd = configuration (at 1 [] [] 4294967295 4294967295)
 abbrev pub endPair : List Configuration
 endPair = atEnd ∷ waiting ∷ []
 
+-- an event opens the buffer of a client of W, by its table
+abbrev pub OpensW : Configuration → ℕ → Type 0
+OpensW c e = Opens (Tabled automatonW tableW) automatonW (c .state) (heldEvents c) e
+
 -- the row of an event inside a day
 abbrev pub inside : List Configuration → ℕ → ℕ → ℕ
 inside cs i e = outcome (monitored automatonW tableW) cs i e .refusal
@@ -206,9 +212,10 @@ pub record Rows : Type 0 where
   pub only-19 : (cs : List Configuration) (i e : ℕ) → row cs i e ≡ 19 → length cs ≤ i
   pub only-13 : (c : Configuration) (e : ℕ) → row (broken ∷ c ∷ []) 1 e ≡ 13 → consistent automatonW c ≡ false
   pub only-14 : (cs : List Configuration) (i e : ℕ) → row cs i e ≡ 14 → 4 ≤ e
-  pub only-15 : (cs : List Configuration) (i e : ℕ) → row cs i e ≡ 15 → 2 ≤ getD cs i none .held
+  pub only-15 : (cs : List Configuration) (i e : ℕ) → row cs i e ≡ 15
+      → (2 ≤ length (heldEvents (getD cs i none))) × (OpensW (getD cs i none) e → ⊥)
   pub only-23 : (cs : List Configuration) (i e : ℕ) → row cs i e ≡ 23 → inputNumber (getD cs i none .received) ≡ 4294967295
-  pub only-0 : (c : Configuration) → row (broken ∷ c ∷ []) 1 2 ≡ 0 → c .held < 2
+  pub only-0 : (c : Configuration) → row (broken ∷ c ∷ []) 1 2 ≡ 0 → (length (heldEvents c) < 2) ⊎ OpensW c 2
 
 pub record DayRows : Type 0 where
   pub row-11 : runForRefusal wideV (table automatonV) [] (0 ∷ []) [] ≡ 11
@@ -240,7 +247,8 @@ pub record DayRows : Type 0 where
   pub inside-0 : inside pair 1 1 ≡ 0
   pub inside-only-19 : (cs : List Configuration) (i e : ℕ) → inside cs i e ≡ 19 → length cs ≤ i
   pub inside-only-14 : (cs : List Configuration) (i e : ℕ) → inside cs i e ≡ 14 → 4 ≤ e
-  pub inside-only-15 : (cs : List Configuration) (i e : ℕ) → inside cs i e ≡ 15 → 2 ≤ getD cs i none .held
+  pub inside-only-15 : (cs : List Configuration) (i e : ℕ) → inside cs i e ≡ 15
+      → (2 ≤ length (heldEvents (getD cs i none))) × (OpensW (getD cs i none) e → ⊥)
   pub inside-only-23 : (cs : List Configuration) (i e : ℕ) → inside cs i e ≡ 23
       → inputNumber (getD cs i none .received) ≡ 4294967295
   pub inside-only-0 : (cs : List Configuration) (i e : ℕ) → inside cs i e ≡ 0 → consistent automatonW (getD cs i none) ≡ true

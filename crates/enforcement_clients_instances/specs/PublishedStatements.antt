@@ -1,8 +1,12 @@
 -- The claim on the published functions of a list of clients at sheet W, hypotheses met.
 use Prim.Native.Nat.{ℕ, zero, suc, _<_, _≤_}
 use mathlib.Core.Path.{_≡_}
+use mathlib.Core.Logic.{_⊎_}
 use mathlib.Core.List.{List, [], _∷_}
 use lib.ListN.{length}
+use Rattle.automaton.specs.Automaton.{reached}
+use Rattle.solver_sets.specs.Claims.{Winning}
+use Rattle.monitor_rule.specs.Claims.{Opens}
 use Rattle.enforcement.specs.Store.{Store}
 use Rattle.enforcement_cases.specs.Cases.{automatonW}
 use Rattle.enforcement_instances.specs.Statements.{filled}
@@ -35,6 +39,10 @@ abbrev pub ending : Functions
 ending zero = ended
 ending (suc g) = signedStore
 
+-- an event opens the buffer of a function, by W's sets
+abbrev pub OpensAt : Store → ℕ → Type 0
+OpensAt s e = Opens (Winning automatonW) automatonW (reached automatonW (automatonW .initial) (s .output)) (s .buffer) e
+
 -- the rows by which they refuse an event, and a day, where n are lent
 abbrev pub rowOf : ℕ → ℕ → ℕ → ℕ
 rowOf n i e = refusalIn (expectedIn automatonW n family (receiveFor n i e))
@@ -58,17 +66,18 @@ pub record EventFields : Type 0 where
   pub only-20 : (n i e : ℕ) → rowOf n i e ≡ 20 → WrongCount n
   pub only-19 : (n i e : ℕ) → rowOf n i e ≡ 19 → n ≤ i
   pub only-14 : (n i e : ℕ) → rowOf n i e ≡ 14 → 4 ≤ e
-  pub only-15 : (n i e : ℕ) → rowOf n i e ≡ 15 → 2 ≤ length (family i .buffer)
+  pub only-15 : (n i e : ℕ) → rowOf n i e ≡ 15
+      → (2 ≤ length (family i .buffer)) × (OpensAt (family i) e → ⊥)
   pub only-23 : (n i e : ℕ) → refusalIn (expectedIn automatonW n ending (receiveFor n i e)) ≡ 23
       → ending i .accepted ≡ 4294967295
-  pub only-0 : (n i : ℕ) → rowOf n i 2 ≡ 0 → length (family i .buffer) < 2
+  pub only-0 : (n i : ℕ) → rowOf n i 2 ≡ 0 → (length (family i .buffer) < 2) ⊎ OpensAt (family i) 2
   -- client 1's Page is held, and client 0's function is what it was; so is each where the call is
   -- refused by 20 or 19
   pub fed : fedIn automatonW 2 family (receiveFor 2 1 2) 1 ≡ pagedStore
   pub others : fedIn automatonW 2 family (receiveFor 2 1 2) 0 ≡ twoHeld
   pub wrong-count : fedIn automatonW 501 family (receiveFor 501 1 2) 1 ≡ signedStore
   pub absent : fedIn automatonW 2 family (receiveFor 2 2 2) 2 ≡ signedStore
-  -- client 1's Receipt goes at once; client 0's finds the buffer full
+  -- client 1's Receipt goes at once; client 0's finds the buffer full, and does not open it
   pub answer : expectedIn automatonW 2 family (receiveFor 2 1 3) ≡ receive (answerFor (3 ∷ []) (1 ∷ []))
   pub answer-refused : expectedIn automatonW 2 family (receiveFor 2 0 3) ≡ refused 15
 
@@ -127,6 +136,6 @@ pub record FeedFields : Type 0 where
   -- was
   pub fed : fedIn automatonW 2 family (feedFor 2 (inTurn 1 2) (Serial 2)) 1 ≡ pagedStore
   pub others : fedIn automatonW 2 family (feedFor 2 (inTurn 1 2) (Serial 2)) 0 ≡ twoHeld
-  -- client 1's Receipt goes at once; client 0's finds the buffer full
+  -- client 1's Receipt goes at once; client 0's finds the buffer full, and does not open it
   pub let-in : expectedIn automatonW 2 family (feedFor 2 (inTurn 1 3) (Serial 2)) ≡ feed (fedAs (answerFor (3 ∷ []) (1 ∷ [])) 8 5)
   pub let-in-refused : expectedIn automatonW 2 family (feedFor 2 (inTurn 0 3) (Serial 2)) ≡ feed (fedAs (refusedFor 15) 8 5)

@@ -19,12 +19,13 @@ use Rattle.solver_sets.specs.Table.{index, short, table, Buffer}
 use Rattle.solver_sets.specs.Claims.{Winning}
 use Rattle.solver_sets.proofs.Numbering.{numbered}
 use Rattle.solver_sets.proofs.Tables.{short-as-worded}
-use Rattle.configuration.specs.Configuration.{heldEvents, consistent, configuration, initialOf}
+use Rattle.configuration.specs.Configuration.{Position, heldEvents, consistent, configuration, initialOf}
 use Rattle.monitor_rule.specs.Step.{bySets, byTable, qualifying, release}
 use Rattle.automaton_symbols.specs.Symbols.{ranksTo, rankingOf}
 use Rattle.monitor_rule.specs.Fronts.{indexIn, restIn, foundIn}
-use Rattle.monitor_rule.specs.Claims.{Full, Fits, Admitted, Among, ListsQualifying, Longest}
-use Rattle.monitor_rule.proofs.Worded.{event-rows-as-worded, search-as-worded, releases-longest, only-longest}
+use Rattle.monitor_rule.specs.Claims.{Full, Opens, Shut, Fits, Tabled, RowsOfEvent, Among, ListsQualifying, Longest}
+use Rattle.monitor_rule.proofs.Rows.{opens-releases, event-rows-as-worded}
+use Rattle.monitor_rule.proofs.Worded.{search-as-worded, releases-longest, only-longest}
 use Rattle.monitor_rule.proofs.Solved.{search-of-solved}
 use Rattle.monitor_answers.specs.Answers.{isWinning, status, received}
 use Rattle.monitor_answers.specs.Claims.{Clear}
@@ -38,7 +39,7 @@ use Rattle.enforcement.specs.Moments.{Moment, effectAt, within, broughtBy, brou
 use Rattle.enforcement.specs.Strategy.{Lost, lostBound}
 use Rattle.enforcement.specs.Claims.{Enforced, winningAfter, outputAfter}
 use Rattle.enforcement.specs.Claims.{arrivalAt, strategyRelease, ourRelease, strategyOutput, strategyBuffer, LongerIsLost}
-use Rattle.enforcement.specs.Published.{Releases}
+use Rattle.enforcement.specs.Published.{Releases, ShutAt, EndedAt, AdmittedAt}
 use Rattle.enforcement.specs.Answers.{SameBits}
 use Rattle.enforcement.proofs.Published.{follows-published}
 use Rattle.enforcement.proofs.Tables.{table-exists}
@@ -49,7 +50,7 @@ use Rattle.enforcement.proofs.Said.{once-winning-said}
 use Rattle.enforcement.proofs.Answers.{flag-is-status, flag-stays, others-ignored}
 use Rattle.enforcement_cases.specs.Cases.{automatonV, automatonW, at}
 use Rattle.enforcement_instances.specs.Statements.{filled, tableW}
-use Rattle.enforcement_instances.specs.MonitorStatements.{wideV, startV, twoPages, bothHeld, atEnd, Rows, automatonLoops, foundW, SearchFinds, storeOf, twoHeld, ended, Releasing}
+use Rattle.enforcement_instances.specs.MonitorStatements.{wideV, startV, twoPages, bothHeld, atEnd, rowW, Rows, automatonLoops, foundW, SearchFinds, storeOf, twoHeld, ended, Releasing}
 use Rattle.enforcement_instances.specs.MonitorStatements.{calls, page, sign, withdraw, withdrawn, eager, answers, Fields}
 use Rattle.enforcement_instances.specs.MonitorStatements.{longCalls, longLast, longAnswers, longStore, Day, Enforcing}
 use Rattle.enforcement_instances.proofs.Sheets.{valid-w, valid-v, solves-w, buffers-w, solved-w, solved-v, computing}
@@ -72,10 +73,27 @@ clear-end : Clear automatonW tableW (configuration atEnd)
 unfolding computing
 clear-end = record { record-valid = valid-w; table-long = refl; configuration-consistent = refl }
 
--- Sign has room whatever is held
-pub sign-fits : (held : ℕ) → Fits automatonW held 0
+-- Sign is taken whatever is held and wherever one may rest
+pub sign-fits : (P : List ℕ → ℕ → Type 0) (q : ℕ) (w : List ℕ) → Fits P automatonW q w 0
 unfolding automatonW pad
-sign-fits held = (omega arith, inl λ c. omega arith)
+sign-fits P q w = (omega arith, inl λ c. omega arith)
+
+-- with two Pages held W is full for a third, which does not open the buffer, by its table
+pub third-full : Full automatonW (2 ∷ 2 ∷ []) 2
+unfolding automatonW pad
+third-full = (omega arith, refl, omega arith)
+
+third-opens-nothing : Opens (Tabled automatonW tableW) automatonW 0 (2 ∷ 2 ∷ []) 2 → ⊥
+unfolding computing
+third-opens-nothing o = omega (arith, opens-releases (byTable automatonW tableW) automatonW 0 (2 ∷ 2 ∷ []) 2 o)
+
+pub third-shut : Shut (Tabled automatonW tableW) automatonW 0 (2 ∷ 2 ∷ []) 2
+third-shut = (third-full, third-opens-nothing)
+
+-- the rows of W's events, by its table
+rows-w : (p : Position) (e : ℕ) → RowsOfEvent (Tabled automatonW tableW) automatonW (p .state) (p .buffer) (p .received) e (rowW p e)
+unfolding byTable
+rows-w p e = event-rows-as-worded (byTable automatonW tableW) automatonW p e
 
 -- what rows 11, 12 and 13 refuse
 pub invalid-wide : valid wideV ≡ false
@@ -95,7 +113,6 @@ unfolding automatonV automatonW pad heldEvents initialOf
 rows =
     let t = table automatonV in
     let status-rows = status-rows-as-worded automatonV t in
-    let over-w = byTable automatonW tableW in
     let run-rows = run-rows-as-worded automatonV t startV (0 ∷ 1 ∷ []) in
     record {
       class-one = class-one automatonW 2 .1 refl;
@@ -104,22 +121,22 @@ rows =
       row-13 = status-rows (configuration (at 3 [] [] 0 0)) .first-rows .row-13 .1 (valid-v, clear-v .table-long, inconsistent-three);
       passed = status-rows startV .accepted .1 clear-v;
       row-14 = receive-rows-as-worded automatonV t startV 2 .row-14 .1 (clear-v, omega arith);
-      row-15 = receive-rows-as-worded automatonW tableW (configuration twoPages) 2 .row-15 .1 (clear-w, (omega arith, refl, omega arith));
-      row-23 = receive-rows-as-worded automatonW tableW (configuration atEnd) 0 .row-23 .1 (clear-end, (sign-fits 0, refl));
+      row-15 = receive-rows-as-worded automatonW tableW (configuration twoPages) 2 .row-15 .1 (clear-w, third-shut);
+      row-23 = receive-rows-as-worded automatonW tableW (configuration atEnd) 0 .row-23 .1 (clear-end, (sign-fits _ 1 [], refl));
       row-16 = run-rows (9 ∷ []) .row-16 .1 (clear-v, omega arith);
-      only-14 = λ p e. event-rows-as-worded over-w automatonW p e .row-14 .0;
-      only-15 = λ p h. event-rows-as-worded over-w automatonW p 2 .row-15 .0 h .2;
-      only-23 = λ p e h. event-rows-as-worded over-w automatonW p e .row-23 .0 h .1;
+      only-14 = λ p e. rows-w p e .row-14 .0;
+      only-15 = λ p h. let k = rows-w p 2 .row-15 .0 h in (k .0 .2, k .1);
+      only-23 = λ p e h. rows-w p e .row-23 .0 h .1;
       only-0 = λ p h.
-          let k = event-rows-as-worded over-w automatonW p 2 .accepted .0 h in
+          let k = rows-w p 2 .accepted .0 h in
           (either (k .0 .1) (λ c. absurd (c refl)) (λ l. l), k .1);
-      event-14 = λ p. event-rows-as-worded over-w automatonW p 4 .row-14 .1 (omega arith);
-      event-23 = λ p h. event-rows-as-worded over-w automatonW p 0 .row-23 .1 (sign-fits (length (p .buffer)), h);
-      event-15 = event-rows-as-worded over-w automatonW _ 2 .row-15 .1 (omega arith, refl, omega arith);
-      event-0 = event-rows-as-worded over-w automatonW (at 0 [] [] 0 0) 2 .accepted .1 ((omega arith, inr (omega arith)), λ z. omega arith);
+      event-14 = λ p. rows-w p 4 .row-14 .1 (omega arith);
+      event-23 = λ p h. rows-w p 0 .row-23 .1 (sign-fits _ (p .state) (p .buffer), h);
+      event-15 = rows-w (at 0 (2 ∷ 2 ∷ []) (7 ∷ 8 ∷ []) 4294967295 4294967293) 2 .row-15 .1 third-shut;
+      event-0 = rows-w (at 0 [] [] 0 0) 2 .accepted .1 ((omega arith, inr (inl (omega arith))), λ z. omega arith);
       receive-11 = receive-rows-as-worded wideV t startV 0 .first-rows .row-11 .1 invalid-wide;
       receive-0 =
-          receive-rows-as-worded automatonV t startV 1 .accepted .1 (clear-v, ((omega arith, inr (omega arith)), λ z. omega arith));
+          receive-rows-as-worded automatonV t startV 1 .accepted .1 (clear-v, ((omega arith, inr (inl (omega arith))), λ z. omega arith));
       receive-only-0 = λ e h. receive-rows-as-worded automatonW tableW (configuration twoPages) e .accepted .0 h .1;
       receive-only-23 = λ e h. receive-rows-as-worded automatonW tableW (configuration atEnd) e .row-23 .0 h .1;
       run-11 = run-rows-as-worded wideV t startV (0 ∷ 1 ∷ []) (9 ∷ []) .first-rows .row-11 .1 invalid-wide;
@@ -254,6 +271,14 @@ settles output sources w places v r n z g l count =
       accepted = count i;
     }
 
+-- a third Page does not open the buffer by the sets either
+third-opens-none : Opens (Winning automatonW) automatonW (leads-w []) (2 ∷ 2 ∷ []) 2 → ⊥
+unfolding publishing
+third-opens-none o = omega (arith, opens-releases (bySets automatonW) automatonW 0 (2 ∷ 2 ∷ []) 2 o)
+
+pub third-shut-out : ShutAt automatonW twoHeld 2
+third-shut-out = (third-full, third-opens-none)
+
 pub releasing : Releasing
 unfolding automatonW pad storeAll refusedOf
 releasing =
@@ -263,10 +288,10 @@ releasing =
     let after-sign = follows-published automatonW (storeOf (0 ∷ []) (0 ∷ []) [] [] 1) in
     let full = follows-published automatonW twoHeld in
     let end = follows-published automatonW ended in
-    let third : Full automatonW 2 2 = (omega arith, refl, omega arith) in
-    let passed : Admitted automatonW 2 2 0 = (sign-fits 2, λ z. omega arith) in
-    let held : Admitted automatonW 0 1 2 = ((omega arith, inr (omega arith)), λ z. omega arith) in
-    let room : Fits automatonW 0 2 = (omega arith, inr (omega arith)) in
+    let passed : AdmittedAt automatonW (storeOf [] [] (2 ∷ 3 ∷ []) (0 ∷ 1 ∷ []) 2) 0 = (sign-fits _ _ _, λ z. omega arith) in
+    let held : AdmittedAt automatonW (storeOf (0 ∷ []) (0 ∷ []) [] [] 1) 2 = ((omega arith, inr (inl (omega arith))), λ z. omega arith) in
+    let signed-out : EndedAt automatonW ended 0 = (sign-fits _ _ _, refl) in
+    let room : EndedAt automatonW ended 2 = ((omega arith, inr (inl (omega arith))), refl) in
     record {
       released = go;
       only = λ v r l. only-longest (Winning automatonW) automatonW 1 (2 ∷ 3 ∷ []) v r (2 ∷ 3 ∷ []) [] l go;
@@ -277,23 +302,23 @@ releasing =
       holds =
           settles (0 ∷ []) (0 ∷ []) (2 ∷ []) (1 ∷ []) [] (2 ∷ []) 2 _ (after-sign .holds 2 refl held) (rw signed stay)
           (after-sign .counts 2 held);
-      full = full .refuses 2 (inr (inl third));
+      full = full .refuses 2 (inr (inl third-shut-out));
       unknown = full .refuses 4 (inl (omega arith));
-      at-end = end .refuses 0 (inr (inr (sign-fits 0, refl)));
+      at-end = end .refuses 0 (inr (inr signed-out));
       run-short = full .run-short (0 ∷ []) 2 (omega arith);
       run-fed = full .run-fed (0 ∷ []) 3 (omega arith);
       event-fed = full .event-fed 0;
       one-by-one = full .first-fed 4 (0 ∷ []) ∙ follows-published automatonW _ .first-fed 0 [] ∙ follows-published automatonW _ .none-fed;
       run-accepted = full .run-row (0 ∷ []) (9 ∷ 9 ∷ 9 ∷ []) .accepted .1 (omega arith);
       counts =
-          full .counted 2 (4 ∷ 1 ∷ []) (inr (inl third)) ∙
+          full .counted 2 (4 ∷ 1 ∷ []) (inr (inl third-shut-out)) ∙
           ap suc (full .counted 4 (1 ∷ []) (inl (omega arith))) ∙
           ap (λ n. suc (suc n)) (full .not-counted 1 [] ((omega arith, inl λ c. omega arith), λ z. omega arith));
       end-counts =
-          end .counted 0 (2 ∷ []) (inr (inr (sign-fits 0, refl))) ∙ ap suc (end .counted 2 [] (inr (inr (room, refl)))) ∙
+          end .counted 0 (2 ∷ []) (inr (inr signed-out)) ∙ ap suc (end .counted 2 [] (inr (inr room))) ∙
           ap (λ n. suc (suc n)) (end .none-counted);
-      event-row = full .event-row 2 .row-15 .1 third;
-      end-row = end .event-row 0 .row-23 .1 (sign-fits 0, refl);
+      event-row = full .event-row 2 .row-15 .1 third-shut-out;
+      end-row = end .event-row 0 .row-23 .1 signed-out;
       run-row = full .run-row (0 ∷ []) (9 ∷ 9 ∷ []) .row-16 .1 (omega arith);
     }
 

@@ -1,6 +1,7 @@
 -- The claims on the monitor's calls and on the published function at sheet V or W, hypotheses met.
 use Prim.Native.Nat.{ℕ, _<_, _≤_}
 use mathlib.Core.Path.{_≡_}
+use mathlib.Core.Logic.{_⊎_}
 use mathlib.Core.Bool.{true, false}
 use mathlib.Core.List.{List, [], _∷_, _++_, map}
 use lib.ListN.{length, getD}
@@ -16,7 +17,7 @@ use Rattle.solver_answers.specs.Solving.{solvedTable}
 use Rattle.automaton_symbols.specs.Symbols.{rankingOf}
 use Rattle.monitor_rule.specs.Step.{bySets, byTable, qualifying, eventRefusal}
 use Rattle.monitor_rule.specs.Fronts.{restIn, over}
-use Rattle.monitor_rule.specs.Claims.{CountEnded, Admitted, Qualifies, ListsQualifying, Longest}
+use Rattle.monitor_rule.specs.Claims.{Opens, CountEnded, Admitted, Tabled, Qualifies, ListsQualifying, Longest}
 use Rattle.monitor_answers.specs.Answers.{tooShort, callRefusal, status, receiveRefusal, received, refusedRun, runRefusal}
 use Rattle.enforcement.specs.Store.{Store, empty, positionAt, store, storeAll, event, events, feed, feedAll, refusedOf}
 use Rattle.enforcement.specs.Calls.{Call, receiveCall, runCall, Reply, receive, refusalIn}
@@ -64,23 +65,27 @@ pub record Rows : Type 0 where
   pub row-23 : receiveRefusal automatonW tableW (configuration atEnd) 0 ≡ 23
   pub row-16 : runRefusal automatonV (table automatonV) startV (0 ∷ 1 ∷ []) (9 ∷ []) ≡ 16
   -- and the other way: what 14 refuses is none of W's four kinds; a Page that 15 refuses finds two
-  -- held, and one that is accepted fewer, with the count not at its end, where it is for 23; a day
-  -- of two that 16 refuses has room for less
+  -- held and does not open the buffer, and one that is accepted finds fewer or opens it, with the
+  -- count not at its end, where it is for 23; a day of two that 16 refuses has room for less
   pub only-14 : (p : Position) (e : ℕ) → rowW p e ≡ 14 → 4 ≤ e
-  pub only-15 : (p : Position) → rowW p 2 ≡ 15 → 2 ≤ length (p .buffer)
+  pub only-15 : (p : Position) → rowW p 2 ≡ 15
+      → (2 ≤ length (p .buffer)) × (Opens (Tabled automatonW tableW) automatonW (p .state) (p .buffer) 2 → ⊥)
   pub only-23 : (p : Position) (e : ℕ) → rowW p e ≡ 23 → p .received ≡ 4294967295
-  pub only-0 : (p : Position) → rowW p 2 ≡ 0 → (length (p .buffer) < 2) × (p .received ≡ 4294967295 → ⊥)
+  pub only-0 : (p : Position) → rowW p 2 ≡ 0
+      → ((length (p .buffer) < 2) ⊎ Opens (Tabled automatonW tableW) automatonW (p .state) (p .buffer) 2)
+      × (p .received ≡ 4294967295 → ⊥)
   -- the same of a call: what refuses one event or a day by 11, and what accepts it
   pub event-14 : (p : Position) → rowW p 4 ≡ 14
-  -- at the count's end Sign is refused by 23, and a Page for which there is no room by 15
+  -- at the count's end Sign is refused by 23, and a third Page by 15
   pub event-23 : (p : Position) → p .received ≡ 4294967295 → rowW p 0 ≡ 23
   pub event-15 : rowW (at 0 (2 ∷ 2 ∷ []) (7 ∷ 8 ∷ []) 4294967295 4294967293) 2 ≡ 15
   pub event-0 : rowW (at 0 [] [] 0 0) 2 ≡ 0
   pub receive-11 : receiveRefusal wideV (table automatonV) startV 0 ≡ 11
   pub receive-0 : receiveRefusal automatonV (table automatonV) startV 1 ≡ 0
-  pub receive-only-0 : (e : ℕ) → receiveRefusal automatonW tableW (configuration twoPages) e ≡ 0 → Admitted automatonW 2 2 e
+  pub receive-only-0 : (e : ℕ) → receiveRefusal automatonW tableW (configuration twoPages) e ≡ 0
+      → Admitted (Tabled automatonW tableW) automatonW 0 (2 ∷ 2 ∷ []) 2 e
   pub receive-only-23 : (e : ℕ) → receiveRefusal automatonW tableW (configuration atEnd) e ≡ 23
-      → CountEnded automatonW 0 4294967295 e
+      → CountEnded (Tabled automatonW tableW) automatonW 1 [] 4294967295 e
   pub run-11 : runRefusal wideV (table automatonV) startV (0 ∷ 1 ∷ []) (9 ∷ []) ≡ 11
   pub run-0 : runRefusal automatonV (table automatonV) startV (0 ∷ 1 ∷ []) (9 ∷ 9 ∷ []) ≡ 0
   pub run-only-0 : (out : List ℕ) → runRefusal automatonV (table automatonV) startV (0 ∷ 1 ∷ []) out ≡ 0 → 2 ≤ length out

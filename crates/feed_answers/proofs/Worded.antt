@@ -99,14 +99,13 @@ module _ (a : Automaton) (t : List ℕ) (cs : List Configuration) (s : List ℕ)
     λ (z, x). rows-pass s expected events z ∙ f z .1 x,
   )
 
-  event-rows : ClientRows Let a cs (m .client) (m .symbol) (feedRefusal a t cs s expected)
+  event-rows : ClientRows Let a t cs (m .client) (m .symbol) (feedRefusal a t cs s expected)
   unfolding feedRefusal
   event-rows =
       client-rows a t cs (m .client) (m .symbol) (first (listRows a t count ++ rows))
       (λ Z k i f.
       Iff·trans (list-later a t count rows k (inner-later k i) (λ clear. inner-row k i (λ z. f (clear, z))))
       (λ (c, (z, x)). ((c, z), x), λ ((c, z), x). (c, (z, x))))
-      (λ p. p .0 .record-valid)
 
   -- the answer's row
   abbrev n : ℕ

@@ -30,7 +30,7 @@ pub record FeedRows (a : Automaton) (t : List ℕ) (cs : List Configuration) (s 
   pub list : ListRows a t (length cs) (feedRefusal a t cs s expected)
   pub own : (n : ℕ) → RecordRow n
       → (feedRefusal a t cs s expected ≡ n) ↔ (ListClear a t (length cs) × (admission s expected .refusal ≡ n))
-  pub event : ClientRows (ListClear a t (length cs) × (admission s expected .refusal ≡ 0)) a cs (admission s expected .client)
+  pub event : ClientRows (ListClear a t (length cs) × (admission s expected .refusal ≡ 0)) a t cs (admission s expected .client)
       (admission s expected .symbol) (feedRefusal a t cs s expected)
   pub answered : fedFor a t cs s expected .answer .refusal ≡ feedRefusal a t cs s expected
 

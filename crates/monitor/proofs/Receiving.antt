@@ -56,7 +56,7 @@ module _ (a : Automaton) (t : List ℕ) (o : Opened a t) (r : Ranking) (own : r 
 
   pub rest-is : (b : Bool) → b ≡ restIn t (r .ranks) (r .count) (take (c .held) (c .buffer)) (c .state) → b ≡ isWinning a t c
   unfolding isWinning heldEvents
-  rest-is b e = e ∙ rw own (rest-tabled a v t (heldEvents c) (held-buffer a c place) (c .state))
+  rest-is b e = e ∙ rw own (rest-tabled a v t (heldEvents c) (place .events) (c .state))
 
 -- whether a configuration is winning
 module _ (a : Automaton) (t : List ℕ) (c : Configuration) where

@@ -11,15 +11,17 @@ use Rattle.base.specs.Rows.{first}
 use Rattle.base.specs.Pad.{pad}
 use Rattle.base.proofs.Bools.{by}
 use Rattle.base.proofs.Refusals.{first-clear}
-use Rattle.base.proofs.Padding.{pad-used, zeros-used}
+use Rattle.base.proofs.Padding.{pad-used, zeros-used, take-pad}
 use Rattle.automaton.specs.declared.Automaton.{Automaton}
 use Rattle.configuration_places.proofs.Facts.{numbers-places}
 use Rattle.configuration.specs.declared.Configuration.{Configuration}
 use Rattle.configuration.specs.Configuration.{heldEvents, positionOf}
 use Rattle.monitor_rule.specs.Step.{byTable, effectFrom, sources, eventRows, eventRefusal}
+use Rattle.monitor_rule.specs.Claims.{Full, Tabled, Opened}
+use Rattle.monitor_rule.proofs.Rows.{opens-as-worded}
 use Rattle.monitor_rule.proofs.Effects.{OccursAt, consistent-occurs, effect-length, places-as-worded}
 use Rattle.monitor_answers.specs.Answers.{callRows, callRefusal, receiveRefusal, received, runRefusal}
-use Rattle.monitor_answers.specs.Claims.{EmittedPadded}
+use Rattle.monitor_answers.specs.Claims.{EmittedPadded, OpenedAnswers}
 use Rattle.monitor_answers.proofs.Refusals.{Clear, clear, place, rows-pass}
 
 module _ (a : Automaton) (t : List ℕ) (c : Configuration) where
@@ -75,3 +77,20 @@ emitted-padded a t c e =
           rw (h, numbers-places (pad 7 from)) (rw same at (pad-used 7 from (rw (h, ← same) at few))))
           (λ h. rw h (zeros-used 7)),
     )
+
+-- an event that a full buffer accepts
+opened-effect : (a : Automaton) (t : List ℕ) (c : Configuration) (e : ℕ) → receiveRefusal a t c e ≡ 0 → Full a (heldEvents c) e
+    → let f = effectFrom (byTable a t) a (positionOf c) e in
+    Opened (Tabled a t) a (c .state) (heldEvents c) e (f .emitted) (f .buffer) (f .state)
+unfolding byTable
+opened-effect a t c e h full = opens-as-worded (byTable a t) a (positionOf c) e (receive-event a t c e h) full
+
+pub opened-answers : OpenedAnswers
+unfolding received heldEvents byTable
+opened-answers a t c e h full =
+    let f = effectFrom (byTable a t) a (positionOf c) e in
+    let o = opened-effect a t c e h full in
+    record {
+      opened = rw (h, take-pad 7 (f .emitted), take-pad 6 (f .buffer)) o;
+      winning = rw h (o .rests);
+    }

@@ -15,14 +15,13 @@ use Rattle.automaton.specs.Automaton.{valid}
 use Rattle.solver_sets.specs.Table.{short}
 use Rattle.configuration_places.specs.Places.{inputNumber}
 use Rattle.configuration.specs.declared.Configuration.{Configuration}
-use Rattle.configuration.specs.Configuration.{positionOf, consistent}
+use Rattle.configuration.specs.Configuration.{heldEvents, positionOf, consistent}
 use Rattle.monitor_rule.specs.Step.{byTable, eventRows, eventRefusal}
-use Rattle.monitor_rule.specs.Claims.{RowsOfEvent}
-use Rattle.monitor_rule.proofs.Worded.{event-number, event-rows-as-worded}
+use Rattle.monitor_rule.specs.Claims.{RowsOfEvent, Tabled}
+use Rattle.monitor_rule.proofs.Rows.{event-number, event-rows-as-worded}
 use Rattle.monitor_answers.specs.Answers.{tableRows, configurationRows, callRows, callRefusal, receiveRefusal, room, tooShort, runRefusal}
 use Rattle.monitor_answers.specs.Claims.{CallRows, Clear, RowOfRun}
 use Rattle.monitor_answers.specs.Claims.{StatusRowsAsWorded, ReceiveRowsAsWorded, RoomAsWorded, RunRowsAsWorded}
-use Rattle.monitor_answers.proofs.Refusals.{place}
 
 -- rows 11 and 12, and then others
 module _ (a : Automaton) (t : List ℕ) (more : List (ℕ × Bool)) where
@@ -103,8 +102,9 @@ status-rows-as-worded a t c =
 
 -- one event
 module _ (a : Automaton) (t : List ℕ) (c : Configuration) (e : ℕ) where
-  event-rows : Clear a t c → RowsOfEvent a (c .held) (inputNumber (c .received)) e (eventRefusal (byTable a t) a (positionOf c) e)
-  event-rows k = rw (place a t c k .held-length) at (event-rows-as-worded (byTable a t) a (positionOf c) e)
+  event-rows : RowsOfEvent (Tabled a t) a (c .state) (heldEvents c) (inputNumber (c .received)) e (eventRefusal (byTable a t) a (positionOf c) e)
+  unfolding byTable
+  event-rows = event-rows-as-worded (byTable a t) a (positionOf c) e
 
   event-late : Early (eventRefusal (byTable a t) a (positionOf c) e) → ⊥
   event-late l =
@@ -117,10 +117,10 @@ receive-rows-as-worded a t c e =
     let rows = eventRows (byTable a t) a (positionOf c) e in
     record {
       first-rows = call-rows a t c rows (event-late a t c e);
-      row-14 = beyond a t c rows 14 (λ l. omega arith) (λ k. event-rows a t c e k .row-14);
-      row-15 = beyond a t c rows 15 (λ l. omega arith) (λ k. event-rows a t c e k .row-15);
-      row-23 = beyond a t c rows 23 (λ l. omega arith) (λ k. event-rows a t c e k .row-23);
-      accepted = beyond a t c rows 0 (λ l. omega arith) (λ k. event-rows a t c e k .accepted);
+      row-14 = beyond a t c rows 14 (λ l. omega arith) (λ _. event-rows a t c e .row-14);
+      row-15 = beyond a t c rows 15 (λ l. omega arith) (λ _. event-rows a t c e .row-15);
+      row-23 = beyond a t c rows 23 (λ l. omega arith) (λ _. event-rows a t c e .row-23);
+      accepted = beyond a t c rows 0 (λ l. omega arith) (λ _. event-rows a t c e .accepted);
     }
 
 -- a day

@@ -13,8 +13,8 @@ use Rattle.automaton.specs.Automaton.{valid}
 use Rattle.solver_sets.specs.Table.{short}
 use Rattle.configuration_places.specs.Places.{inputNumber}
 use Rattle.configuration.specs.declared.Configuration.{Configuration}
-use Rattle.configuration.specs.Configuration.{consistent}
-use Rattle.monitor_rule.specs.Claims.{Unknown, Full, CountEnded, Admitted}
+use Rattle.configuration.specs.Configuration.{heldEvents, consistent}
+use Rattle.monitor_rule.specs.Claims.{Unknown, Full, Shut, CountEnded, Admitted, Tabled, Opened}
 use Rattle.monitor_answers.specs.declared.Received.{Received}
 use Rattle.monitor_answers.specs.Answers.{callRefusal, receiveRefusal, received, tooShort, runRefusal, ran, ranBuffer}
 
@@ -38,16 +38,33 @@ pub record StatusRows (a : Automaton) (t : List ℕ) (c : Configuration) : Type 
 abbrev pub StatusRowsAsWorded : Type 0
 StatusRowsAsWorded = (a : Automaton) (t : List ℕ) (c : Configuration) → StatusRows a t c
 
--- one event
+-- one event; whether the newcomer opens a full buffer is read from the bits of the table, solved
+-- or not
 pub record ReceiveRows (a : Automaton) (t : List ℕ) (c : Configuration) (e : ℕ) : Type 0 where
   pub first-rows : CallRows a t c (receiveRefusal a t c e)
   pub row-14 : (receiveRefusal a t c e ≡ 14) ↔ (Clear a t c × Unknown a e)
-  pub row-15 : (receiveRefusal a t c e ≡ 15) ↔ (Clear a t c × Full a (c .held) e)
-  pub row-23 : (receiveRefusal a t c e ≡ 23) ↔ (Clear a t c × CountEnded a (c .held) (inputNumber (c .received)) e)
-  pub accepted : (receiveRefusal a t c e ≡ 0) ↔ (Clear a t c × Admitted a (c .held) (inputNumber (c .received)) e)
+  pub row-15 : (receiveRefusal a t c e ≡ 15) ↔ (Clear a t c × Shut (Tabled a t) a (c .state) (heldEvents c) e)
+  pub row-23 : (receiveRefusal a t c e ≡ 23)
+      ↔ (Clear a t c × CountEnded (Tabled a t) a (c .state) (heldEvents c) (inputNumber (c .received)) e)
+  pub accepted : (receiveRefusal a t c e ≡ 0)
+      ↔ (Clear a t c × Admitted (Tabled a t) a (c .state) (heldEvents c) (inputNumber (c .received)) e)
 
 abbrev pub ReceiveRowsAsWorded : Type 0
 ReceiveRowsAsWorded = (a : Automaton) (t : List ℕ) (c : Configuration) (e : ℕ) → ReceiveRows a t c e
+
+-- The answer to an event that a full buffer accepts (document 02, Card 5): the longest front part
+-- with which the newcomer opens the buffer is put out, what is left is held, and the configuration
+-- handed back is winning, whatever the table.
+pub record OpenedAnswer (a : Automaton) (t : List ℕ) (c : Configuration) (e : ℕ) : Type 0 where
+  pub opened : let r = received a t c e in
+      Opened (Tabled a t) a (c .state) (heldEvents c) e (take (r .count) (r .emitted)) (heldEvents (r .configuration))
+      (r .configuration .state)
+  pub winning : received a t c e .winning ≡ true
+
+abbrev pub OpenedAnswers : Type 0
+OpenedAnswers =
+    (a : Automaton) (t : List ℕ) (c : Configuration) (e : ℕ) → receiveRefusal a t c e ≡ 0 → Full a (heldEvents c) e
+    → OpenedAnswer a t c e
 
 -- an event's answer, refused or not, has seven places for what is emitted, and as many for its
 -- places in the input; those past the count hold 0

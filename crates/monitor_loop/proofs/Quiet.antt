@@ -65,7 +65,7 @@ module _ {next ranks : List ℕ} {k : ℕ} {t buffer : List ℕ} {held quiet : �
     pub quiet-emits : e ∷ [] ≡ effect rest a q w e .emitted
     quiet-emits = sym (ap (λ (x : Effect). x .emitted) alone)
 
-    pub quiet-steps : buffer ≡ pad 6 w → record { state = there; held = held; buffer = buffer; released = 0; written = at + 1 } ≡ stepped rest a q w e at
+    pub quiet-steps : buffer ≡ pad 6 w → record { row = 0; state = there; held = held; buffer = buffer; released = 0; written = at + 1 } ≡ stepped rest a q w e at
     unfolding stepped released arrival remaining step
     quiet-steps padded = sym (rw (alone, uncontrollable, none, many, ← padded))
 

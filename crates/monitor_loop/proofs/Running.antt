@@ -6,7 +6,7 @@ use mathlib.Core.List.{List, [], _∷_, _++_, append-assoc, append-nil}
 use native.Mathlib.Nat.{zero-add, add-zero}
 use native.Mathlib.Numerals.{add-one}
 use native.Mathlib.Omega.{arith}
-use lib.ListN.{length, getD, drop, length-append}
+use lib.ListN.{length, getD, take, drop, length-append}
 use lib.Seq.{sets, sets-eq, length-sets, drop-cons, drop-length}
 use lib.Dec.{eqb, ltb}
 use borrow.Author.Tests.{eqb-true, eqb-false, ltb-true, ltb-false}
@@ -16,20 +16,21 @@ use Rattle.automaton.specs.declared.Automaton.{Automaton}
 use Rattle.configuration_places.specs.declared.InputPlace.{InputPlace}
 use Rattle.configuration_places.specs.Places.{inputPlace, inputNumber}
 use Rattle.configuration.specs.declared.Configuration.{Configuration}
-use Rattle.configuration.specs.Configuration.{Position, positionOf, configuration, consistent}
+use Rattle.configuration.specs.Configuration.{Position, heldEvents, positionOf, configuration, consistent}
 use Rattle.configuration.proofs.Facts.{position-made}
 use Rattle.monitor_rule.specs.Step.{byTable, Effect, effectFrom, advance, eventRefusal, Run, runOf}
 use Rattle.monitor_rule.proofs.Effects.{places-as-worded}
 use Rattle.monitor_rule.proofs.Runs.{run-accepts, run-refuses}
+use Rattle.monitor_step.specs.declared.Stepped.{Stepped}
 use Rattle.monitor_places.specs.Lines.{placesAfter, AfterRequires}
 use Rattle.monitor_answers.specs.declared.Ran.{Ran}
 use Rattle.monitor_answers.specs.Answers.{ranOf, ranBufferOf}
 use Rattle.monitor_answers.specs.Turns.{turnRefusal, turnEmitted, turnNext, turnedBuffer}
 use Rattle.monitor_answers.proofs.Turns.{turn-consistent, turn-silent, turn-emits, turn-moves, turn-keeps, turn-room}
 use Rattle.monitor_loop.specs.Lending.{Limits, Lends, ProcessRequires, derived, Runs}
-use Rattle.monitor_loop.proofs.Taking.{Processed, processed, Takes, opens, facts, place}
+use Rattle.monitor_loop.proofs.Taking.{processed, Takes, opens, facts, place}
 use Rattle.monitor_loop.proofs.Placing.{derived-is}
-use Rattle.monitor_loop.proofs.Accepting.{accepted-asks, accepted-found}
+use Rattle.monitor_loop.proofs.Accepting.{accepted-state, accepted-counts, accepted-asks, accepted-found}
 
 -- a run after what was done before it
 abbrev pub joined : List ℕ → ℕ → Run → Run
@@ -178,10 +179,10 @@ module _ {l : Limits} {next ranks t events out₀ : List ℕ} {c₀ : Configurat
     pub going-room : written + c .held < length out
     going-room = omega (arith, going-kept, own .fits, g .enough)
 
-    module _ (r : Processed) (out′ : List ℕ) (s : Takes l next ranks t c (getD events i 0) written out r out′) where
+    module _ (r : Stepped) (out′ : List ℕ) (s : Takes l next ranks t c (getD events i 0) written out r out′) where
       row-of : (a : Automaton) → Lends a l next ranks t → consistent a c ≡ true → turnRefusal a t c (getD events i 0) ≡ r .row
       unfolding processed
-      row-of a o k = sym (ap (λ (y : Processed). y .row) (s a o k .0))
+      row-of a o k = sym (ap (λ (y : Stepped). y .row) (s a o k .0))
 
       pub going-refuses : (r .row ≡ 0 → ⊥) → Going l next ranks t events out₀ c₀ out′ c written (refused + 1) (i + 1)
       going-refuses z =
@@ -204,6 +205,12 @@ module _ {l : Limits} {next ranks t events out₀ : List ℕ} {c₀ : Configurat
         pub going-asks : AfterRequires (c .places) (c .held) (r .released) (r .held)
         going-asks = accepted-asks going-enters event written out r out′ s z
 
+        pub going-there : r .state < 32
+        going-there = accepted-state going-enters event written out r out′ s z
+
+        pub going-counts : inputNumber (c .received) ≡ 4294967295 → ⊥
+        going-counts = accepted-counts going-enters event written out r out′ s z
+
         pub going-accepts : (ps : List InputPlace) → ps ≡ placesAfter (c .places) (c .held) (c .received) (r .released) (r .held)
             → Going l next ranks t events out₀ c₀ out′
             (derived (r .state) (r .held) (r .buffer) ps (inputPlace (inputNumber (c .received) + 1))) (r .written) refused (i + 1)
@@ -223,6 +230,11 @@ module _ {l : Limits} {next ranks t events out₀ : List ℕ} {c₀ : Configurat
 
   pub going-state : c .state < 32
   going-state = omega (arith, place (g .enters .lends) c (own .stands) .state-below, facts (g .enters .lends) .states-high)
+
+  -- what is held is in the buffer
+  pub going-many : length (take (c .held) (c .buffer)) ≡ c .held
+  unfolding heldEvents
+  going-many = place (g .enters .lends) c (own .stands) .held-length
 
   pub going-held : c .held ≤ 6
   going-held = place (g .enters .lends) c (own .stands) .held-small

@@ -11,10 +11,11 @@ use configuration_places::OutputPlace;
 use monitor_answers::Ran;
 use monitor_answers::Turned;
 use monitor_places::places_after;
-use monitor_step::event_row;
+use monitor_step::early_row;
+use monitor_step::overflow;
 use monitor_step::step;
 ghost use mathlib.Core.Path.{_≡_};
-ghost use mathlib.Core.Bool.{_&&_};
+ghost use mathlib.Core.Bool.{not, _&&_};
 ghost use Prim.Native.Nat.{ℕ, _+_, _*_, _≤_, _<_};
 ghost use lib.Dec.{eqb};
 ghost use lib.ListN.{length, getD};
@@ -101,6 +102,17 @@ fn quiet_after(quiet: u32, before: usize, state: usize, held: usize, released: u
     quiet | bit(state)
 }
 
+// Whether an event's row before any search refuses it: not where the buffer is full, which it may
+// yet open.
+pub fn refuses(row: u8) -> bool
+    ensures { λ r. ⌜ r ≡ not (eqb row 0) && not (eqb row 15) ⌝ }
+{
+    if row == 0 {
+        return false;
+    }
+    row != 15
+}
+
 // The events in turn; those that are refused are passed over and counted. An uncontrollable event
 // that leads to a state known to be quiet is written, counted and moves the state, no more. The
 // output count is worked out at the end.
@@ -131,7 +143,7 @@ pub fn process<'a>(
     while i < events.len() {
         let event = events[i];
         i = i + 1;
-        let row = event_row(
+        let row = early_row(
             &own,
             limits.symbols,
             as_usize(limits.capacity),
@@ -139,7 +151,7 @@ pub fn process<'a>(
             received,
             event,
         );
-        if row != 0 {
+        if refuses(row) {
             refused = refused + 1;
         } else if leads_to_quiet(next, &own, quiet, state, event as usize) {
             out[written] = event as u8;
@@ -147,27 +159,47 @@ pub fn process<'a>(
             received = counted(received);
             written = written + 1;
         } else {
-            let after = step(
-                next,
-                &own,
-                limits.controllables,
-                table,
-                state,
-                buffer,
-                held,
-                event as u8,
-                out,
-                written,
-            );
-            let kept = places_after(places, held, received, after.released, after.held);
-            quiet = quiet_after(quiet, held, after.state, after.held, after.released);
-            let left = after.buffer;
-            state = after.state;
-            held = after.held;
-            buffer = left;
-            places = kept;
-            received = counted(received);
-            written = after.written;
+            let after = if row == 15 {
+                overflow(
+                    next,
+                    &own,
+                    limits.controllables,
+                    table,
+                    state,
+                    buffer,
+                    held,
+                    received,
+                    event as u8,
+                    out,
+                    written,
+                )
+            } else {
+                step(
+                    next,
+                    &own,
+                    limits.controllables,
+                    table,
+                    state,
+                    buffer,
+                    held,
+                    event as u8,
+                    out,
+                    written,
+                )
+            };
+            if after.row != 0 {
+                refused = refused + 1;
+            } else {
+                let kept = places_after(places, held, received, after.released, after.held);
+                quiet = quiet_after(quiet, held, after.state, after.held, after.released);
+                let left = after.buffer;
+                state = after.state;
+                held = after.held;
+                buffer = left;
+                places = kept;
+                received = counted(received);
+                written = after.written;
+            }
         }
     }
     Ran {
@@ -203,27 +235,65 @@ pub fn turn<'a>(
             written: at,
         };
     }
-    // `process` passes over a refused event without a word, so the row is asked here.
-    let row = event_row(
+    let held = as_usize(c.held);
+    let row = early_row(
         ranks,
         limits.symbols,
         as_usize(limits.capacity),
-        as_usize(c.held),
+        held,
         c.received,
         event,
     );
-    if row != 0 {
+    if refuses(row) {
         return Turned {
             row,
             configuration: c,
             written: at,
         };
     }
-    let ran = process(limits, next, ranks, table, c, &[event], &mut out[at..]);
-    let after = ran.configuration;
+    let buffer = c.buffer;
+    let after = if row == 15 {
+        overflow(
+            next,
+            ranks,
+            limits.controllables,
+            table,
+            as_usize(c.state),
+            buffer,
+            held,
+            c.received,
+            event as u8,
+            out,
+            at,
+        )
+    } else {
+        step(
+            next,
+            ranks,
+            limits.controllables,
+            table,
+            as_usize(c.state),
+            buffer,
+            held,
+            event as u8,
+            out,
+            at,
+        )
+    };
+    if after.row != 0 {
+        return Turned {
+            row: after.row,
+            configuration: c,
+            written: at,
+        };
+    }
+    let held_places = c.places;
+    let places = places_after(held_places, held, c.received, after.released, after.held);
+    let left = after.buffer;
+    let received = counted(c.received);
     Turned {
         row: 0,
-        configuration: after,
-        written: at + ran.length,
+        configuration: derive(after.state as u8, after.held as u8, left, places, received),
+        written: after.written,
     }
 }

@@ -152,6 +152,7 @@ pub fn release<'a>(
     Front {
         count: longest(&lengths, found.listed),
         state: found.state,
+        rests: found.listed != 0,
     }
 }
 

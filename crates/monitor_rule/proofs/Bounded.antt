@@ -7,7 +7,7 @@ use Rattle.automaton.specs.declared.Automaton.{Automaton}
 use Rattle.configuration_places.specs.Places.{countEnd}
 use Rattle.configuration.specs.Configuration.{Position}
 use Rattle.monitor_rule.specs.Step.{Rest, advance, eventRefusal, runOf}
-use Rattle.monitor_rule.proofs.Worded.{event-rows-as-worded}
+use Rattle.monitor_rule.proofs.Rows.{event-rows-as-worded}
 use Rattle.monitor_rule.proofs.Runs.{run-keeps}
 
 -- the input count is at most the end of a count

@@ -1,28 +1,32 @@
 -- Laws of one event, over any rest test.
 use Prim.Native.Nat.{ℕ, zero, suc, _+_, _<_, _≤_}
 use mathlib.Core.Path.{_≡_, refl, _∙_, ap}
+use mathlib.Core.Logic.{_⊎_, inl, inr}
 use mathlib.Core.Bool.{true, false}
 use mathlib.Core.List.{List, [], _∷_, _++_}
 use native.Mathlib.Omega.{arith}
 use lib.ListN.{length, take, drop, length-append, length-drop, take-append-drop}
 use lib.Seq.{length-take-le}
+use lib.Dec.{ltb}
+use borrow.Author.Tests.{ltb-true}
+use Rattle.base.specs.Rows.{first}
 use Rattle.base.proofs.Bools.{by, either, refuted}
 use Rattle.automaton.specs.declared.Automaton.{Automaton}
 use Rattle.automaton.specs.Automaton.{class, controllable, step, reached, valid}
 use Rattle.automaton.proofs.Facts.{valid-facts}
 use Rattle.automaton.proofs.Classes.{class-one}
 use Rattle.automaton.proofs.Reached.{reached-append}
-use Rattle.solver_sets.specs.Table.{Buffer}
+use Rattle.solver_sets.specs.Table.{Controllable, Buffer}
 use Rattle.solver_sets.proofs.Total.{Total, reached-below}
-use Rattle.solver_sets.proofs.Buffers.{buffer-drop, buffer-end}
+use Rattle.solver_sets.proofs.Buffers.{controllable-drop, controllable-end}
 use Rattle.configuration.specs.declared.Configuration.{Configuration}
 use Rattle.configuration.specs.Configuration.{Position, positionOf, emptyAt}
 use Rattle.configuration.proofs.Facts.{Consistent, held-buffer}
 use Rattle.configuration.proofs.Rising.{Rising, rising-more, rising-drop, rising-end, Placed, empty-placed}
-use Rattle.monitor_rule.specs.Step.{Rest, release, Effect, remaining, arrival, effect, effectFrom, inLine, sources, advance, eventRows, eventRefusal}
+use Rattle.monitor_rule.specs.Step.{Rest, qualifies, release, Effect, remaining, arrival, effect, effectFrom, inLine, sources, advance, eventRows, eventRefusal}
 use Rattle.monitor_rule.specs.Claims.{PlacesAsWorded}
-use Rattle.monitor_rule.proofs.Longest.{release-le, release-same}
-use Rattle.monitor_rule.proofs.Worded.{event-rows-as-worded}
+use Rattle.monitor_rule.proofs.Longest.{release-le, release-same, release-behind}
+use Rattle.monitor_rule.proofs.Rows.{opens-releases, event-rows-as-worded}
 
 -- a state and a buffer that can occur
 pub record Occurs (a : Automaton) (q : ℕ) (w : List ℕ) : Type 0 where
@@ -49,21 +53,22 @@ consistent-occurs a c k =
 abbrev pub Agree : Automaton → Rest → Rest → Type 0
 Agree a rest other = (w : List ℕ) (q : ℕ) → Occurs a q w → rest w q ≡ other w q
 
--- an accepted event: a symbol, and room for it where it is controllable
-pub record Accepts (a : Automaton) (w : List ℕ) (e : ℕ) : Type 0 where
+-- an accepted event: a symbol; and where it is controllable there is room for it, or something is
+-- released
+pub record Accepts (rest : Rest) (a : Automaton) (q : ℕ) (w : List ℕ) (e : ℕ) : Type 0 where
   pub symbol : e < a .symbols
-  pub space : controllable a e ≡ true → length w < a .capacity
+  pub space : controllable a e ≡ true → (length w < a .capacity) ⊎ (1 ≤ release rest a q (w ++ e ∷ []))
 
-pub accepted-facts : (rest : Rest) (a : Automaton) (p : Position) (e : ℕ) → eventRefusal rest a p e ≡ 0 → Accepts a (p .buffer) e
+pub accepted-facts : (rest : Rest) (a : Automaton) (p : Position) (e : ℕ) → eventRefusal rest a p e ≡ 0
+    → Accepts rest a (p .state) (p .buffer) e
 accepted-facts rest a p e h =
     let f = event-rows-as-worded rest a p e .accepted .0 h .0 in
-    record { symbol = f .0; space = λ c. either (f .1) (λ no. absurd (no (class-one a e .0 c))) (λ l. l) }
-
--- two rest tests that agree refuse alike
-pub refusal-same : (rest other : Rest) (a : Automaton) (p : Position) (e : ℕ) → Agree a rest other → Total a → OccursAt a p
-    → eventRefusal rest a p e ≡ eventRefusal other a p e
-unfolding eventRefusal eventRows
-refusal-same rest other a p e agree t o = refl
+    record {
+      symbol = f .0;
+      space = λ c.
+          either (f .1) (λ no. absurd (no (class-one a e .0 c)))
+          (λ g. either g inl (λ o. inr (opens-releases rest a (p .state) (p .buffer) e o)));
+    }
 
 -- the buffer after an uncontrollable event
 remaining-buffer : (a : Automaton) (e : ℕ) (w : List ℕ) → Buffer a w → Buffer a (remaining a e w)
@@ -74,14 +79,41 @@ remaining-length : (a : Automaton) (e : ℕ) (w : List ℕ) → length (remainin
 unfolding remaining
 remaining-length a e w = refl
 
--- before the release
+-- before the release one more than the capacity may be in hand
+pub record Arrives (a : Automaton) (q : ℕ) (w : List ℕ) : Type 0 where
+  pub state-below : q < a .states
+  pub symbols : Controllable a w
+  pub few : length w ≤ suc (a .capacity)
+
+-- after a front part of it that is not empty, or of what fits
+module _ (a : Automaton) (t : Total a) (q : ℕ) (w : List ℕ) (o : Arrives a q w) where
+  pub left-occurs : (k : ℕ) → (length w ≤ a .capacity) ⊎ (1 ≤ k) → Occurs a (reached a q (take k w)) (drop k w)
+  left-occurs k l = record {
+    state-below = reached-below a t q (take k w) (o .state-below);
+    buffer = (
+      controllable-drop a k w (o .symbols),
+      either l (λ fits. omega (arith, length-drop k w, fits)) (λ some. omega (arith, length-drop k w, o .few, some)),
+    );
+  }
+
+  pub released-occurs : (k : ℕ) → 1 ≤ k → Occurs a (reached a q (take k w)) (drop k w)
+  released-occurs k l = left-occurs k (inr l)
+
+-- the buffer with a newcomer at its end
+pub newcomer-arrives : (a : Automaton) (q : ℕ) (w : List ℕ) (e : ℕ) → e < a .symbols → controllable a e ≡ true → Occurs a q w → Arrives a q (w ++ e ∷ [])
+newcomer-arrives a q w e l c o = record {
+  state-below = o .state-below;
+  symbols = controllable-end a w e (o .buffer .0) l c;
+  few = omega (arith, length-append w (e ∷ []), o .buffer .1);
+}
+
 module _ (a : Automaton) (q : ℕ) (w : List ℕ) (e : ℕ) where
-  pub arrival-occurs : Total a → Occurs a q w → Accepts a w e → Occurs a (arrival a q w e .state) (arrival a q w e .buffer)
+  pub arrival-arrives : e < a .symbols → Total a → Occurs a q w → Arrives a (arrival a q w e .state) (arrival a q w e .buffer)
   unfolding arrival
-  arrival-occurs t o f =
+  arrival-arrives l t o =
       by (controllable a e)
-      (λ c. rw c (record { state-below = o .state-below; buffer = buffer-end a w e (o .buffer) (f .symbol) c (f .space c) }))
-      (λ c. rw c (record { state-below = t q e; buffer = remaining-buffer a e w (o .buffer) }))
+      (λ c. rw c (newcomer-arrives a q w e l c o))
+      (λ c. let b = remaining-buffer a e w (o .buffer) in rw c (record { state-below = t q e; symbols = b .0; few = omega (arith, b .1) }))
 
   -- what is emitted leads from the state before to the one after
   pub arrival-leads : reached a q (arrival a q w e .emitted) ≡ arrival a q w e .state
@@ -96,9 +128,23 @@ module _ (a : Automaton) (q : ℕ) (w : List ℕ) (e : ℕ) where
       (λ c. rw c (omega (arith, length-append w (e ∷ []))))
       (λ c. rw c (omega (arith, remaining-length a e w)))
 
--- after any front part
-pub released-occurs : (a : Automaton) → Total a → (q : ℕ) (w : List ℕ) → Occurs a q w → (k : ℕ) → Occurs a (reached a q (take k w)) (drop k w)
-released-occurs a t q w o k = record { state-below = reached-below a t q (take k w) (o .state-below); buffer = buffer-drop a k w (o .buffer) }
+-- the rest test is asked only where it may be, so two that agree release alike
+release-agrees : (a : Automaton) (rest other : Rest) → Agree a rest other → Total a → (q : ℕ) (w : List ℕ) → Arrives a q w
+    → release rest a q w ≡ release other a q w
+unfolding qualifies
+release-agrees a rest other agree t q w n =
+    release-same rest a other a q w (λ k l _. agree (drop k w) (reached a q (take k w)) (released-occurs a t q w n k l))
+
+-- .. and refuse alike
+pub refusal-same : (rest other : Rest) (a : Automaton) (p : Position) (e : ℕ) → Agree a rest other → Total a → OccursAt a p
+    → eventRefusal rest a p e ≡ eventRefusal other a p e
+unfolding eventRefusal eventRows first
+refusal-same rest other a p e agree t o =
+    by (ltb e (a .symbols))
+    (λ s. by (controllable a e)
+    (λ c. rw (release-agrees a rest other agree t (p .state) (p .buffer ++ e ∷ []) (newcomer-arrives a (p .state) (p .buffer) e (ltb-true e (a .symbols) s) c (o .occurs))))
+    (λ c. rw (s, c)))
+    (λ s. rw s)
 
 -- after the release
 module _ (rest : Rest) (a : Automaton) (q : ℕ) (w : List ℕ) (e : ℕ) where
@@ -108,9 +154,18 @@ module _ (rest : Rest) (a : Automaton) (q : ℕ) (w : List ℕ) (e : ℕ) where
   abbrev k : ℕ
   k = release rest a (x .state) (x .buffer)
 
-  pub effect-occurs : Total a → Occurs a q w → Accepts a w e → Occurs a (effect rest a q w e .state) (effect rest a q w e .buffer)
+  -- there is room for what came, or something is released
+  arrival-room : Occurs a q w → Accepts rest a q w e → (length (x .buffer) ≤ a .capacity) ⊎ (1 ≤ k)
+  unfolding arrival
+  arrival-room o h =
+      by (controllable a e)
+      (λ c. rw c (either (h .space c) (λ l. inl (omega (arith, length-append w (e ∷ [])))) inr))
+      (λ c. rw c (inl (remaining-buffer a e w (o .buffer) .1)))
+
+  pub effect-occurs : Total a → Occurs a q w → Accepts rest a q w e → Occurs a (effect rest a q w e .state) (effect rest a q w e .buffer)
   unfolding effect
-  effect-occurs t o h = released-occurs a t (x .state) (x .buffer) (arrival-occurs a q w e t o h) k
+  effect-occurs t o h =
+      left-occurs a t (x .state) (x .buffer) (arrival-arrives a q w e (h .symbol) t o) k (arrival-room o h)
 
   pub effect-leads : reached a q (effect rest a q w e .emitted) ≡ effect rest a q w e .state
   unfolding effect
@@ -128,12 +183,18 @@ module _ (rest : Rest) (a : Automaton) (q : ℕ) (w : List ℕ) (e : ℕ) where
   unfolding effect arrival remaining reached
   effect-alone c none = rw (c, none)
 
-  -- the rest test is asked only where it may be
-  pub effect-same : (other : Rest) → Agree a rest other → Total a → Occurs a q w → Accepts a w e → effect rest a q w e ≡ effect other a q w e
+  pub effect-same : (other : Rest) → Agree a rest other → Total a → Occurs a q w → e < a .symbols → effect rest a q w e ≡ effect other a q w e
   unfolding effect
-  effect-same other agree t o h =
-      let at = released-occurs a t (x .state) (x .buffer) (arrival-occurs a q w e t o h) in
-      rw (release-same rest a (x .state) (x .buffer) other λ j _. agree (drop j (x .buffer)) (reached a (x .state) (take j (x .buffer))) (at j))
+  effect-same other agree t o l = rw (release-agrees a rest other agree t (x .state) (x .buffer) (arrival-arrives a q w e l t o))
+
+  -- where some of it has to go, a controllable event emits the first held event, and then what it
+  -- does behind it
+  pub effect-behind : (d : ℕ) → controllable a e ≡ true
+      → qualifies rest a (step a q d) (w ++ e ∷ []) (release rest a (step a q d) (w ++ e ∷ [])) ≡ true
+      → let g = effect rest a (step a q d) w e in
+      effect rest a q (d ∷ w) e ≡ record { emitted = d ∷ g .emitted; state = g .state; buffer = g .buffer }
+  unfolding effect arrival reached
+  effect-behind d c h = rw (c, release-behind rest a q d (w ++ e ∷ []) h)
 
   -- what is emitted and what is held then are what was held, and the event at its place
   abbrev f : Effect
@@ -199,7 +260,7 @@ module _ (rest : Rest) (a : Automaton) (p : Position) (e : ℕ) where
 
   pub effect-agrees : (other : Rest) → Agree a rest other → Total a → OccursAt a p → eventRefusal rest a p e ≡ 0
       → effectFrom rest a p e ≡ effectFrom other a p e
-  effect-agrees other agree t o h = effect-same rest a (p .state) (p .buffer) e other agree t (o .occurs) (accepted-facts rest a p e h)
+  effect-agrees other agree t o h = effect-same rest a (p .state) (p .buffer) e other agree t (o .occurs) (accepted-facts rest a p e h .symbol)
 
   -- what it leaves, and the places of what it emits, by its effect
   pub sources-agree : (other : Rest) → effectFrom rest a p e ≡ effectFrom other a p e → sources rest a p e ≡ sources other a p e

@@ -1,5 +1,6 @@
 pub mod Worded
 pub mod Longest
+pub mod Rows
 pub mod Numbers
 pub mod Tabled
 pub mod Searching

@@ -1,16 +1,17 @@
 -- Laws of the release, over any rest test.
-use Prim.Native.Nat.{ℕ, suc, _≤_}
-use mathlib.Core.Path.{_≡_, ap}
-use mathlib.Core.Bool.{true}
-use mathlib.Core.List.{List}
+use Prim.Native.Nat.{ℕ, zero, suc, _≤_}
+use mathlib.Core.Path.{_≡_, refl, sym, _∙_, ap}
+use mathlib.Core.Bool.{true, false}
+use mathlib.Core.List.{List, _∷_}
 use native.Mathlib.Omega.{arith}
 use lib.ListN.{length, take, drop, take-append-drop}
 use lib.Seq.{length-take-le}
-use Rattle.base.specs.Each.{lastOr}
-use Rattle.base.proofs.Bools.{either}
+use lib.Dec.{ltb}
+use borrow.Author.Tests.{ltb-true, ltb-false}
+use Rattle.base.proofs.Bools.{by, either, clash}
 use Rattle.base.proofs.Picking.{last-those, those-same}
 use Rattle.automaton.specs.declared.Automaton.{Automaton}
-use Rattle.automaton.specs.Automaton.{reached}
+use Rattle.automaton.specs.Automaton.{step, reached}
 use Rattle.monitor_rule.specs.Step.{Rest, qualifies, qualifying, release}
 use Rattle.monitor_rule.proofs.Worded.{releases-longest}
 
@@ -38,8 +39,71 @@ module _ (rest : Rest) (a : Automaton) (q : ℕ) (w : List ℕ) where
         omega (arith, g .longest (take k w) (drop k w) split h, length-take-le k w l),
       )
 
-  -- the rest test is asked only of the front parts
-  pub release-same : (other : Rest) → ((k : ℕ) → k ≤ length w → rest (drop k w) (reached a q (take k w)) ≡ other (drop k w) (reached a q (take k w)))
-      → release rest a q w ≡ release other a q w
-  unfolding release qualifies
-  release-same other h = ap (lastOr 0) (qualifying-same rest a other a q w h)
+  -- what is released qualifies, unless it is nothing
+  pub released-qualifies : 1 ≤ release rest a q w → qualifies rest a q w (release rest a q w) ≡ true
+  unfolding qualifies
+  released-qualifies l =
+      either (releases-longest rest a q w .leads)
+      (λ r. r)
+      (λ n. absurd (omega (arith, length-take-le (release rest a q w) w release-le, ap length (n .0))))
+
+-- where every nonempty front part that qualifies by one does by the other, no more is released by
+-- the first
+pub release-most : (rest : Rest) (a : Automaton) (other : Rest) (b : Automaton) (q : ℕ) (w : List ℕ)
+    → ((k : ℕ) → 1 ≤ k → k ≤ length w → qualifies rest a q w k ≡ qualifies other b q w k) → release rest a q w ≤ release other b q w
+release-most rest a other b q w h =
+    let k = release rest a q w in
+    let few = release-le rest a q w in
+    by (ltb 0 k)
+    (λ t.
+    let l = ltb-true 0 k t in
+    release-longest other b q w k few (sym (h k l few) ∙ released-qualifies rest a q w l) .1)
+    (λ t. let l = ltb-false 0 k t in omega arith)
+
+-- the rest test is asked only of what is left after a nonempty front part
+pub release-same : (rest : Rest) (a : Automaton) (other : Rest) (b : Automaton) (q : ℕ) (w : List ℕ)
+    → ((k : ℕ) → 1 ≤ k → k ≤ length w → qualifies rest a q w k ≡ qualifies other b q w k) → release rest a q w ≡ release other b q w
+release-same rest a other b q w h =
+    let x = release-most rest a other b q w h in
+    let y = release-most other b rest a q w (λ k l m. sym (h k l m)) in
+    omega arith
+
+-- what is released where some of it has to go: the first event, and then the longest front part of
+-- the others, if any of them qualifies
+module _ (rest : Rest) (a : Automaton) (q d : ℕ) (w : List ℕ) where
+  abbrev p : ℕ
+  p = step a q d
+
+  abbrev k : ℕ
+  k = release rest a p w
+
+  -- a front part with the first event is one of the others
+  behind : (j : ℕ) → qualifies rest a q (d ∷ w) (suc j) ≡ qualifies rest a p w j
+  unfolding qualifies reached
+  behind j = refl
+
+  behind-holds : (n : ℕ) → release rest a q (d ∷ w) ≡ suc n → qualifies rest a p w n ≡ true
+  behind-holds n e = sym (behind n) ∙ rw e at (released-qualifies rest a q (d ∷ w) (omega (arith, e)))
+
+  -- no more of the others than their longest
+  behind-few : (n : ℕ) → release rest a q (d ∷ w) ≡ suc n → n ≤ k
+  behind-few n e =
+      let l = release-le rest a q (d ∷ w) in
+      release-longest rest a p w n (omega (arith, e)) (behind-holds n e) .1
+
+  pub release-behind : qualifies rest a p w k ≡ true → release rest a q (d ∷ w) ≡ suc k
+  release-behind h =
+      let more = release-longest rest a q (d ∷ w) (suc k) (omega (arith, release-le rest a p w)) (behind k ∙ h) .1 in
+      exactly (release rest a q (d ∷ w)) refl more
+    where
+      exactly : (n : ℕ) → release rest a q (d ∷ w) ≡ n → suc k ≤ n → release rest a q (d ∷ w) ≡ suc k
+      exactly zero e l = absurd (omega arith)
+      exactly (suc n) e l = omega (arith, e, behind-few n e)
+
+  pub release-none : qualifies rest a p w k ≡ false → release rest a q (d ∷ w) ≡ 0
+  release-none h = nothing (release rest a q (d ∷ w)) refl
+    where
+      nothing : (n : ℕ) → release rest a q (d ∷ w) ≡ n → release rest a q (d ∷ w) ≡ 0
+      nothing zero e = e
+      nothing (suc n) e =
+          absurd (clash (release-longest rest a p w n (omega (arith, release-le rest a q (d ∷ w), e)) (behind-holds n e) .0) h)

@@ -1,18 +1,20 @@
 -- The search for the front parts that qualify, in turn from the empty one on.
 use Prim.Native.Nat.{ℕ, suc, _+_, _-_, _*_, _<_, _≤_}
 use mathlib.Core.Path.{_≡_, refl, sym, _∙_, ap, ap₂}
-use mathlib.Core.Bool.{Bool, cond}
+use mathlib.Core.Bool.{Bool, not, cond}
 use mathlib.Core.List.{List, [], _∷_, _++_}
 use native.Mathlib.Numerals.{add-one}
 use native.Mathlib.Omega.{arith}
 use lib.ListN.{length, getD, set, take, drop, replicate, length-drop}
 use lib.Seq.{take-suc, getD-take}
+use lib.Dec.{eqb}
+use borrow.Author.Tests.{eqb-false, ne-eqb}
 use Rattle.base.specs.Each.{those, lastOr}
 use Rattle.base.specs.Masks.{has}
 use Rattle.base.specs.Pad.{pad}
-use Rattle.base.proofs.Bools.{by}
+use Rattle.base.proofs.Bools.{by, either, clash}
 use Rattle.base.proofs.Padding.{pad-length, take-pad}
-use Rattle.base.proofs.Picking.{Picked, picked-room, picked-more, picked-same, those-few, those-passed, last-taken}
+use Rattle.base.proofs.Picking.{Picked, picked-room, picked-more, picked-same, those-few, those-has, those-holds, those-passed, last-taken, last-those}
 use Rattle.automaton.specs.declared.Automaton.{Automaton}
 use Rattle.automaton.specs.Automaton.{step, reached}
 use Rattle.automaton.proofs.Reached.{reached-end}
@@ -97,15 +99,33 @@ module _ (rest : Rest) (a : Automaton) (q : ℕ) (w : List ℕ) where
       let long : length lengths ≡ 7 = ap length el ∙ pad-length 7 (those (suc (length w)) test) (omega arith) in
       (long, omega (arith, ap (λ (x : Found). x .listed) ef))
 
+  -- the release qualifies where any front part is listed
+  listed-rests : (n : ℕ) → n ≡ length (qualifying rest a q w) → not (eqb n 0) ≡ qualifies rest a q w (release rest a q w)
+  unfolding release qualifying
+  listed-rests n e =
+      let test = qualifies rest a q w in
+      let few = those-has (suc (length w)) test in
+      either (last-those 0 (suc (length w)) test)
+      (λ g.
+      let some = few (lastOr 0 (those (suc (length w)) test)) (g .below) (g .holds) .0 in
+      ap not (ne-eqb n 0 (λ z. omega (arith, some, e))) ∙ sym (g .holds))
+      (λ g. by (eqb n 0)
+      (λ z. rw z (sym (rw (g .1) (g .0 0 (omega arith)))))
+      (λ z.
+      let h = those-holds (suc (length w)) test 0 (omega (arith, e, eqb-false n 0 z)) in
+      absurd (clash (h .1) (g .0 _ (h .0)))))
+
   -- the last of the list, and the state beside it, are the release
   pub search-releases : (f : Found) → f ≡ foundIn rest a q w → (lengths : List ℕ) → lengths ≡ pad 7 (qualifying rest a q w)
-      → (c : ℕ) → c ≡ lastOr 0 (take (f .listed) lengths) → record { count = c; state = f .state } ≡ front rest a q w
+      → (c : ℕ) → c ≡ lastOr 0 (take (f .listed) lengths)
+      → record { count = c; state = f .state; rests = not (eqb (f .listed) 0) } ≡ front rest a q w
   unfolding front foundIn release
   search-releases f ef lengths el c ec =
       let found = qualifying rest a q w in
       let last : c ≡ lastOr 0 found = ec ∙ ap (lastOr 0) (ap₂ take (ap (λ (x : Found). x .listed) ef) el ∙ take-pad 7 found) in
       let state : f .state ≡ reached a q (take (lastOr 0 found) w) = ap (λ (x : Found). x .state) ef in
-      rw (last, state)
+      let rests = listed-rests (f .listed) (ap (λ (x : Found). x .listed) ef) in
+      rw (last, state, rests)
 
 -- what the search reads of the arrays that it is lent
 pub next-state : (ranks next buffer : List ℕ) (held p r x s : ℕ) → r < held → x ≡ getD buffer r 0 → s ≡ getD next (p * 16 + x) 0

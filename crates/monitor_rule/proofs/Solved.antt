@@ -3,6 +3,7 @@
 use mathlib.Core.List.{List}
 use Prim.Native.Nat.{ℕ}
 use mathlib.Core.Path.{_≡_, _∙_}
+use mathlib.Core.Logic.{inl}
 use native.Mathlib.Omega.{arith}
 use lib.ListN.{take, drop}
 use Rattle.automaton.specs.declared.Automaton.{Automaton}
@@ -18,7 +19,7 @@ use Rattle.monitor_rule.specs.Claims.{SearchOfSolved}
 use Rattle.monitor_rule.proofs.Worded.{search-as-worded}
 use Rattle.monitor_rule.proofs.Longest.{qualifying-same}
 use Rattle.monitor_rule.proofs.Tabled.{asked}
-use Rattle.monitor_rule.proofs.Effects.{Occurs, Agree, released-occurs}
+use Rattle.monitor_rule.proofs.Effects.{Occurs, Agree, Arrives, left-occurs}
 
 pub solved-agree : (a : Automaton) (t : List ℕ) → Solved a t → Agree a (byTable a t) (bySets a)
 unfolding byTable bySets
@@ -34,8 +35,8 @@ unfolding bySets foundIn
 search-of-solved a t v s q w l b =
     let own : Ranking = rankingOf (a .classes) (a .symbols) in
     let facts = valid-facts a v in
-    let o : Occurs a q w = record { state-below = l; buffer = b } in
+    let n : Arrives a q w = record { state-below = l; symbols = b .0; few = omega (arith, b .1) } in
     let same = qualifying-same (restIn t (own .ranks) (own .count)) (over (own .ranks) (a .next)) (bySets a) a q w
-    (λ k _. asked a facts t w b q k ∙ asked-solved a t s q w k (released-occurs a (total a v) q w o k))
+    (λ k _. asked a facts t w (b .0) q k ∙ asked-solved a t s q w k (left-occurs a (total a v) q w n k (inl (b .1))))
     in
     rw same (search-as-worded (bySets a) a q w (omega (arith, b .1, facts .capacity-high)))

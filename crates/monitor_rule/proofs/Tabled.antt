@@ -20,13 +20,12 @@ use Rattle.automaton.specs.Automaton.{class, controllable, controllables, step,
 use Rattle.automaton.specs.Arrays.{controllableIn}
 use Rattle.automaton.proofs.Facts.{Valid, valid-of, step-high}
 use Rattle.solver_sets.specs.Table.{rank, inBaseK, shorter, index, buffersCount, short, Controllable, Buffer}
-use Rattle.solver_sets.proofs.Buffers.{buffer-drop}
+use Rattle.solver_sets.proofs.Buffers.{controllable-drop, buffer-drop}
 use Rattle.solver_sets.proofs.Numbering.{numbered}
-use Rattle.base.specs.Each.{lastOr}
 use Rattle.monitor_rule.specs.Step.{byTable, qualifies, release}
 use Rattle.automaton_symbols.specs.declared.Ranking.{Ranking}
 use Rattle.monitor_rule.specs.Fronts.{indexIn, restIn, over, ReleaseRequires}
-use Rattle.monitor_rule.proofs.Longest.{qualifying-same}
+use Rattle.monitor_rule.proofs.Longest.{release-same}
 use Rattle.automaton_symbols.specs.Symbols.{ranksTo, rankingOf}
 use Rattle.automaton_symbols.proofs.Ranks.{ranks-length}
 
@@ -94,23 +93,21 @@ unfolding reached step
 reached-over a ranks [] q = refl
 reached-over a ranks (e ∷ w) q = reached-over a ranks w (step a q e)
 
-module _ (a : Automaton) (v : Valid a) (t : List ℕ) (w : List ℕ) (b : Buffer a w) (q : ℕ) where
+module _ (a : Automaton) (v : Valid a) (t : List ℕ) (w : List ℕ) (c : Controllable a w) (q : ℕ) where
   abbrev ranking : Ranking
   ranking = rankingOf (a .classes) (a .symbols)
 
   pub rest-tabled : restIn t (ranking .ranks) (ranking .count) w q ≡ byTable a t w q
   unfolding restIn byTable
-  rest-tabled = rw (index-in-is a v w (b .0))
+  rest-tabled = rw (index-in-is a v w c)
 
   pub asked : (k : ℕ) → qualifies (restIn t (ranking .ranks) (ranking .count)) (over (ranking .ranks) (a .next)) q w k ≡ qualifies (byTable a t) a q w k
   unfolding qualifies restIn byTable
-  asked k = rw (index-in-is a v (drop k w) (buffer-drop a k w b .0), reached-over a (ranking .ranks) (take k w) q)
+  asked k = rw (index-in-is a v (drop k w) (controllable-drop a k w c), reached-over a (ranking .ranks) (take k w) q)
 
   pub release-tabled : release (restIn t (ranking .ranks) (ranking .count)) (over (ranking .ranks) (a .next)) q w ≡ release (byTable a t) a q w
-  unfolding release
   release-tabled =
-      ap (lastOr 0)
-      (qualifying-same (restIn t (ranking .ranks) (ranking .count)) (over (ranking .ranks) (a .next)) (byTable a t) a q w (λ k _. asked k))
+      release-same (restIn t (ranking .ranks) (ranking .count)) (over (ranking .ranks) (a .next)) (byTable a t) a q w (λ k _ _. asked k)
 
 -- what the release asks
 module _ (a : Automaton) (v : Valid a) (t : List ℕ) (long : short a t ≡ false) where
@@ -120,7 +117,7 @@ module _ (a : Automaton) (v : Valid a) (t : List ℕ) (long : short a t ≡ fals
       let n = numbered a (valid-of a v) w b in
       omega (arith, n, ltb-false (length t) (2 * buffersCount a) long)
 
-  next-low : (i : ℕ) → getD (a .next) i 0 < 32
+  pub next-low : (i : ℕ) → getD (a .next) i 0 < 32
   unfolding step
   next-low i =
       let h = step-high v (i / 16) (i % 16) (omega arith) in

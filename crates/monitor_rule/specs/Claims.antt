@@ -1,17 +1,18 @@
 -- What is proved of the rows of one event, of the release and of the places in the input, in the
--- documents' words (01, "One event" and "Numbers of refusal"; 02, Card 4), and of the search for
--- the release in source document 001's.
-use Prim.Native.Nat.{ℕ, _+_, _<_, _≤_}
+-- documents' words (01, "One event" and "Numbers of refusal"; 02, Cards 4 and 5), and of the
+-- search for the release in source document 001's.
+use Prim.Native.Nat.{ℕ, _+_, _*_, _<_, _≤_}
 use mathlib.Core.Path.{_≡_}
 use mathlib.Core.Logic.{_⊎_, _↔_}
 use mathlib.Core.Bool.{true}
 use mathlib.Core.List.{List, [], _∷_, _++_}
 use lib.ListN.{length, getD, take, drop}
+use Rattle.base.specs.Masks.{has}
 use Rattle.base.specs.Pad.{pad, UsedTo}
 use Rattle.automaton.specs.declared.Automaton.{Automaton}
 use Rattle.automaton.specs.Automaton.{class, reached, valid}
 use Rattle.automaton_symbols.specs.Symbols.{rankingOf}
-use Rattle.solver_sets.specs.Table.{Buffer, Solved}
+use Rattle.solver_sets.specs.Table.{index, Buffer, Solved}
 use Rattle.solver_sets.specs.Claims.{Winning}
 use Rattle.configuration.specs.Configuration.{Position}
 use Rattle.monitor_rule.specs.Step.{Rest, qualifying, release, effectFrom, sources, advance, eventRefusal}
@@ -21,35 +22,68 @@ use Rattle.monitor_rule.specs.Fronts.{restIn, over, foundIn}
 abbrev pub Unknown : Automaton → ℕ → Type 0
 Unknown a e = a .symbols ≤ e
 
--- row 15: it is a controllable one, and the capacity is already held
-abbrev pub Full : Automaton → ℕ → ℕ → Type 0
-Full a held e = (e < a .symbols) × (class a e ≡ 1) × (a .capacity ≤ held)
+-- it is a controllable one, and the capacity is already held
+abbrev pub Full : Automaton → List ℕ → ℕ → Type 0
+Full a w e = (e < a .symbols) × (class a e ≡ 1) × (a .capacity ≤ length w)
 
--- neither
-abbrev pub Fits : Automaton → ℕ → ℕ → Type 0
-Fits a held e = (e < a .symbols) × ((class a e ≡ 1 → ⊥) ⊎ (held < a .capacity))
+-- The newcomer opens the buffer (document 02, Card 5; P says with what is left, and in which
+-- state, one may rest): the buffer with the newcomer behind has a front part that is not empty,
+-- and whose release leads to where one may rest with what is left.
+pub record Opens (P : List ℕ → ℕ → Type 0) (a : Automaton) (q : ℕ) (w : List ℕ) (e : ℕ) : Type 0 where
+  pub front : List ℕ
+  pub left : List ℕ
+  pub parts : front ++ left ≡ w ++ e ∷ []
+  pub some : 1 ≤ length front
+  pub leads : P left (reached a q front)
+
+-- row 15: the buffer is full, and the newcomer does not open it
+abbrev pub Shut : (List ℕ → ℕ → Type 0) → Automaton → ℕ → List ℕ → ℕ → Type 0
+Shut P a q w e = Full a w e × (Opens P a q w e → ⊥)
+
+-- neither: not controllable, or room, or the newcomer opens the buffer
+abbrev pub Fits : (List ℕ → ℕ → Type 0) → Automaton → ℕ → List ℕ → ℕ → Type 0
+Fits P a q w e = (e < a .symbols) × ((class a e ≡ 1 → ⊥) ⊎ (length w < a .capacity) ⊎ Opens P a q w e)
 
 -- row 23: otherwise accepted, and so many were accepted before it that the input count is at its
 -- end
-abbrev pub CountEnded : Automaton → ℕ → ℕ → ℕ → Type 0
-CountEnded a held received e = Fits a held e × (received ≡ 4294967295)
+abbrev pub CountEnded : (List ℕ → ℕ → Type 0) → Automaton → ℕ → List ℕ → ℕ → ℕ → Type 0
+CountEnded P a q w received e = Fits P a q w e × (received ≡ 4294967295)
 
 -- none of the three
-abbrev pub Admitted : Automaton → ℕ → ℕ → ℕ → Type 0
-Admitted a held received e = Fits a held e × (received ≡ 4294967295 → ⊥)
+abbrev pub Admitted : (List ℕ → ℕ → Type 0) → Automaton → ℕ → List ℕ → ℕ → ℕ → Type 0
+Admitted P a q w received e = Fits P a q w e × (received ≡ 4294967295 → ⊥)
 
--- n is the number of refusal of an event with so many held and so many accepted before it: a row's
--- number exactly when it holds
-pub record RowsOfEvent (a : Automaton) (held received e n : ℕ) : Type 0 where
+-- n is the number of refusal of an event in a state, with a buffer and so many accepted before it:
+-- a row's number exactly when it holds
+pub record RowsOfEvent (P : List ℕ → ℕ → Type 0) (a : Automaton) (q : ℕ) (w : List ℕ) (received e n : ℕ) : Type 0 where
   pub row-14 : (n ≡ 14) ↔ Unknown a e
-  pub row-15 : (n ≡ 15) ↔ Full a held e
-  pub row-23 : (n ≡ 23) ↔ CountEnded a held received e
-  pub accepted : (n ≡ 0) ↔ Admitted a held received e
+  pub row-15 : (n ≡ 15) ↔ Shut P a q w e
+  pub row-23 : (n ≡ 23) ↔ CountEnded P a q w received e
+  pub accepted : (n ≡ 0) ↔ Admitted P a q w received e
 
 abbrev pub EventRowsAsWorded : Type 0
 EventRowsAsWorded =
     (rest : Rest) (a : Automaton) (p : Position) (e : ℕ)
-    → RowsOfEvent a (length (p .buffer)) (p .received) e (eventRefusal rest a p e)
+    → RowsOfEvent (λ w q. rest w q ≡ true) a (p .state) (p .buffer) (p .received) e (eventRefusal rest a p e)
+
+-- by the bits of a table
+abbrev pub Tabled : Automaton → List ℕ → List ℕ → ℕ → Type 0
+Tabled a t w q = has (getD t (2 * index a w) 0) q ≡ true
+
+-- What an event at a full buffer puts out where it is accepted: v, and r is held then. It is the
+-- longest front part with which the newcomer opens the buffer; so one may rest then.
+pub record Opened (P : List ℕ → ℕ → Type 0) (a : Automaton) (q : ℕ) (w : List ℕ) (e : ℕ) (v r : List ℕ) (p : ℕ) : Type 0 where
+  pub parts : v ++ r ≡ w ++ e ∷ []
+  pub some : 1 ≤ length v
+  pub led : p ≡ reached a q v
+  pub rests : P r p
+  pub longest : (x y : List ℕ) → x ++ y ≡ w ++ e ∷ [] → P y (reached a q x) → length x ≤ length v
+
+abbrev pub OpensAsWorded : Type 0
+OpensAsWorded =
+    (rest : Rest) (a : Automaton) (p : Position) (e : ℕ) → eventRefusal rest a p e ≡ 0 → Full a (p .buffer) e
+    → let f = effectFrom rest a p e in
+    Opened (λ w q. rest w q ≡ true) a (p .state) (p .buffer) e (f .emitted) (f .buffer) (f .state)
 
 -- The places in the input go with their events: what is put out and what is held then are the
 -- events at hand in turn, and so are their places, one for each. A newcomer's place is the input

@@ -8,7 +8,7 @@ use lib.Dec.{eqb}
 use Rattle.base.specs.Masks.{has}
 use Rattle.automaton.specs.declared.Automaton.{Automaton}
 use Rattle.automaton.specs.Automaton.{reached}
-use Rattle.monitor_rule.specs.Step.{Rest, qualifying, release}
+use Rattle.monitor_rule.specs.Step.{Rest, qualifies, qualifying, release}
 pub use Rattle.monitor_rule.specs.declared.Found.{Found}
 pub use Rattle.monitor_rule.specs.declared.Front.{Front}
 
@@ -48,11 +48,11 @@ over ranks next =
       next = next;
     }
 
--- the longest front part that qualifies, and where it leads
+-- the longest front part that qualifies, where it leads, and whether it qualifies at all
 unfoldable pub front : Rest → Automaton → ℕ → List ℕ → Front
 front rest a q w =
     let k = release rest a q w in
-    record { count = k; state = reached a q (take k w) }
+    record { count = k; state = reached a q (take k w); rests = qualifies rest a q w k }
 
 -- what the search leaves beside the list of lengths: how many qualify, and where the longest leads
 unfoldable pub foundIn : Rest → Automaton → ℕ → List ℕ → Found

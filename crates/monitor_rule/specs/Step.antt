@@ -92,16 +92,19 @@ advance rest a p e =
       emitted = p .emitted + length (f .emitted);
     }
 
--- the rows of one event with so many held and so many accepted before it: 14, no symbol of the
--- automaton; 15, controllable with the buffer full; 23, the input count at its end
-abbrev pub eventRowsIn : ℕ → ℕ → Bool → ℕ → ℕ → ℕ → List (ℕ × Bool)
-eventRowsIn symbols capacity holds held received e =
-    (14, not (ltb e symbols)) ∷ (15, holds && leb capacity held) ∷ (23, eqb received countEnd) ∷ []
+-- the rows of one event: 14, no symbol of the automaton; 15, controllable with the buffer full,
+-- and the buffer with it at its end releases nothing (document 02, Card 5); 23, the input count at
+-- its end. The release never depends on the empty front part, so no set of more events than the
+-- capacity is asked.
+abbrev pub eventRowsIn : Rest → Automaton → ℕ → List ℕ → ℕ → ℕ → List (ℕ × Bool)
+eventRowsIn rest a q w received e =
+    let full = controllable a e && leb (a .capacity) (length w) in
+    let shut = eqb (release rest a q (w ++ e ∷ [])) 0 in
+    (14, not (ltb e (a .symbols))) ∷ (15, full && shut) ∷ (23, eqb received countEnd) ∷ []
 
--- at a position, over a rest test (which no row reads)
+-- at a position
 unfoldable pub eventRows : Rest → Automaton → Position → ℕ → List (ℕ × Bool)
-eventRows rest a p e =
-    eventRowsIn (a .symbols) (a .capacity) (controllable a e) (length (p .buffer)) (p .received) e
+eventRows rest a p e = eventRowsIn rest a (p .state) (p .buffer) (p .received) e
 
 unfoldable pub eventRefusal : Rest → Automaton → Position → ℕ → ℕ
 eventRefusal rest a p e = first (eventRows rest a p e)

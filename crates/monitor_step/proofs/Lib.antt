@@ -1,4 +1,5 @@
 pub mod Arrivals
 pub mod Emitting
 pub mod Steps
+pub mod Overflows
 pub mod Tabled

@@ -42,7 +42,7 @@ module _ (rest : Rest) (a : Automaton) (q : ℕ) (w : List ℕ) (e p : ℕ) (lon
   abbrev k : ℕ
   k = release rest a (x .state) (x .buffer)
 
-  found : f ≡ front rest a (x .state) (x .buffer)
+  pub found : f ≡ front rest a (x .state) (x .buffer)
   found = ef ∙ ap₂ (front rest a) (v .state) (v .events)
 
   count-is : f .count ≡ k
@@ -56,7 +56,7 @@ module _ (rest : Rest) (a : Automaton) (q : ℕ) (w : List ℕ) (e p : ℕ) (lon
   released-few = omega (arith, count-is, release-le rest a (x .state) (x .buffer), all-is)
 
   pub step-answers : (at from : ℕ) → from ≡ at + n → (left : List ℕ) → left ≡ pad 6 (drop (f .count) (take all longer))
-      → record { state = f .state; held = all - f .count; buffer = left; released = f .count; written = from + f .count } ≡ stepped rest a q w e at
+      → record { row = 0; state = f .state; held = all - f .count; buffer = left; released = f .count; written = from + f .count } ≡ stepped rest a q w e at
   unfolding stepped released effect front
   step-answers at from behind left l =
       let few = release-le rest a (x .state) (x .buffer) in

@@ -10,12 +10,12 @@ use Rattle.automaton.specs.Automaton.{controllable}
 use Rattle.solver_sets.specs.Table.{Controllable, Buffer}
 
 module _ (a : Automaton) where
-  controllable-drop : (k : ℕ) (w : List ℕ) → Controllable a w → Controllable a (drop k w)
+  pub controllable-drop : (k : ℕ) (w : List ℕ) → Controllable a w → Controllable a (drop k w)
   controllable-drop zero w c = c
   controllable-drop (suc k) [] c = c
   controllable-drop (suc k) (e ∷ w) c = controllable-drop k w (c .1)
 
-  controllable-end : (w : List ℕ) (e : ℕ) → Controllable a w → e < a .symbols → controllable a e ≡ true → Controllable a (w ++ e ∷ [])
+  pub controllable-end : (w : List ℕ) (e : ℕ) → Controllable a w → e < a .symbols → controllable a e ≡ true → Controllable a (w ++ e ∷ [])
   controllable-end [] e c l h = ((l, h), tt)
   controllable-end (d ∷ w) e c l h = (c .0, controllable-end w e (c .1) l h)
 

@@ -1,14 +1,15 @@
-use Prim.Native.Nat.{_<_}
-use mathlib.Core.Path.{_≡_, refl, _∙_, ap}
+use Prim.Native.Nat.{_+_, _<_}
+use mathlib.Core.Path.{_≡_, refl, _∙_, sym, ap}
+use mathlib.Core.Bool.{false, not, _&&_}
+use lib.Dec.{eqb}
 use lib.ListN.{length, getD}
 use native.Mathlib.Omega.{arith}
 use borrow.Author.Needs.{needs}
-use Rattle.configuration_places.specs.Places.{inputNumber}
-use Rattle.monitor_places.specs.Lines.{placesAfter}
+use Rattle.base.proofs.Bools.{either}
 use Rattle.monitor_loop.specs.Lending.{ProcessRequires}
-use Rattle.monitor_loop.proofs.Accepting.{accepted-few, accepted-asks, accepted-derives, accepted-found}
-use Rattle.monitor_loop.proofs.Taking.{Takes, counts-on, symbols-small, event-low, take-ready, state-fits, takes-accepted}
-use Rattle.clients_entry.proofs.Entering.{takes-none, take-enters, take-room, takes-refused, takes-event}
+use Rattle.monitor_loop.proofs.Accepting.{accepted-few, accepted-state, accepted-counts, accepted-asks, accepted-derives, accepted-found}
+use Rattle.monitor_loop.proofs.Taking.{Takes, symbols-small, Early, refuses-some, refuses-none, early-symbol, takes-refused, take-ready, takes-stepped, fill-ready, takes-overflowed, takes-length}
+use Rattle.clients_entry.proofs.Entering.{takes-none, take-enters, take-room, takes-passed, takes-event}
 use Rattle.clients_entry.proofs.take.Statement.{statement}
 use Rattle.clients_entry.proofs.take.Tie as tie
 
@@ -25,39 +26,56 @@ stands : (c : tie.Else1) → let x = start c .args in
     getD (x .marks .now) (x .client) 0 ≡ 0 → ⊥
 stands c = c .if1 .left
 
--- rows 14, 15 and 23 are asked
-abbrev passed : tie.After-event-row → tie.Else1
+enters : (c : tie.Else1) → let x = start c .args in ProcessRequires (x .limits) (x .next .now) (x .ranks .now) (x .table .now) (x .c)
+enters c = take-enters _ _ _ _ _ _ _ _ (stands c) (start c .pre)
+
+room : (c : tie.Else1) → start c .args .at + start c .args .c .held < length (start c .args .out .now)
+room c = take-room _ _ _ _ _ _ _ _ (stands c) (start c .pre)
+
+small : (c : tie.Else1) → length (start c .args .out .now) < 18446744073709551616
+small c = indexed (c .before .before)
+
+-- the row before any search
+abbrev passed : tie.After-early-row → tie.Else1
 passed c = c .before .before .before
 
-abbrev asked : tie.After-as-usize3 → tie.After-event-row
+early : (r : tie.After-early-row) → let x = start (passed r) .args in
+    Early (x .limits) (x .next .now) (x .ranks .now) (x .table .now) (x .c) (x .event) (r .before .before .as-usize .result) (r .early-row .result)
+early r =
+    record {
+      capacity = _;
+      capacity-is = r .before .as-usize2 .ensures .0;
+      held-is = r .before .before .as-usize .ensures .0;
+      row-is = r .early-row .ensures;
+    }
+
+abbrev asked : tie.After-buffer → tie.After-early-row
 asked c = c .before .before .before
 
-abbrev stepped : tie.After-places-after → tie.After-step
-stepped c = c .before .before .before .before
+unrefused : (c : tie.After-buffer) → let n = asked c .early-row .result in (not (eqb n 0) && not (eqb n 15)) ≡ false
+unrefused c = let e = c .before in sym (e .before .refuses .ensures) ∙ e .if2 .left
 
-held : (p : tie.After-step) → let r = asked (p .before .before) in r .before .before .as-usize .result ≡ start (passed r) .args .c .held
-held p = asked (p .before .before) .before .before .as-usize .ensures .0
+symbol : (c : tie.After-buffer) → start (passed (asked c)) .args .event < 16
+symbol c = let r = asked c in early-symbol (early r) (enters (passed r)) (unrefused c)
 
--- its configuration is made
-abbrev found : tie.After-struct-known → tie.After-places-after
-found c = c .before .before .before
+-- it is taken at a full buffer, or there is room
+fits : (c : tie.Else3) → asked (c .before) .early-row .result ≡ 0
+fits c = refuses-none _ (unrefused (c .before)) (c .if3 .left)
 
-entered : (p : tie.After-step) → let x = start (passed (asked (p .before .before))) .args in
-    ProcessRequires (x .limits) (x .next .now) (x .ranks .now) (x .table .now) (x .c)
-entered p = let g = passed (asked (p .before .before)) in take-enters _ _ _ _ _ _ _ _ (stands g) (start g .pre)
+took : (j : tie.Joined3) → let x = start (passed (asked (j .before))) .args in
+    Takes (x .limits) (x .next .now) (x .ranks .now) (x .table .now) (x .c) (x .event) (x .at) (x .out .now) (j .if3 .after) (j .if3 .out)
+took j =
+    let y = early (asked (j .before)) in
+    either (j .if3 .came)
+    (λ w. rw (w .6, w .7) (takes-overflowed y (w .0 .taken) _ (w .1 .ensures .0) _ _ (w .3 .ensures .0) _ _ (w .3 .ensures .1)))
+    (λ w. rw (w .6, w .7)
+    (takes-stepped y (fits (record { before = j .before; if3 = w .0 })) _ (w .1 .ensures .0) _ _ (w .3 .ensures .0) _ _ (w .3 .ensures .1)))
 
--- what the step left, as one event leaves it
-took : (p : tie.After-step) → let x = start (passed (asked (p .before .before))) .args in
-    let s = p .step .result in
-    Takes (x .limits) (x .next .now) (x .ranks .now) (x .table .now) (x .c) (x .event) (x .at) (x .out .now)
-    (record { row = 0; state = s .state; held = s .held; buffer = s .buffer; released = s .released; written = s .written })
-    (p .step .last .1 .1 .1 .1 .1 .1 .1 .1 .0)
-took p =
-    let n = p .before .before in
-    let r = asked n in
-    let s = r .before in
-    takes-accepted _ _ _ _ _ _ _ _ _ (s .as-usize2 .ensures .0) (s .before .as-usize .ensures .0) (r .event-row .ensures) (n .before .before .if2 .left)
-    _ (n .as-usize3 .ensures .0) _ _ (p .step .ensures .0) _ _ (p .step .ensures .1)
+abbrev joined : tie.Else4 → tie.Joined3
+joined c = c .before .before
+
+abbrev left-by : tie.After-counted → tie.Else4
+left-by c = c .before .before .before .before
 
 element-copy-out-if1 : tie.Need-element-copy-out-if1
 element-copy-out-if1 c = c .before .before .pre .client-low
@@ -76,8 +94,11 @@ as-usize-requires c κs = search needs
 as-usize-requires-2 : tie.Need-as-usize-requires-2
 as-usize-requires-2 c κs = search needs
 
-event-row-requires : tie.Need-event-row-requires
-event-row-requires c κs = symbols-small (start (c .before .before) .pre .lends)
+early-row-requires : tie.Need-early-row-requires
+early-row-requires c κs = symbols-small (start (c .before .before) .pre .lends)
+
+refuses-requires : tie.Need-refuses-requires
+refuses-requires c κs = search needs
 
 passed-over-requires-2 : tie.Need-passed-over-requires-2
 passed-over-requires-2 c κs = search needs
@@ -85,79 +106,104 @@ passed-over-requires-2 c κs = search needs
 returns-2 : tie.Need-returns-2
 returns-2 c =
     let n = c .before in
-    let r = n .before in
+    let r = n .before .before in
     let x = start (passed r) .args in
-    takes-refused _ (x .marks .now) (x .client) _ _ _ _ _ _ _ (stands (passed r)) _ _ _ (r .before .as-usize2 .ensures .0) (r .before .before .as-usize .ensures .0) (r .event-row .ensures)
-    (n .if2 .taken) _ (c .passed-over2 .ensures)
+    let some = refuses-some _ (sym (n .before .refuses .ensures) ∙ n .if2 .taken) in
+    takes-passed _ (x .marks .now) (x .client) _ _ _ _ _ _ _ (stands (passed r)) _ _ (takes-refused (early r) (some .0) (some .1) _ _) (some .0) _
+    (c .passed-over2 .ensures)
 
 as-usize-requires-3 : tie.Need-as-usize-requires-3
 as-usize-requires-3 c κs = search needs
 
+cast-overflow : tie.Need-cast-overflow
+cast-overflow c = let l = symbol (c .before .before) in omega arith
+
+overflow-requires : tie.Need-overflow-requires
+overflow-requires c κs =
+    let u = c .before in
+    let f = u .before in
+    let r = asked (f .before) in
+    let p = passed r in
+    fill-ready (early r) (f .if3 .taken) _ (u .as-usize3 .ensures .0) _ (enters p) _ (room p) (small p)
+
+as-usize-requires-4 : tie.Need-as-usize-requires-4
+as-usize-requires-4 c κs = search needs
+
 cast-step : tie.Need-cast-step
-cast-step c =
-    let r = asked c in
-    let s = r .before in
-    let g = passed r in
-    let l = event-low _ _ _ _ _ _ _ _ _ (s .as-usize2 .ensures .0) (s .before .as-usize .ensures .0) (r .event-row .ensures) (c .before .before .if2 .left)
-    (take-enters _ _ _ _ _ _ _ _ (stands g) (start g .pre))
-    in omega arith
+cast-step c = let l = symbol (c .before .before) in omega arith
 
 step-requires : tie.Need-step-requires
 step-requires c κs =
-    let n = c .before in
-    let r = asked n in
-    let s = r .before in
-    let g = passed r in
-    take-ready _ _ _ _ _ _ _ _ _ (s .as-usize2 .ensures .0) (s .before .as-usize .ensures .0) (r .event-row .ensures) (n .before .before .if2 .left)
-    _ (n .as-usize3 .ensures .0) _ (take-enters _ _ _ _ _ _ _ _ (stands g) (start g .pre)) (length (start g .args .out .now))
-    (take-room _ _ _ _ _ _ _ _ (stands g) (start g .pre)) (indexed (g .before .before))
+    let u = c .before in
+    let f = u .before in
+    let r = asked (f .before) in
+    let p = passed r in
+    take-ready (early r) (fits f) _ (u .as-usize4 .ensures .0) _ (enters p) _ (room p) (small p)
 
-places-after-requires : tie.Need-places-after-requires
-places-after-requires c κs =
-    let p = c .before .before .before in
-    rw (held p) (accepted-asks (entered p) _ _ _ _ _ (took p) refl)
-
-counted-requires : tie.Need-counted-requires
-counted-requires c κs =
-    let p = stepped (c .before) in
-    let n = p .before .before in
-    let r = asked n in
-    let s = r .before in
-    counts-on _ _ _ _ _ _ _ _ _ (s .as-usize2 .ensures .0) (s .before .as-usize .ensures .0) (r .event-row .ensures) (n .before .before .if2 .left) (entered p)
-
-cast-derive : tie.Need-cast-derive
-cast-derive c =
-    let p = stepped (found c) in
-    let n = p .before .before in
-    let r = asked n in
-    let s = r .before in
-    let l = state-fits _ _ _ _ _ _ _ _ _ (s .as-usize2 .ensures .0) (s .before .as-usize .ensures .0) (r .event-row .ensures) (n .before .before .if2 .left)
-    _ (n .as-usize3 .ensures .0) _ _ (p .step .ensures .0) (entered p)
-    in omega arith
-
-cast-derive-2 : tie.Need-cast-derive-2
-cast-derive-2 c =
-    let p = stepped (found (c .before)) in
-    omega (arith, accepted-few (entered p) _ _ _ _ _ (took p) refl)
-
-derive-requires : tie.Need-derive-requires
-derive-requires c κs =
-    let p = stepped (found (c .before)) in
-    omega (arith, accepted-derives (entered p) _ _ _ _ _ (took p) refl, ap inputNumber (c .before .before .counted .ensures))
+passed-over-requires-3 : tie.Need-passed-over-requires-3
+passed-over-requires-3 c κs = search needs
 
 same-length : tie.Need-same-length
-same-length c = search needs
+same-length c =
+    let j = c .before .before .before in
+    takes-length (enters (passed (asked (j .before)))) _ _ _ _ _ (took j)
 
 returns-3 : tie.Need-returns-3
 returns-3 c =
-    let j = found (c .before .before) in
-    let p = stepped j in
-    let g = passed (asked (p .before .before)) in
-    let x = start g .args in
-    let s = p .step .result in
-    let places = j .places-after .ensures ∙ ap (λ i. placesAfter (x .c .places) i (x .c .received) (s .released) (s .held)) (held p) in
-    takes-event _ (x .marks .now) (x .client) _ _ _ _ _ _ _ (stands g) _ _ _ (took p) refl
-    (rw (c .derive .ensures, c .before .before .before .counted .ensures) (accepted-found (entered p) _ _ _ _ _ (took p) refl _ places))
+    let n = c .before in
+    let j = n .before .before in
+    let p = passed (asked (j .before)) in
+    let x = start p .args in
+    takes-passed _ (x .marks .now) (x .client) _ _ _ _ _ _ _ (stands p) _ _ (took j) (n .if4 .taken) _ (c .passed-over3 .ensures)
+
+places-after-requires : tie.Need-places-after-requires
+places-after-requires c κs =
+    let e = c .before in
+    let j = joined e in
+    let r = asked (j .before) in
+    rw (early r .held-is) (accepted-asks (enters (passed r)) _ _ _ _ _ (took j) (e .if4 .left))
+
+counted-requires : tie.Need-counted-requires
+counted-requires c κs =
+    let e = c .before .before .before in
+    let j = joined e in
+    accepted-counts (enters (passed (asked (j .before)))) _ _ _ _ _ (took j) (e .if4 .left)
+
+cast-derive : tie.Need-cast-derive
+cast-derive c =
+    let e = left-by (c .before) in
+    let j = joined e in
+    omega (arith, accepted-state (enters (passed (asked (j .before)))) _ _ _ _ _ (took j) (e .if4 .left))
+
+cast-derive-2 : tie.Need-cast-derive-2
+cast-derive-2 c =
+    let e = left-by (c .before .before) in
+    let j = joined e in
+    omega (arith, accepted-few (enters (passed (asked (j .before)))) _ _ _ _ _ (took j) (e .if4 .left))
+
+derive-requires : tie.Need-derive-requires
+derive-requires c κs =
+    let n = c .before .before in
+    let e = left-by n in
+    let j = joined e in
+    rw (n .counted .ensures) (accepted-derives (enters (passed (asked (j .before)))) _ _ _ _ _ (took j) (e .if4 .left))
+
+same-length-2 : tie.Need-same-length-2
+same-length-2 c =
+    let j = joined (left-by (c .before .before .before)) in
+    takes-length (enters (passed (asked (j .before)))) _ _ _ _ _ (took j)
+
+returns-4 : tie.Need-returns-4
+returns-4 c =
+    let n = c .before .before .before in
+    let e = left-by n in
+    let j = joined e in
+    let r = asked (j .before) in
+    let p = passed r in
+    let x = start p .args in
+    let places = rw (early r .held-is) at (n .before .before .places-after .ensures) in
+    takes-event _ (x .marks .now) (x .client) _ _ _ _ _ _ _ (stands p) _ _ _ (took j) (e .if4 .left)
+    (rw (c .derive .ensures, n .counted .ensures) (accepted-found (enters p) _ _ _ _ _ (took j) (e .if4 .left) _ places))
 
 pub take-spec : {M : Type 1} → statement M
 take-spec =
@@ -168,16 +214,23 @@ take-spec =
     returns
     as-usize-requires
     as-usize-requires-2
-    event-row-requires
+    early-row-requires
+    refuses-requires
     passed-over-requires-2
     returns-2
     as-usize-requires-3
+    cast-overflow
+    overflow-requires
+    as-usize-requires-4
     cast-step
     step-requires
+    passed-over-requires-3
+    same-length
+    returns-3
     places-after-requires
     counted-requires
     cast-derive
     cast-derive-2
     derive-requires
-    same-length
-    returns-3)
+    same-length-2
+    returns-4)

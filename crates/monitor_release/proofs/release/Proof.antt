@@ -28,7 +28,9 @@ longest-requires : tie.Need-longest-requires
 longest-requires c κs = fits c .1
 
 returns : tie.Need-returns
-returns c = let e = c .before .before .qualifying .ensures in search-releases _ _ _ _ _ (e .0) _ (e .1) _ (c .longest .ensures)
+returns c =
+    let e = c .before .before .before .qualifying .ensures in
+    search-releases _ _ _ _ _ (e .0) _ (e .1) _ (c .before .longest .ensures)
 
 pub release-spec : {M : Type 1} → statement M
 release-spec =

@@ -6,9 +6,9 @@ use lib.ListN.{getD}
 use borrow.Author.Tests.{lt-ltb, le-ltb, eq-eqb, ne-eqb}
 use borrow.Author.Needs.{needs}
 use Rattle.base.specs.Rows.{first}
-use Rattle.monitor_step.specs.Stepping.{eventRowBy}
-use Rattle.monitor_step.proofs.event_row.Statement.{statement}
-use Rattle.monitor_step.proofs.event_row.Tie as tie
+use Rattle.monitor_step.specs.Stepping.{earlyRow}
+use Rattle.monitor_step.proofs.early_row.Statement.{statement}
+use Rattle.monitor_step.proofs.early_row.Tie as tie
 
 -- row 14 passed
 abbrev start : tie.Else1 → tie.Start
@@ -25,7 +25,7 @@ as-u32-requires : tie.Need-as-u32-requires
 as-u32-requires c κs = search needs
 
 returns : tie.Need-returns
-unfolding eventRowBy first
+unfolding earlyRow first
 returns c = let a = c .before .before .args in rw (le-ltb (a .event) (a .symbols) (omega (arith, c .before .as-u32 .ensures .0, c .if1 .taken)))
 
 element-copy-out-is-full : tie.Need-element-copy-out-is-full
@@ -35,23 +35,23 @@ is-full-requires : tie.Need-is-full-requires
 is-full-requires c κs = search needs
 
 returns-2 : tie.Need-returns-2
-unfolding eventRowBy first
+unfolding earlyRow first
 returns-2 c = rw (symbol (passed (c .before)), sym (c .before .is-full .ensures) ∙ c .if2 .taken)
 
 returns-3 : tie.Need-returns-3
-unfolding eventRowBy first
+unfolding earlyRow first
 returns-3 c =
     let f = c .before .before in
     rw (symbol (passed (f .before)), sym (f .before .is-full .ensures) ∙ f .if2 .left, eq-eqb _ 4294967295 (c .if3 .taken))
 
 returns-4 : tie.Need-returns-4
-unfolding eventRowBy first
+unfolding earlyRow first
 returns-4 c =
     let f = c .before .before in
     rw (symbol (passed (f .before)), sym (f .before .is-full .ensures) ∙ f .if2 .left, ne-eqb _ 4294967295 (c .if3 .left))
 
-pub event-row-spec : {M : Type 1} → statement M
-event-row-spec =
+pub early-row-spec : {M : Type 1} → statement M
+early-row-spec =
     tie.close
     (tie.spec
     as-u32-requires
