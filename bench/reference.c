@@ -455,26 +455,33 @@ static uint8_t end_row(uint32_t received)
     return received == UINT32_MAX ? 23 : 0;
 }
 
-/* A controllable event at a full hold. It is accepted where the hold with it has a front part, not
- * the empty one, that may go. The first held event is in each such part: it goes, the newcomer
- * stands behind the others, and the search is that over a hold of B events; row 15 where it finds
- * none. Nothing is written before the row is known. */
+/* A controllable event at a full hold. Of the held events with it behind them the front parts are
+ * tried from the longest, all of them, down to the first event alone: row 15 where none brings the
+ * state into S of what it leaves. Nothing is written before the row is known. */
 static NO_INLINE struct outcome step_full(const struct automaton *s, struct configuration *c, uint8_t event, uint32_t place,
     uint8_t *out, uint8_t *from)
 {
-    uint8_t behind[CAPACITY];
-    unsigned state = s->next[c->state * SYMBOLS + c->buffer[0]];
-    memcpy(behind, c->buffer + 1, s->b - 1);
-    behind[s->b - 1] = event;
-    int r = longest(s, behind, s->b, &state);
-    uint8_t row = r < 0 ? 15 : end_row(place);
+    uint8_t events[CAPACITY + 1];
+    unsigned state[CAPACITY + 2], r = s->b + 1;
+    uint32_t value = 0, weight = 1;
+    memcpy(events, c->buffer, s->b);
+    events[s->b] = event;
+    state[0] = c->state;
+    for (unsigned i = 0; i <= s->b; i++)
+        state[i + 1] = s->next[state[i] * SYMBOLS + events[i]];
+    while (r > 0 && !(s->table[2 * (size_t)(s->first[s->b + 1 - r] + value)] >> state[r] & 1)) {
+        r--;
+        value += s->rank[events[r]] * weight;
+        weight *= s->k;
+    }
+    uint8_t row = r == 0 ? 15 : end_row(place);
     if (row)
         return (struct outcome){ .row = row };
     let_go(c, 1, out, from);
     hold(c, event, place);
-    let_go(c, (unsigned)r, out + 1, from ? from + sizeof place : 0);
-    c->state = (uint8_t)state;
-    return (struct outcome){ .winning = 1, .count = (unsigned)r + 1 };
+    let_go(c, r - 1, out + 1, from ? from + sizeof place : 0);
+    c->state = (uint8_t)state[r];
+    return (struct outcome){ .winning = 1, .count = r };
 }
 
 /* An event, where so many were accepted before it, which is its place in the input. The places of

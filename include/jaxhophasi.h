@@ -33,7 +33,7 @@ extern "C" {
 /* The version of this interface: the first number is raised where a caller must change something
  * or may see another answer, the second where calls are added, the third at every other change.
  * The three are also one number, 10000 for 1.0.0 and 10203 for 1.2.3. */
-#define JAXHOPHASI_VERSION_MAJOR 2
+#define JAXHOPHASI_VERSION_MAJOR 3
 #define JAXHOPHASI_VERSION_MINOR 0
 #define JAXHOPHASI_VERSION_PATCH 0
 #define JAXHOPHASI_VERSION \

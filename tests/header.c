@@ -507,7 +507,8 @@ static void check_rows_of_calls(void)
     jaxhophasi_initial(automaton, configuration);
     row(14, JAXHOPHASI_BAD_EVENT, jaxhophasi_receive(automaton, table, 4, configuration, 2, answer));
     row(16, JAXHOPHASI_SHORT_OUTPUT, jaxhophasi_run(automaton, table, 4, configuration, queries, 2, out, 1, answer));
-    /* Answer opens V's full hold: the held one goes, and it stays in its place; then at the end */
+    /* Answer opens V's full hold: the held one goes, the newcomer is held in its stead; then at
+     * the end */
     set_configuration(0, 1, 1, 5);
     row(0, JAXHOPHASI_FINE, jaxhophasi_receive(automaton, table, 4, configuration, 1, answer));
     same("how many leave a full hold", answer[JAXHOPHASI_RECEIVED_COUNT], 1);

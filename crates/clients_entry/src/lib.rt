@@ -130,8 +130,8 @@ fn passed_over(c: Configuration, at: usize) -> Taken
 }
 
 // One event of a day, for any client's configuration: row 13 by its mark, rows 14, 15 and 23, and
-// the step of an accepted event, which writes from a place on. (The step is inlined here, as it is
-// into the loop over one configuration's events.)
+// what an accepted event leaves, which is written from a place on. (The step is inlined here, as
+// it is into the loop over one configuration's events and into `monitor_loop::turn`.)
 pub fn take<'a>(
     limits: Limits,
     marks: &'a [u8; MAX_CLIENTS],

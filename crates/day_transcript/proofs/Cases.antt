@@ -14,7 +14,7 @@ use Rattle.automaton_format.specs.Reading.{checked, between, itemRow, numbers, 
 use Rattle.solver_sets.specs.Sets.{acceptingSet, admits, stays, refine, settle, settled, setsOf, emptySets, into, setsFor}
 use Rattle.solver_sets.specs.Table.{rank, inBaseK, shorter, index, buffersCount, short, extended, buffersAt, buffersTo, pairs, table}
 use Rattle.configuration.specs.Configuration.{heldEvents, controllableSymbol, placeStands, bufferStands, placeNumbers, inputStands, inputsStand, consistentIn, initialOf}
-use Rattle.monitor_rule.specs.Step.{byTable, qualifies, qualifying, release, remaining, arrival, effect, inLine, sources, eventRows}
+use Rattle.monitor_rule.specs.Step.{byTable, qualifies, qualifying, release, remaining, arrival, effect, inLine, sources, isShut, eventRows}
 use Rattle.monitor_answers.specs.Answers.{tableRows, configurationRows, callRows, isWinning, callRefusal, status, receiveRefusal, received}
 use Rattle.text.specs.Decimal.{ascii, digit, digits, decimal}
 use Rattle.text_lines.specs.Lines.{refusedEventLine, endLine, faultLine, refusalLine}
@@ -28,7 +28,7 @@ unfolding each count those lastOr has mask pad first groups read controllableIn 
     accepts step reached shaped ranged classesStand flagsStand nextStand valid checked between itemRow numbers nextStates afterNumber afterNumbers tables
     automatonFrom parse acceptingSet admits stays refine settle settled setsOf emptySets into setsFor rank inBaseK shorter index
     buffersCount short extended buffersAt buffersTo pairs table heldEvents controllableSymbol placeStands bufferStands
-    placeNumbers inputStands inputsStand consistentIn initialOf byTable qualifies qualifying release remaining arrival effect inLine sources eventRows tableRows configurationRows
+    placeNumbers inputStands inputsStand consistentIn initialOf byTable qualifies qualifying release remaining arrival effect inLine sources isShut eventRows tableRows configurationRows
     callRows isWinning
     callRefusal status receiveRefusal received ascii digit digits decimal spaced emission eventLine refusedEventLine endLine
     faultLine refusalLine opening sessionFrom firstLine answerLine after eventLines sessionLines tooLong overPlaces transcript v w large

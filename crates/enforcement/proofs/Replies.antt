@@ -56,7 +56,7 @@ module _ (a : Automaton) (t : List ℕ) (v : valid a ≡ true) (sv : Solved a t)
 
     -- the rows by the table and by the sets
     pub by-sets : (e : ℕ) → eventRefusal (byTable a t) a (positionAt a s) e ≡ refusalAt a s e
-    by-sets e = refusal-same (byTable a t) (bySets a) a (positionAt a s) e (solved-agree a t sv) (total a v) o
+    by-sets e = refusal-same (byTable a t) (bySets a) a (positionAt a s) e (solved-agree a t sv) (total a v) (o .occurs)
 
     pub event-refusal : (e : ℕ) → receiveRefusal a t c e ≡ refusalAt a s e
     unfolding receiveRefusal eventRefusal

@@ -15,7 +15,7 @@ use Rattle.solver_sets.specs.Sets.{acceptingSet, admits, stays, refine, settle,
 use Rattle.solver_sets.specs.Table.{rank, inBaseK, shorter, index, buffersCount, short, extended, buffersAt, buffersTo, pairs, roundsSum, table, rounds}
 use Rattle.configuration.specs.Configuration.{heldEvents, placeNumbers, controllableSymbol, placeStands, bufferStands, inputStands, inputsStand, consistentIn, initialOf}
 use Rattle.solver_answers.specs.Solving.{countAnswer}
-use Rattle.monitor_rule.specs.Step.{byTable, qualifies, qualifying, release, remaining, arrival, effect, inLine, sources, eventRows}
+use Rattle.monitor_rule.specs.Step.{byTable, qualifies, qualifying, release, remaining, arrival, effect, inLine, sources, isShut, eventRows}
 use Rattle.monitor_answers.specs.Answers.{tableRows, configurationRows, callRows, isWinning, callRefusal, status, receiveRefusal, received}
 use Rattle.enforcement.specs.Calls.{handedBack, reply, replies}
 use Rattle.enforcement_cases.specs.Cases.{automatonV, automatonW, automatonPair, behind, sized, Holds, cases, MarkedCases}
@@ -30,7 +30,7 @@ unfolding
     acceptingSet admits stays refine settle settled setsOf emptySets into setsFor
     rank inBaseK shorter index buffersCount short extended buffersAt buffersTo pairs roundsSum table rounds
     heldEvents placeNumbers controllableSymbol placeStands bufferStands inputStands inputsStand consistentIn initialOf countAnswer
-    byTable qualifies qualifying release remaining arrival effect inLine sources eventRows
+    byTable qualifies qualifying release remaining arrival effect inLine sources isShut eventRows
     tableRows configurationRows callRows isWinning callRefusal status receiveRefusal received handedBack reply replies
     automatonV automatonW automatonPair behind sized
 opened = 0

@@ -12,7 +12,7 @@ use Rattle.solver_sets.specs.Sets.{acceptingSet, admits, stays, refine, settle,
 use Rattle.configuration.specs.Configuration.{heldEvents, placeNumbers, controllableSymbol, placeStands, bufferStands, inputStands, inputsStand}
 use Rattle.configuration.specs.Configuration.{consistentIn, initialOf}
 use Rattle.monitor_rule.specs.Step.{bySets, byTable, qualifies, qualifying, release, remaining, arrival, effect, inLine, sources}
-use Rattle.monitor_rule.specs.Step.{eventRows, eventRefusal}
+use Rattle.monitor_rule.specs.Step.{isShut, eventRows, eventRefusal}
 use Rattle.monitor_answers.specs.Answers.{tableRows, configurationRows, isWinning, room}
 use Rattle.monitor_answers.specs.Turns.{turnRows, turnRefusal, turnEmitted, turnSources, turnNext}
 use Rattle.enforcement.specs.Store.{stateOf, added, released, store, storeAll, refusedOf}
@@ -39,7 +39,7 @@ unfolding
     each count those lastOr first pad has mask controllable controllables controllableIn step reached
     index rank inBaseK shorter buffersCount short
     heldEvents placeNumbers controllableSymbol placeStands bufferStands inputStands inputsStand consistentIn initialOf
-    byTable qualifies qualifying release remaining arrival effect inLine sources eventRows eventRefusal
+    byTable qualifies qualifying release remaining arrival effect inLine sources isShut eventRows eventRefusal
     configurationRows isWinning turnRows turnRefusal turnEmitted turnSources turnNext automatonW
     outcome changed outcomes changedBy eventsOf partOf alone afterAlone
     initialClients clientOf symbolOf named emittedOf refusedIn heldIn heldInAll sumBelow

@@ -1,6 +1,6 @@
 -- The instances of the claims on an event that comes at a client's full buffer.
 use Prim.Native.Nat.{ℕ, _<_}
-use mathlib.Core.Path.{_≡_, refl, sym, _∙_}
+use mathlib.Core.Path.{_≡_, refl, sym, _∙_, ap}
 use mathlib.Core.Logic.{inr}
 use mathlib.Core.Bool.{true}
 use mathlib.Core.List.{List, [], _∷_}
@@ -26,7 +26,9 @@ use Rattle.clients_answers.specs.Claims.{ListClear, ClientOpened}
 use Rattle.clients_answers.proofs.Worded.{client-rows-as-worded}
 use Rattle.clients_answers.proofs.Single.{clients-opened}
 use Rattle.feed_record.specs.declared.Expected.the-variants.{Serial}
-use Rattle.feed_answers.proofs.Worded.{feed-rows-as-worded}
+use Rattle.feed_answers.specs.declared.Fed.{Fed}
+use Rattle.feed_answers.specs.Feed.{fedFor}
+use Rattle.feed_answers.proofs.Worded.{feed-rows-as-worded, feed-answered-as-worded}
 use Rattle.enforcement_clients.specs.ClientCalls.{receiveFor, receive, momentsOf}
 use Rattle.enforcement_clients.specs.Functions.{unfed, fedIn, expectedIn, expectedAll}
 use Rattle.enforcement_clients.specs.Published.{EventAsPublished}
@@ -35,6 +37,7 @@ use Rattle.enforcement_clients.proofs.Demand3.{clients-demand3}
 use Rattle.enforcement_clients_instances.proofs.Computing.{stepping, admitting, listing, calling, storing, feeding}
 use Rattle.enforcement_clients_instances.specs.ListStatements.{answerFor}
 use Rattle.enforcement_clients_instances.specs.CallStatements.{ran}
+use Rattle.enforcement_clients_instances.proofs.RecordInstances.{turn-in}
 use Rattle.enforcement_clients_instances.specs.RecordStatements.{inTurn}
 use Rattle.enforcement_clients_instances.specs.FullStatements.{answering, answerTwo, ListOpened, familyV, FunctionsOpened, openingCalls, MetOpened}
 
@@ -75,6 +78,12 @@ answered-whole : answerTwo ≡ answerFor (1 ∷ []) (0 ∷ [])
 unfolding listing automatonV
 answered-whole = rw valid-v refl
 
+record-answered : fedFor automatonV tableV answering (inTurn 1 1) (Serial 2) .answer ≡ answerFor (1 ∷ []) (0 ∷ [])
+record-answered =
+    ap (λ (x : Fed). x .answer)
+    (feed-answered-as-worded automatonV tableV answering (inTurn 1 1) (Serial 2) .let-in clear-v 7 1 1 (turn-in 1 1 (omega arith) (omega arith)) .0) ∙
+    answered-whole
+
 pub list-opened : ListOpened
 unfolding heldEvents pad admitting
 list-opened =
@@ -87,6 +96,7 @@ list-opened =
       record-fed =
           feed-rows-as-worded automatonV tableV answering (inTurn 1 1) (Serial 7) .event .accepted .1
           ((clear-v, refl), omega arith, one-stands, (one-fits, λ z. omega arith));
+      record-answer = record-answered;
       row-23 = said .event 2 1 .row-23 .1 (clear-v, omega arith, end-stands, (end-fits, refl));
       whole = answered-whole;
       parts = o .parts;

@@ -18,12 +18,13 @@ use Rattle.enforcement.specs.Claims.{winningAfter}
 use Rattle.enforcement_cases.specs.Cases.{automatonV}
 use Rattle.enforcement_instances.specs.Statements.{filled}
 use Rattle.enforcement_instances.specs.MonitorStatements.{storeOf, eager}
-use Rattle.enforcement_instances.specs.FullStatements.{tableV, oneAnswer, answerAtEnd, answerHeld, firstAnswer, secondAnswer, query}
+use Rattle.enforcement_instances.specs.FullStatements.{tableV, oneAnswer, answerAtEnd, answerHeld}
+use Rattle.enforcement_instances.specs.FullStatements.{firstAnswer, secondAnswer, query}
 use Rattle.clients_answers.specs.declared.ReceivedFor.{ReceivedFor}
 use Rattle.clients_answers.specs.Listed.{outcome}
 use Rattle.clients_answers.specs.Clients.{none, initialClients, monitored, receiveForRefusal, receivedFor, receivedClients}
 use Rattle.feed_record.specs.declared.Expected.the-variants.{Serial}
-use Rattle.feed_answers.specs.Feed.{feedRefusal}
+use Rattle.feed_answers.specs.Feed.{feedRefusal, fedFor}
 use Rattle.enforcement_clients.specs.ClientCalls.{ClientCall, receiveFor, runFor, receive, refusalIn, replies, momentsOf}
 use Rattle.enforcement_clients.specs.Functions.{Functions, fedIn, refusedDay, expectedIn}
 use Rattle.enforcement_clients_instances.specs.ListStatements.{sent, answerFor}
@@ -49,6 +50,7 @@ pub record ListOpened : Type 0 where
   pub not-15 : receiveForRefusal automatonV tableV answering 1 1 ≡ 15 → ⊥
   pub inside : outcome (monitored automatonV tableV) answering 1 1 .refusal ≡ 0
   pub record-fed : feedRefusal automatonV tableV answering (inTurn 1 1) (Serial 7) ≡ 0
+  pub record-answer : fedFor automatonV tableV answering (inTurn 1 1) (Serial 2) .answer ≡ answerFor (1 ∷ []) (0 ∷ [])
   pub row-23 : receiveForRefusal automatonV tableV answering 2 1 ≡ 23
   -- the first goes, the second is held, and the answer says winning
   pub whole : answerTwo ≡ answerFor (1 ∷ []) (0 ∷ [])
@@ -73,7 +75,8 @@ pub record FunctionsOpened : Type 0 where
   pub answer : expectedIn automatonV 2 familyV (receiveFor 2 1 1) ≡ receive (answerFor (1 ∷ []) (0 ∷ []))
   pub fed : fedIn automatonV 2 familyV (receiveFor 2 1 1) 1 ≡ storeOf (1 ∷ []) (0 ∷ []) (1 ∷ []) (1 ∷ []) 2
   pub opened : Opened (Winning automatonV) automatonV 0 (1 ∷ []) 1 (1 ∷ []) (1 ∷ []) 0
-  pub winning : let z = fedIn automatonV 2 familyV (receiveFor 2 1 1) 1 in bySets automatonV (z .buffer) (stateOf automatonV z) ≡ true
+  pub winning : let z = fedIn automatonV 2 familyV (receiveFor 2 1 1) 1 in
+      bySets automatonV (z .buffer) (stateOf automatonV z) ≡ true
   pub not-counted : refusedDay automatonV 2 familyV ((1, 1) ∷ []) ≡ 0
 
 -- of two clients: Answer of client 1, and a day of its Answer and Query with room for three

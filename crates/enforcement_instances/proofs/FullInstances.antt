@@ -2,18 +2,20 @@
 use Prim.Native.Nat.{ℕ, _<_}
 use mathlib.Core.Path.{_≡_, refl, sym, _∙_}
 use mathlib.Core.Logic.{inr}
-use mathlib.Core.Bool.{true}
+use mathlib.Core.Bool.{true, false}
 use mathlib.Core.List.{List, [], _∷_}
 use native.Mathlib.Omega.{arith}
 use lib.ListN.{length}
+use borrow.Author.Tests.{lt-leb}
 use Rattle.base.specs.Pad.{pad}
 use Rattle.automaton.specs.Automaton.{reached, accepts}
 use Rattle.solver_sets.specs.Table.{Solved}
 use Rattle.solver_sets.specs.Claims.{Winning}
 use Rattle.configuration.specs.Configuration.{heldEvents, configuration, initialOf}
-use Rattle.monitor_rule.specs.Step.{bySets, byTable, eventRefusal}
+use Rattle.monitor_rule.specs.Step.{Rest, bySets, byTable, eventRefusal}
 use Rattle.monitor_rule.specs.Claims.{Full, Opens, Tabled, Opened}
 use Rattle.monitor_rule.proofs.Rows.{opens-releases, opens-as-worded}
+use Rattle.monitor_rule.proofs.Effects.{wider-ignored}
 use Rattle.monitor_answers.specs.Answers.{receiveRefusal}
 use Rattle.monitor_answers.specs.Claims.{Clear, OpenedAnswer}
 use Rattle.monitor_answers.proofs.Accepted.{opened-answers}
@@ -30,7 +32,7 @@ use Rattle.enforcement_cases.specs.Cases.{automatonV, automatonW, at, answer}
 use Rattle.enforcement_cases.proofs.Cases.{marked-cases}
 use Rattle.enforcement_instances.specs.Statements.{filled, tableW}
 use Rattle.enforcement_instances.specs.MonitorStatements.{twoPages, storeOf, twoHeld, runReply, eager}
-use Rattle.enforcement_instances.specs.FullStatements.{tableV, oneAnswer, answerAtEnd, FullRows, answerV, FullAnswer, answerHeld, FullFunction}
+use Rattle.enforcement_instances.specs.FullStatements.{tableV, oneAnswer, answerAtEnd, restsWithTwo, FullRows, answerV, FullAnswer, answerHeld, FullFunction}
 use Rattle.enforcement_instances.specs.FullStatements.{openingCalls, firstAnswer, secondAnswer, query, FullEnforced}
 use Rattle.enforcement_instances.proofs.Sheets.{valid-v, solved-v, computing}
 use Rattle.enforcement_instances.proofs.MonitorInstances.{calling, publishing}
@@ -84,6 +86,20 @@ all-bits-answer : OpenedAnswer automatonV (filled 4 7) (configuration oneAnswer)
 unfolding computing automatonV
 all-bits-answer = opened-answers automatonV (filled 4 7) (configuration oneAnswer) 1 all-bits-accepted answer-full
 
+-- by a test that lets one rest nowhere the second Answer is refused, so by `restsWithTwo` too
+never : Rest
+never w q = false
+
+never-shut : eventRefusal never automatonV oneAnswer 1 ≡ 15
+unfolding computing automatonV never
+never-shut = refl
+
+wider-shut : eventRefusal restsWithTwo automatonV oneAnswer 1 ≡ 15
+unfolding computing automatonV never
+wider-shut =
+    wider-ignored restsWithTwo never automatonV valid-v (λ w q _ b. lt-leb 2 (length w) (omega (arith, b .1))) oneAnswer 1
+    (omega arith) (((answer-full .0, refl), tt), omega arith) .0 ∙ never-shut
+
 pub full-rows : FullRows
 unfolding computing automatonV
 full-rows =
@@ -101,6 +117,7 @@ full-rows =
           receive-rows-as-worded automatonV (filled 4 0) (configuration oneAnswer) 1 .row-15 .1 (clear-any 0, (answer-full, no-bits-shut));
       all-bits = all-bits-answer .opened;
       all-bits-winning = all-bits-answer .winning;
+      wider = wider-shut;
     }
 
 -- the answer, and its claim by its values

@@ -20,7 +20,7 @@ use Rattle.solver_answers.proofs.Answers.{leaves-solved}
 use Rattle.configuration.specs.Configuration.{heldEvents, placeNumbers, controllableSymbol, placeStands, bufferStands, inputStands, inputsStand}
 use Rattle.configuration.specs.Configuration.{consistentIn, initialOf}
 use Rattle.monitor_rule.specs.Step.{byTable, qualifies, qualifying, release, remaining, arrival, effect}
-use Rattle.monitor_rule.specs.Step.{inLine, sources, eventRows, eventRefusal, runOf}
+use Rattle.monitor_rule.specs.Step.{inLine, sources, isShut, eventRows, eventRefusal, runOf}
 use Rattle.monitor_answers.specs.Answers.{tableRows, configurationRows, callRows, isWinning, callRefusal, status, receiveRefusal, received, room, runRefusal, ran}
 use Rattle.enforcement_cases.specs.Cases.{bytesW, automatonV, automatonW}
 use Rattle.enforcement_cases.proofs.Cases.{marked-cases}
@@ -66,6 +66,6 @@ unfolding
     stands placesStand shaped ranged classesStand flagsStand nextStand valid
     heldEvents placeNumbers controllableSymbol placeStands bufferStands inputStands inputsStand consistentIn initialOf
     shorter rank inBaseK index buffersCount short
-    byTable qualifies qualifying release remaining arrival effect inLine sources eventRows eventRefusal
+    byTable qualifies qualifying release remaining arrival effect inLine sources isShut eventRows eventRefusal
     tableRows configurationRows callRows callRefusal isWinning status receiveRefusal received room runRefusal runOf ran automatonW
 computing = 0

@@ -5,12 +5,13 @@ use Prim.Native.Nat.{ℕ, _≤_}
 use mathlib.Core.Path.{_≡_}
 use mathlib.Core.Bool.{true, false}
 use mathlib.Core.List.{List, [], _∷_, _++_}
+use lib.Dec.{leb}
 use lib.ListN.{length, take}
 use Rattle.automaton.specs.Automaton.{accepts, reached}
 use Rattle.solver_sets.specs.Definition6.{AllUncontrollable}
 use Rattle.solver_sets.specs.Claims.{Winning}
 use Rattle.configuration.specs.Configuration.{Position, heldEvents, configuration, initialOf}
-use Rattle.monitor_rule.specs.Step.{bySets}
+use Rattle.monitor_rule.specs.Step.{Rest, bySets, eventRefusal}
 use Rattle.monitor_rule.specs.Claims.{Full, Opens, Tabled, Opened}
 use Rattle.monitor_answers.specs.declared.Received.{Received}
 use Rattle.monitor_answers.specs.Answers.{receiveRefusal, received}
@@ -34,6 +35,10 @@ oneAnswer = at 0 (1 ∷ []) (0 ∷ []) 1 0
 abbrev pub answerAtEnd : Position
 answerAtEnd = at 0 (1 ∷ []) (7 ∷ []) 4294967295 4294967294
 
+-- a rest test that lets one rest with two events, and with no fewer
+abbrev pub restsWithTwo : Rest
+restsWithTwo w q = leb 2 (length w)
+
 -- the rows of an event at a full buffer, by the table
 pub record FullRows : Type 0 where
   pub full : Full automatonV (1 ∷ []) 1
@@ -50,6 +55,8 @@ pub record FullRows : Type 0 where
   pub no-bits : receiveRefusal automatonV (filled 4 0) (configuration oneAnswer) 1 ≡ 15
   pub all-bits : Opened (Tabled automatonV (filled 4 7)) automatonV 0 (1 ∷ []) 1 (1 ∷ 1 ∷ []) [] 0
   pub all-bits-winning : received automatonV (filled 4 7) (configuration oneAnswer) 1 .winning ≡ true
+  -- nothing is asked of the two Answers together
+  pub wider : eventRefusal restsWithTwo automatonV oneAnswer 1 ≡ 15
 
 -- what V answers to the second Answer
 abbrev pub answerV : Received

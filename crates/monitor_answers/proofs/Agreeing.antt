@@ -43,7 +43,7 @@ module _ (a : Automaton) (t u : List ℕ) (s : short a t ≡ short a u) (agree :
       let k = clear a u c (eqb-true (callRefusal a u c) 0 z) in
       rw rows-same
       (rows-pass a u c (k .record-valid) (k .table-long) (k .configuration-consistent) over-t ∙
-      refusal-same (byTable a t) (byTable a u) a (positionOf c) e agree (total a (k .record-valid)) (clear-occurs a u c k) ∙
+      refusal-same (byTable a t) (byTable a u) a (positionOf c) e agree (total a (k .record-valid)) (clear-occurs a u c k .occurs) ∙
       sym (rows-pass a u c (k .record-valid) (k .table-long) (k .configuration-consistent) over-u)))
       (λ z.
       let n = eqb-false (callRefusal a u c) 0 z in

@@ -114,8 +114,9 @@ pub fn refuses(row: u8) -> bool
 }
 
 // The events in turn; those that are refused are passed over and counted. An uncontrollable event
-// that leads to a state known to be quiet is written, counted and moves the state, no more. The
-// output count is worked out at the end.
+// that leads to a state known to be quiet is written, counted and moves the state, no more; a
+// controllable one at a full buffer goes by `overflow`, any other by `step`. The output count is
+// worked out at the end.
 pub fn process<'a>(
     limits: Limits,
     next: &'a [u8; 512],
@@ -210,8 +211,9 @@ pub fn process<'a>(
     }
 }
 
-// One event for any configuration: rows 13 to 15 and 23, and the step of an accepted one, which
-// writes from a place on.
+// One event for any configuration: rows 13 to 15 and 23, and what an accepted one leaves, which is
+// written from a place on. (After row 13 `clients_entry::take` does the same: as one function it
+// would not be inlined there.)
 pub fn turn<'a>(
     limits: Limits,
     classes: &'a [u8; 16],

@@ -17,15 +17,15 @@ use Rattle.automaton.proofs.Facts.{valid-facts}
 use Rattle.automaton.proofs.Classes.{class-one}
 use Rattle.automaton.proofs.Reached.{reached-append}
 use Rattle.solver_sets.specs.Table.{Controllable, Buffer}
-use Rattle.solver_sets.proofs.Total.{Total, reached-below}
+use Rattle.solver_sets.proofs.Total.{Total, total, reached-below}
 use Rattle.solver_sets.proofs.Buffers.{controllable-drop, controllable-end}
 use Rattle.configuration.specs.declared.Configuration.{Configuration}
 use Rattle.configuration.specs.Configuration.{Position, positionOf, emptyAt}
 use Rattle.configuration.proofs.Facts.{Consistent, held-buffer}
 use Rattle.configuration.proofs.Rising.{Rising, rising-more, rising-drop, rising-end, Placed, empty-placed}
 use Rattle.monitor_rule.specs.Step.{Rest, qualifies, release, Effect, remaining, arrival, effect, effectFrom, inLine, sources, advance, eventRows, eventRefusal}
-use Rattle.monitor_rule.specs.Claims.{PlacesAsWorded}
-use Rattle.monitor_rule.proofs.Longest.{release-le, release-same, release-behind}
+use Rattle.monitor_rule.specs.Claims.{WiderIgnored, PlacesAsWorded}
+use Rattle.monitor_rule.proofs.Longest.{release-le, release-same, shut-same, release-behind}
 use Rattle.monitor_rule.proofs.Rows.{opens-releases, event-rows-as-worded}
 
 -- a state and a buffer that can occur
@@ -128,21 +128,27 @@ module _ (a : Automaton) (q : ℕ) (w : List ℕ) (e : ℕ) where
       (λ c. rw c (omega (arith, length-append w (e ∷ []))))
       (λ c. rw c (omega (arith, remaining-length a e w)))
 
--- the rest test is asked only where it may be, so two that agree release alike
+-- two rest tests that agree answer alike after any nonempty front part
+asked-alike : (a : Automaton) (rest other : Rest) → Agree a rest other → Total a → (q : ℕ) (w : List ℕ) → Arrives a q w
+    → (k : ℕ) → 1 ≤ k → k ≤ length w → qualifies rest a q w k ≡ qualifies other a q w k
+unfolding qualifies
+asked-alike a rest other agree t q w n k l _ = agree (drop k w) (reached a q (take k w)) (released-occurs a t q w n k l)
+
+-- so they release alike
 release-agrees : (a : Automaton) (rest other : Rest) → Agree a rest other → Total a → (q : ℕ) (w : List ℕ) → Arrives a q w
     → release rest a q w ≡ release other a q w
-unfolding qualifies
-release-agrees a rest other agree t q w n =
-    release-same rest a other a q w (λ k l _. agree (drop k w) (reached a q (take k w)) (released-occurs a t q w n k l))
+release-agrees a rest other agree t q w n = release-same rest a other a q w (asked-alike a rest other agree t q w n)
 
 -- .. and refuse alike
-pub refusal-same : (rest other : Rest) (a : Automaton) (p : Position) (e : ℕ) → Agree a rest other → Total a → OccursAt a p
+pub refusal-same : (rest other : Rest) (a : Automaton) (p : Position) (e : ℕ) → Agree a rest other → Total a → Occurs a (p .state) (p .buffer)
     → eventRefusal rest a p e ≡ eventRefusal other a p e
 unfolding eventRefusal eventRows first
 refusal-same rest other a p e agree t o =
     by (ltb e (a .symbols))
     (λ s. by (controllable a e)
-    (λ c. rw (release-agrees a rest other agree t (p .state) (p .buffer ++ e ∷ []) (newcomer-arrives a (p .state) (p .buffer) e (ltb-true e (a .symbols) s) c (o .occurs))))
+    (λ c.
+    let n = newcomer-arrives a (p .state) (p .buffer) e (ltb-true e (a .symbols) s) c o in
+    rw (shut-same rest a other a (p .state) (p .buffer ++ e ∷ []) (asked-alike a rest other agree t (p .state) (p .buffer ++ e ∷ []) n)))
     (λ c. rw (s, c)))
     (λ s. rw s)
 
@@ -293,3 +299,9 @@ places-as-worded rest a p e h =
       received-grows = refl;
       emitted-grows = refl;
     }
+
+pub wider-ignored : WiderIgnored
+wider-ignored rest other a v agree p e l b =
+    let same : Agree a rest other = λ w q o. agree w q (o .state-below) (o .buffer) in
+    let at : Occurs a (p .state) (p .buffer) = record { state-below = l; buffer = b } in
+    (refusal-same rest other a p e same (total a v) at, effect-same rest a (p .state) (p .buffer) e other same (total a v) at)

@@ -1,18 +1,20 @@
 -- Laws of the release, over any rest test.
 use Prim.Native.Nat.{ℕ, zero, suc, _≤_}
 use mathlib.Core.Path.{_≡_, refl, sym, _∙_, ap}
-use mathlib.Core.Bool.{true, false}
+use mathlib.Core.Bool.{true, false, not}
 use mathlib.Core.List.{List, _∷_}
 use native.Mathlib.Omega.{arith}
 use lib.ListN.{length, take, drop, take-append-drop}
 use lib.Seq.{length-take-le}
-use lib.Dec.{ltb}
-use borrow.Author.Tests.{ltb-true, ltb-false}
+use lib.Dec.{eqb, ltb}
+use borrow.Author.Tests.{ltb-true, ltb-false, ne-eqb}
+use Rattle.base.specs.Each.{each}
 use Rattle.base.proofs.Bools.{by, either, clash}
+use Rattle.base.proofs.Ranges.{each-all, each-false, each-same}
 use Rattle.base.proofs.Picking.{last-those, those-same}
 use Rattle.automaton.specs.declared.Automaton.{Automaton}
 use Rattle.automaton.specs.Automaton.{step, reached}
-use Rattle.monitor_rule.specs.Step.{Rest, qualifies, qualifying, release}
+use Rattle.monitor_rule.specs.Step.{Rest, qualifies, qualifying, release, isShut}
 use Rattle.monitor_rule.proofs.Worded.{releases-longest}
 
 -- the same front parts qualify
@@ -67,6 +69,29 @@ release-same rest a other b q w h =
     let x = release-most rest a other b q w h in
     let y = release-most other b rest a q w (λ k l m. sym (h k l m)) in
     omega arith
+
+-- the same nonempty front parts qualify
+pub shut-same : (rest : Rest) (a : Automaton) (other : Rest) (b : Automaton) (q : ℕ) (w : List ℕ)
+    → ((k : ℕ) → 1 ≤ k → k ≤ length w → qualifies rest a q w k ≡ qualifies other b q w k) → isShut rest a q w ≡ isShut other b q w
+unfolding isShut
+shut-same rest a other b q w h =
+    each-same (length w) (λ k. not (qualifies rest a q w (suc k))) (λ k. not (qualifies other b q w (suc k))) (λ k l. ap not (h (suc k) (omega arith) (omega arith)))
+
+-- a buffer is shut where nothing is released
+pub shut-is : (rest : Rest) (a : Automaton) (q : ℕ) (w : List ℕ) → isShut rest a q w ≡ eqb (release rest a q w) 0
+unfolding isShut
+shut-is rest a q w = at (release rest a q w) refl
+  where
+    at : (n : ℕ) → release rest a q w ≡ n → each (length w) (λ k. not (qualifies rest a q w (suc k))) ≡ eqb n 0
+    at zero e =
+        each-all (length w) (λ k. not (qualifies rest a q w (suc k)))
+        (λ k l. by (qualifies rest a q w (suc k))
+        (λ h. absurd (omega (arith, release-longest rest a q w (suc k) (omega arith) h .1, e)))
+        (λ h. rw h))
+    at (suc n) e =
+        let holds = rw e at (released-qualifies rest a q w (omega (arith, e))) in
+        each-false (length w) (λ k. not (qualifies rest a q w (suc k))) n (omega (arith, release-le rest a q w, e)) (rw holds) ∙
+        sym (ne-eqb (suc n) 0 (λ z. omega arith))
 
 -- what is released where some of it has to go: the first event, and then the longest front part of
 -- the others, if any of them qualifies

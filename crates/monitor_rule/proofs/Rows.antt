@@ -16,10 +16,10 @@ use Rattle.automaton.specs.Automaton.{class, controllable, reached}
 use Rattle.automaton.proofs.Classes.{class-one}
 use Rattle.configuration_places.specs.Places.{countEnd}
 use Rattle.configuration.specs.Configuration.{Position}
-use Rattle.monitor_rule.specs.Step.{Rest, release, arrival, effect, eventRows, eventRefusal}
+use Rattle.monitor_rule.specs.Step.{Rest, qualifies, release, arrival, effect, eventRows, eventRefusal}
 use Rattle.monitor_rule.specs.Claims.{Unknown, Full, Opens, Shut, Fits, CountEnded, Admitted, EventRowsAsWorded, OpensAsWorded}
 use Rattle.monitor_rule.proofs.Worded.{releases-longest}
-use Rattle.monitor_rule.proofs.Longest.{release-le}
+use Rattle.monitor_rule.proofs.Longest.{release-le, released-qualifies, shut-is}
 
 -- some of the buffer with the newcomer is released exactly when the newcomer opens it
 module _ (rest : Rest) (a : Automaton) (q : ℕ) (w : List ℕ) (e : ℕ) where
@@ -40,7 +40,8 @@ module _ (rest : Rest) (a : Automaton) (q : ℕ) (w : List ℕ) (e : ℕ) where
 
   -- what is released brings to where one may rest, unless it is nothing
   pub released-rests : 1 ≤ k → rest (drop k v) (reached a q (take k v)) ≡ true
-  released-rests l = either (releases-longest rest a q v .leads) (λ r. r) (λ n. absurd (omega (arith, ours, ap length (n .0))))
+  unfolding qualifies
+  released-rests = released-qualifies rest a q v
 
   pub releases-opens : 1 ≤ k → opens
   releases-opens l =
@@ -97,7 +98,7 @@ module _ (rest : Rest) (a : Automaton) (p : Position) (e : ℕ) where
   shut-15 : Shut P a q w e → eventRefusal rest a p e ≡ 15
   unfolding eventRefusal eventRows first
   shut-15 ((l, c, h), never) =
-      rw (lt-ltb e (a .symbols) l, class-one a e .1 c, le-leb (a .capacity) (length w) h, eq-eqb (release rest a q (w ++ e ∷ [])) 0 (unopened rest a q w e never))
+      rw (lt-ltb e (a .symbols) l, class-one a e .1 c, le-leb (a .capacity) (length w) h, shut-is rest a q (w ++ e ∷ []) ∙ eq-eqb (release rest a q (w ++ e ∷ [])) 0 (unopened rest a q w e never))
 
   fits-23 : Fits P a q w e → eventRefusal rest a p e ≡ cond (eqb (p .received) countEnd) 23 0
   unfolding eventRefusal eventRows first
@@ -109,7 +110,8 @@ module _ (rest : Rest) (a : Automaton) (p : Position) (e : ℕ) where
       (λ c. rw (lt-ltb e (a .symbols) l, c, lt-leb (a .capacity) (length w) h))
       (λ c. rw (lt-ltb e (a .symbols) l, c)))
       (λ o.
-      let some = ne-eqb (release rest a q (w ++ e ∷ [])) 0 (λ z. let r = opens-releases rest a q w e o in omega arith) in
+      let released = ne-eqb (release rest a q (w ++ e ∷ [])) 0 (λ z. let r = opens-releases rest a q w e o in omega arith) in
+      let some = shut-is rest a q (w ++ e ∷ []) ∙ released in
       by (controllable a e)
       (λ c. by (leb (a .capacity) (length w))
       (λ h. rw (lt-ltb e (a .symbols) l, c, h, some))

@@ -81,6 +81,6 @@ run-same rest other a agree t =
     ap (after f) (k (advance-occurs rest a p e t o h)) ∙
     ap (λ g. after g (runOf other a (advance rest a p e) es)) same ∙
     ap (λ x. after (effectFrom other a p e) (runOf other a x es)) (advance-agrees rest a p e other same) ∙
-    sym (run-accepts other a p e es (sym (refusal-same rest other a p e agree t o) ∙ h)))
+    sym (run-accepts other a p e es (sym (refusal-same rest other a p e agree t (o .occurs)) ∙ h)))
     (λ p e es r h k o.
-    ap passed (k o) ∙ sym (run-refuses other a p e es (λ z. h (refusal-same rest other a p e agree t o ∙ z))))
+    ap passed (k o) ∙ sym (run-refuses other a p e es (λ z. h (refusal-same rest other a p e agree t (o .occurs) ∙ z))))

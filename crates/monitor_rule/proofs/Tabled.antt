@@ -22,10 +22,10 @@ use Rattle.automaton.proofs.Facts.{Valid, valid-of, step-high}
 use Rattle.solver_sets.specs.Table.{rank, inBaseK, shorter, index, buffersCount, short, Controllable, Buffer}
 use Rattle.solver_sets.proofs.Buffers.{controllable-drop, buffer-drop}
 use Rattle.solver_sets.proofs.Numbering.{numbered}
-use Rattle.monitor_rule.specs.Step.{byTable, qualifies, release}
+use Rattle.monitor_rule.specs.Step.{byTable, qualifies, release, isShut}
 use Rattle.automaton_symbols.specs.declared.Ranking.{Ranking}
 use Rattle.monitor_rule.specs.Fronts.{indexIn, restIn, over, ReleaseRequires}
-use Rattle.monitor_rule.proofs.Longest.{release-same}
+use Rattle.monitor_rule.proofs.Longest.{release-same, shut-same}
 use Rattle.automaton_symbols.specs.Symbols.{ranksTo, rankingOf}
 use Rattle.automaton_symbols.proofs.Ranks.{ranks-length}
 
@@ -108,6 +108,10 @@ module _ (a : Automaton) (v : Valid a) (t : List ℕ) (w : List ℕ) (c : Contro
   pub release-tabled : release (restIn t (ranking .ranks) (ranking .count)) (over (ranking .ranks) (a .next)) q w ≡ release (byTable a t) a q w
   release-tabled =
       release-same (restIn t (ranking .ranks) (ranking .count)) (over (ranking .ranks) (a .next)) (byTable a t) a q w (λ k _ _. asked k)
+
+  pub shut-tabled : isShut (restIn t (ranking .ranks) (ranking .count)) (over (ranking .ranks) (a .next)) q w ≡ isShut (byTable a t) a q w
+  shut-tabled =
+      shut-same (restIn t (ranking .ranks) (ranking .count)) (over (ranking .ranks) (a .next)) (byTable a t) a q w (λ k _ _. asked k)
 
 -- what the release asks
 module _ (a : Automaton) (v : Valid a) (t : List ℕ) (long : short a t ≡ false) where

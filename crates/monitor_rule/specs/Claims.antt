@@ -66,6 +66,16 @@ EventRowsAsWorded =
     (rest : Rest) (a : Automaton) (p : Position) (e : ℕ)
     → RowsOfEvent (λ w q. rest w q ≡ true) a (p .state) (p .buffer) (p .received) e (eventRefusal rest a p e)
 
+-- What is said of more events than the capacity changes nothing: two rest tests that agree on
+-- every buffer up to it refuse the same events, and an event has the same effect by both.
+abbrev pub WiderIgnored : Type 0
+WiderIgnored =
+    (rest other : Rest) (a : Automaton) → valid a ≡ true
+    → ((w : List ℕ) (q : ℕ) → q < a .states → Buffer a w → rest w q ≡ other w q)
+    → (p : Position) (e : ℕ) → p .state < a .states → Buffer a (p .buffer)
+    → (eventRefusal rest a p e ≡ eventRefusal other a p e)
+    × (e < a .symbols → effectFrom rest a p e ≡ effectFrom other a p e)
+
 -- by the bits of a table
 abbrev pub Tabled : Automaton → List ℕ → List ℕ → ℕ → Type 0
 Tabled a t w q = has (getD t (2 * index a w) 0) q ≡ true

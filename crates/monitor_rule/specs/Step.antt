@@ -4,7 +4,7 @@ use mathlib.Core.Bool.{Bool, cond, not, _&&_}
 use mathlib.Core.List.{List, [], _∷_, _++_}
 use lib.ListN.{length, getD, take, drop}
 use lib.Dec.{eqb, leb, ltb}
-use Rattle.base.specs.Each.{those, lastOr}
+use Rattle.base.specs.Each.{each, those, lastOr}
 use Rattle.base.specs.Rows.{first}
 use Rattle.base.specs.Masks.{has}
 use Rattle.automaton.specs.declared.Automaton.{Automaton}
@@ -92,15 +92,17 @@ advance rest a p e =
       emitted = p .emitted + length (f .emitted);
     }
 
+-- a buffer is shut in a state where no front part of it qualifies but perhaps the empty one, which
+-- is not asked
+unfoldable pub isShut : Rest → Automaton → ℕ → List ℕ → Bool
+isShut rest a q w = each (length w) (λ k. not (qualifies rest a q w (suc k)))
+
 -- the rows of one event: 14, no symbol of the automaton; 15, controllable with the buffer full,
--- and the buffer with it at its end releases nothing (document 02, Card 5); 23, the input count at
--- its end. The release never depends on the empty front part, so no set of more events than the
--- capacity is asked.
+-- which is shut with the newcomer at its end (document 02, Card 5); 23, the input count at its end
 abbrev pub eventRowsIn : Rest → Automaton → ℕ → List ℕ → ℕ → ℕ → List (ℕ × Bool)
 eventRowsIn rest a q w received e =
     let full = controllable a e && leb (a .capacity) (length w) in
-    let shut = eqb (release rest a q (w ++ e ∷ [])) 0 in
-    (14, not (ltb e (a .symbols))) ∷ (15, full && shut) ∷ (23, eqb received countEnd) ∷ []
+    (14, not (ltb e (a .symbols))) ∷ (15, full && isShut rest a q (w ++ e ∷ [])) ∷ (23, eqb received countEnd) ∷ []
 
 -- at a position
 unfoldable pub eventRows : Rest → Automaton → Position → ℕ → List (ℕ × Bool)

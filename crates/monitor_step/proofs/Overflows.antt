@@ -1,9 +1,9 @@
--- An event at a full buffer, as the code takes it: the first held event goes, and the search is made
--- for the others with the newcomer behind them.
-use Prim.Native.Nat.{ℕ, zero, suc, _+_, _-_, _*_, _≤_}
+-- An event at a full buffer, as the code takes it: the first held event goes, and the search is
+-- made for the others with the newcomer behind them.
+use Prim.Native.Nat.{ℕ, suc, _+_, _-_, _*_, _≤_}
 use mathlib.Core.Path.{_≡_, refl, sym, _∙_, ap, ap₂}
 use mathlib.Core.Bool.{true, false, cond, not}
-use mathlib.Core.List.{List, [], _∷_, _++_, append-assoc}
+use mathlib.Core.List.{List, [], _∷_, _++_, append-assoc, append-nil}
 use native.Mathlib.Numerals.{add-one}
 use native.Mathlib.Omega.{arith}
 use lib.ListN.{length, getD, set, take, drop, replicate, length-append, length-drop, length-take}
@@ -13,14 +13,14 @@ use borrow.Author.Tests.{eqb-false, eq-eqb, ne-eqb}
 use Rattle.base.specs.Pad.{pad}
 use Rattle.base.specs.Rows.{first}
 use Rattle.base.proofs.Bools.{by}
-use Rattle.base.proofs.Padding.{pad-length, pad-set, take-pad}
+use Rattle.base.proofs.Padding.{pad-length, pad-set, take-pad, repeat-end}
 use Rattle.automaton.specs.declared.Automaton.{Automaton}
 use Rattle.automaton.specs.Automaton.{controllable, step}
 use Rattle.configuration_places.specs.Places.{countEnd}
 use Rattle.monitor_rule.specs.Step.{Rest, qualifies, release, Effect, arrival, effect}
 use Rattle.monitor_rule.specs.declared.Front.{Front}
 use Rattle.monitor_rule.specs.Fronts.{front, over, ReleaseRequires}
-use Rattle.monitor_rule.proofs.Longest.{release-behind, release-none}
+use Rattle.monitor_rule.proofs.Longest.{shut-is, release-behind, release-none}
 use Rattle.monitor_rule.proofs.Effects.{effect-behind}
 use Rattle.monitor_step.specs.declared.Stepped.{Stepped}
 use Rattle.monitor_step.specs.Stepping.{released, stepped, overflowRow, unmoved, overflowed, overflowEmitted, OverflowRequires}
@@ -40,11 +40,11 @@ module _ (rest : Rest) (a : Automaton) (q d : ℕ) (w : List ℕ) (e : ℕ) (c :
 
   shut-row : qualifies rest a p v (release rest a p v) ≡ false → (received : ℕ) → overflowRow rest a q (d ∷ w) received e ≡ 15
   unfolding overflowRow first
-  shut-row h received = rw (release-none rest a q d v h)
+  shut-row h received = rw (shut-is rest a q (d ∷ v), release-none rest a q d v h)
 
   open-row : rests → (received : ℕ) → overflowRow rest a q (d ∷ w) received e ≡ cond (eqb received countEnd) 23 0
   unfolding overflowRow first
-  open-row h received = rw (release-behind rest a q d v h, ne-eqb (suc (release rest a p v)) 0 (λ z. omega arith))
+  open-row h received = rw (shut-is rest a q (d ∷ v), release-behind rest a q d v h, ne-eqb (suc (release rest a p v)) 0 (λ z. omega arith))
 
   -- the same as a step behind it, and d before it
   stepped-behind : rests → (at : ℕ) → let s = stepped rest a p w e (at + 1) in
@@ -74,16 +74,12 @@ literal (x0 ∷ x1 ∷ x2 ∷ x3 ∷ x4 ∷ []) h = absurd (omega (arith, h))
 literal (x0 ∷ x1 ∷ x2 ∷ x3 ∷ x4 ∷ x5 ∷ []) h = refl
 literal (x0 ∷ x1 ∷ x2 ∷ x3 ∷ x4 ∷ x5 ∷ x6 ∷ b) h = absurd (omega (arith, h))
 
-zeros-end : (m : ℕ) → _++_ {A = ℕ} (replicate m 0) (0 ∷ []) ≡ replicate (suc m) 0
-zeros-end zero = refl
-zeros-end (suc m) = ap (λ l. 0 ∷ l) (zeros-end m)
-
 behind-first : (w : List ℕ) → 1 ≤ length w → length w ≤ 6 → drop 1 (pad 6 w) ++ 0 ∷ [] ≡ pad 6 (drop 1 w)
 unfolding pad
 behind-first [] l m = absurd (omega arith)
 behind-first (d ∷ w) l m =
     let e : suc (6 - suc (length w)) ≡ 6 - length w = omega arith in
-    append-assoc w (replicate (6 - suc (length w)) 0) (0 ∷ []) ∙ ap (λ z. w ++ z) (zeros-end (6 - suc (length w))) ∙ ap (λ n. w ++ replicate n 0) e
+    append-assoc w (replicate (6 - suc (length w)) 0) (0 ∷ []) ∙ ap (λ z. w ++ z) (repeat-end (6 - suc (length w)) 0 [] ∙ append-nil (replicate (suc (6 - suc (length w))) 0)) ∙ ap (λ n. w ++ replicate n 0) e
 
 pub shift-is : (buffer : List ℕ) (held e : ℕ) → 1 ≤ held → held ≤ 6 → buffer ≡ pad 6 (take held buffer)
     → set (getD buffer 1 0 ∷ getD buffer 2 0 ∷ getD buffer 3 0 ∷ getD buffer 4 0 ∷ getD buffer 5 0 ∷ 0 ∷ []) (held - 1) e

@@ -24,7 +24,7 @@ use Rattle.automaton_symbols.specs.declared.Ranking.{Ranking}
 use Rattle.monitor_rule.specs.Fronts.{restIn, over}
 use Rattle.automaton_symbols.specs.Symbols.{rankingOf}
 use Rattle.monitor_rule.proofs.Effects.{Occurs, Arrives, newcomer-arrives, arrival-arrives}
-use Rattle.monitor_rule.proofs.Tabled.{rank-controllable, rank-uncontrollable, release-tabled, reached-over, lent}
+use Rattle.monitor_rule.proofs.Tabled.{rank-controllable, rank-uncontrollable, release-tabled, shut-tabled, reached-over, lent}
 use Rattle.monitor_step.specs.Stepping.{earlyRow, released, stepped, overflowRow, overflowed, overflowEmitted, StepRequires, OverflowRequires}
 use Rattle.monitor_step.proofs.Steps.{class-rank, rank-class}
 
@@ -166,7 +166,7 @@ module _ (a : Automaton) (v : Valid a) where
     module _ (c : controllable a e ≡ true) (received : ℕ) where
       overflow-row-tabled : overflowRow (restIn t (own .ranks) (own .count)) lentOnly q w received e ≡ overflowRow (byTable a t) a q w received e
       unfolding overflowRow
-      overflow-row-tabled = rw (release-tabled a v t (w ++ e ∷ []) (newcomer-arrives a q w e l c o .symbols) q)
+      overflow-row-tabled = rw (shut-tabled a v t (w ++ e ∷ []) (newcomer-arrives a q w e l c o .symbols) q)
 
       pub overflowed-tabled : (at : ℕ) → overflowed (restIn t (own .ranks) (own .count)) lentOnly q w received e at ≡ overflowed (byTable a t) a q w received e at
       unfolding overflowed

@@ -11,7 +11,7 @@ use Rattle.base.specs.Pad.{pad}
 use Rattle.automaton.specs.declared.Automaton.{Automaton}
 use Rattle.automaton.specs.Automaton.{controllable}
 use Rattle.configuration_places.specs.Places.{countEnd}
-use Rattle.monitor_rule.specs.Step.{Rest, release, Effect, arrival, effect}
+use Rattle.monitor_rule.specs.Step.{Rest, release, isShut, Effect, arrival, effect}
 use Rattle.monitor_rule.specs.Fronts.{over, ReleaseRequires}
 pub use Rattle.monitor_step.specs.declared.Stepped.{Stepped}
 
@@ -40,11 +40,11 @@ stepped rest a q w e at =
       written = at + length (f .emitted);
     }
 
--- the row of a controllable event at a full buffer: 15, the buffer with it at its end releases
--- nothing; 23; else 0
+-- the row of a controllable event at a full buffer: 15, the buffer with it at its end is shut; 23;
+-- else 0
 unfoldable pub overflowRow : Rest → Automaton → ℕ → List ℕ → ℕ → ℕ → ℕ
 overflowRow rest a q w received e =
-    first ((15, eqb (release rest a q (w ++ e ∷ [])) 0) ∷ (23, eqb received countEnd) ∷ [])
+    first ((15, isShut rest a q (w ++ e ∷ [])) ∷ (23, eqb received countEnd) ∷ [])
 
 -- all as it was
 abbrev pub unmoved : ℕ → ℕ → List ℕ → ℕ → Stepped
@@ -74,7 +74,8 @@ pub record StepRequires (next ranks : List ℕ) (k : ℕ) (t : List ℕ) (q : �
 
 -- what an event at a full buffer asks: some are held, and the search is made for what comes behind
 -- the first of them
-pub record OverflowRequires (next ranks : List ℕ) (k : ℕ) (t : List ℕ) (q : ℕ) (buffer : List ℕ) (held e size at : ℕ) : Type 0 where
+pub record OverflowRequires (next ranks : List ℕ) (k : ℕ) (t : List ℕ) (q : ℕ) (buffer : List ℕ) (held e size at : ℕ)
+    : Type 0 where
   pub symbol-low : e < 16
   pub state-low : q < 32
   pub first-low : getD buffer 0 0 < 16
@@ -84,5 +85,6 @@ pub record OverflowRequires (next ranks : List ℕ) (k : ℕ) (t : List ℕ) (q 
   pub holds : controllable (over ranks next) e ≡ true
   pub room : at + held < size
   pub indexed : size < 18446744073709551616
-  pub lent : ReleaseRequires next ranks k t (getD next (q * 16 + getD buffer 0 0) 0) (pad 6 (drop 1 (take held buffer) ++ e ∷ []))
+  pub lent : ReleaseRequires next ranks k t (getD next (q * 16 + getD buffer 0 0) 0)
+      (pad 6 (drop 1 (take held buffer) ++ e ∷ []))
       (length (drop 1 (take held buffer) ++ e ∷ []))

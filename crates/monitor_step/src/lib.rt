@@ -68,7 +68,7 @@ pub fn early_row(
     0
 }
 
-// The state after an event that passes; the same state where it is held.
+// The state after an event that goes out; the same state where it is held.
 fn moved(next: &[u8; 512], passes: bool, q: usize, e: usize) -> usize
     requires { ⌜ (q < 32) × (e < 16) ⌝ }
     ensures { λ r. ⌜ r ≡ cond passes (getD (now (next .entry)) (q * 16 + e) 0) q ⌝ }
@@ -92,7 +92,7 @@ fn enqueue(passes: bool, e: u8, buffer: &mut [u8; 6], held: usize) -> usize
     held + 1
 }
 
-// Writes an event that passes: the place after it.
+// Writes an event that goes out: the place after it.
 fn pass(passes: bool, e: u8, out: &mut [u8], at: usize) -> usize
     requires { ⌜ at < length (now out) ⌝ }
     ensures { λ n. ⌜ (n ≡ at + cond passes 1 0)

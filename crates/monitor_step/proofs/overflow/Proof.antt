@@ -1,4 +1,5 @@
--- A controllable event at a full buffer: the first held event goes, and the search is made behind it.
+-- A controllable event at a full buffer: the first held event goes, and the search is made behind
+-- it.
 use Prim.Native.Nat.{_+_, _*_, _≤_}
 use mathlib.Core.Path.{_∙_, ap}
 use native.Mathlib.Omega.{arith}
