@@ -27,7 +27,8 @@ use Rattle.monitor_rule.proofs.Effects.{OccursAt, consistent-occurs}
 use Rattle.monitor_rule.proofs.Tabled.{next-low}
 use Rattle.monitor_step.specs.declared.Stepped.{Stepped}
 use Rattle.monitor_step.specs.Stepping.{earlyRow, released, stepped, overflowRow, overflowed, overflowEmitted, StepRequires, OverflowRequires}
-use Rattle.monitor_step.proofs.Tabled.{no-full, Fitting, Filled, early-stands, early-fits, early-full, early-overflows, stepped-tabled, emitted-tabled, overflowed-tabled, overflow-emitted-tabled, ready, overflow-ready}
+use Rattle.monitor_step.proofs.Tabled.{no-full, Fitting, Filled, early-stands, early-fits, early-full, early-overflows, stepped-tabled}
+use Rattle.monitor_step.proofs.Tabled.{emitted-tabled, overflowed-tabled, overflow-emitted-tabled, ready, overflow-ready}
 use Rattle.monitor_answers.specs.Turns.{turnRefusal, turnEmitted, turnNext, turnedBuffer}
 use Rattle.monitor_answers.proofs.Turns.{Opened, turn-consistent, turn-unmoved, turn-silent, turn-moves, turn-emits}
 use Rattle.monitor_loop.specs.Lending.{Limits, Lends, ProcessRequires}

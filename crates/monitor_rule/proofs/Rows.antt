@@ -98,7 +98,8 @@ module _ (rest : Rest) (a : Automaton) (p : Position) (e : ℕ) where
   shut-15 : Shut P a q w e → eventRefusal rest a p e ≡ 15
   unfolding eventRefusal eventRows first
   shut-15 ((l, c, h), never) =
-      rw (lt-ltb e (a .symbols) l, class-one a e .1 c, le-leb (a .capacity) (length w) h, shut-is rest a q (w ++ e ∷ []) ∙ eq-eqb (release rest a q (w ++ e ∷ [])) 0 (unopened rest a q w e never))
+      let none = shut-is rest a q (w ++ e ∷ []) ∙ eq-eqb (release rest a q (w ++ e ∷ [])) 0 (unopened rest a q w e never) in
+      rw (lt-ltb e (a .symbols) l, class-one a e .1 c, le-leb (a .capacity) (length w) h, none)
 
   fits-23 : Fits P a q w e → eventRefusal rest a p e ≡ cond (eqb (p .received) countEnd) 23 0
   unfolding eventRefusal eventRows first

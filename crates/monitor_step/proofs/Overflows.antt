@@ -78,8 +78,10 @@ behind-first : (w : List ℕ) → 1 ≤ length w → length w ≤ 6 → drop 1 (
 unfolding pad
 behind-first [] l m = absurd (omega arith)
 behind-first (d ∷ w) l m =
-    let e : suc (6 - suc (length w)) ≡ 6 - length w = omega arith in
-    append-assoc w (replicate (6 - suc (length w)) 0) (0 ∷ []) ∙ ap (λ z. w ++ z) (repeat-end (6 - suc (length w)) 0 [] ∙ append-nil (replicate (suc (6 - suc (length w))) 0)) ∙ ap (λ n. w ++ replicate n 0) e
+    let n = 6 - suc (length w) in
+    let e : suc n ≡ 6 - length w = omega arith in
+    let more = repeat-end n 0 [] ∙ append-nil (replicate (suc n) 0) in
+    append-assoc w (replicate n 0) (0 ∷ []) ∙ ap (λ z. w ++ z) more ∙ ap (λ m. w ++ replicate m 0) e
 
 pub shift-is : (buffer : List ℕ) (held e : ℕ) → 1 ≤ held → held ≤ 6 → buffer ≡ pad 6 (take held buffer)
     → set (getD buffer 1 0 ∷ getD buffer 2 0 ∷ getD buffer 3 0 ∷ getD buffer 4 0 ∷ getD buffer 5 0 ∷ 0 ∷ []) (held - 1) e

@@ -9,7 +9,8 @@ use borrow.Author.Needs.{needs}
 use Rattle.base.proofs.Bools.{either}
 use Rattle.monitor_loop.specs.Lending.{ProcessRequires}
 use Rattle.monitor_loop.proofs.Accepting.{accepted-few, accepted-state, accepted-counts, accepted-asks, accepted-derives, accepted-found}
-use Rattle.monitor_loop.proofs.Taking.{Takes, symbols-small, Early, refuses-some, refuses-none, early-symbol, takes-refused, take-ready, takes-stepped, fill-ready, takes-overflowed, takes-length}
+use Rattle.monitor_loop.proofs.Taking.{Takes, symbols-small, Early, refuses-some, refuses-none, early-symbol, takes-refused, take-ready}
+use Rattle.monitor_loop.proofs.Taking.{takes-stepped, fill-ready, takes-overflowed, takes-length}
 use Rattle.clients_entry.proofs.Entering.{takes-none, take-enters, take-room, takes-passed, takes-event}
 use Rattle.clients_entry.proofs.take.Statement.{statement}
 use Rattle.clients_entry.proofs.take.Tie as tie

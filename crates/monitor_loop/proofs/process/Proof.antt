@@ -14,9 +14,12 @@ use Rattle.monitor_step.specs.Stepping.{stepped, StepRequires}
 use Rattle.monitor_step.proofs.Steps.{many}
 use Rattle.monitor_step.proofs.Overflows.{overflowed-taken}
 use Rattle.monitor_loop.specs.Lending.{derived}
-use Rattle.monitor_loop.proofs.Taking.{Takes, symbols-small, next-small, Early, refuses-some, refuses-none, passing-fits, early-symbol, takes-refused, take-ready, takes-stepped, fill-ready, takes-overflowed}
+use Rattle.monitor_loop.proofs.Taking.{Takes, symbols-small, next-small, Early, refuses-some, refuses-none, passing-fits, early-symbol}
+use Rattle.monitor_loop.proofs.Taking.{takes-refused, take-ready, takes-stepped, fill-ready, takes-overflowed}
 use Rattle.monitor_loop.proofs.Quiet.{Quiet, quiet-none, quiet-emits, quiet-steps, quiet-goes-on}
-use Rattle.monitor_loop.proofs.Running.{Going, going-begins, going-enters, going-kept, going-room, going-state, going-many, going-held, going-derives, going-refuses, going-asks, going-there, going-counts, going-accepts, going-ends, going-finishes}
+use Rattle.monitor_loop.proofs.Running.{Going, going-begins, going-enters, going-kept, going-room, going-state, going-many, going-held}
+use Rattle.monitor_loop.proofs.Running.{going-derives, going-refuses, going-asks, going-there, going-counts, going-accepts, going-ends}
+use Rattle.monitor_loop.proofs.Running.{going-finishes}
 use Rattle.monitor_loop.proofs.process.Statement.{statement}
 use Rattle.monitor_loop.proofs.process.Tie as tie
 

@@ -10,7 +10,8 @@ use borrow.Author.Needs.{needs}
 use Rattle.base.proofs.Bools.{either}
 use Rattle.configuration.specs.Configuration.{consistentIn}
 use Rattle.monitor_loop.specs.Lending.{ProcessRequires}
-use Rattle.monitor_loop.proofs.Taking.{Takes, symbols-small, Early, refuses-some, refuses-none, early-symbol, takes-refused, take-ready, takes-stepped, fill-ready, takes-overflowed, takes-length}
+use Rattle.monitor_loop.proofs.Taking.{Takes, symbols-small, Early, refuses-some, refuses-none, early-symbol, takes-refused, take-ready}
+use Rattle.monitor_loop.proofs.Taking.{takes-stepped, fill-ready, takes-overflowed, takes-length}
 use Rattle.monitor_loop.proofs.Accepting.{accepted-few, accepted-state, accepted-counts, accepted-asks, accepted-derives}
 use Rattle.monitor_loop.proofs.Turning.{turns-inconsistent, opens-enters, opens-room, turns-refused, turns-accepted}
 use Rattle.monitor_loop.proofs.turn.Statement.{statement}
