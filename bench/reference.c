@@ -7,8 +7,8 @@
 int ref_flat_check = 0;
 int ref_remember = 0;
 
-/* What an event with room needs is compiled in line, what one at a full hold needs is not. (Left
- * to itself the compiler puts the search, which both call, behind a call for every event.) */
+/* What an event with room needs is compiled in line, what one at a full hold needs is not, as in
+ * the archive. */
 #define INLINE inline __attribute__((always_inline))
 #define NO_INLINE __attribute__((noinline))
 

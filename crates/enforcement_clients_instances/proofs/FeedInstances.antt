@@ -41,7 +41,8 @@ use Rattle.enforcement_clients_instances.specs.ListStatements.{broken, w
 use Rattle.enforcement_clients_instances.specs.CallStatements.{startW, callsHere, two, signed, otherTable}
 use Rattle.enforcement_clients_instances.specs.RecordStatements.{serialZero, afterGap, repeated, oneMore, tooLarge, inTurn}
 use Rattle.enforcement_clients_instances.specs.FeedStatements.{fedAs, keptAs, feedCalls, feedReplies, feedClients, FeedCallFields, feedRow}
-use Rattle.enforcement_clients_instances.specs.FeedStatements.{unthreaded, unthreadedReplies, UnthreadedFields, FeedRowFields, FeedAnswerFields, FeedIsolating, FeedBringing, feedThere, FeedBeside}
+use Rattle.enforcement_clients_instances.specs.FeedStatements.{unthreaded, unthreadedReplies, UnthreadedFields, FeedRowFields, FeedAnswerFields}
+use Rattle.enforcement_clients_instances.specs.FeedStatements.{FeedIsolating, FeedBringing, feedThere, FeedBeside}
 
 replies-fed : replies automatonW tableW (startW 3) feedCalls ≡ feedReplies
 unfolding calling

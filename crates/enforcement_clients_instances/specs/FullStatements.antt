@@ -94,7 +94,7 @@ pub record MetOpened : Type 0 where
       × (accepts automatonV (reached automatonV 0 (1 ∷ [])) ≡ true)
   pub opened-after : (winningAfter automatonV tableV query ≡ true)
       × (accepts automatonV (reached automatonV 0 (1 ∷ 0 ∷ 1 ∷ [])) ≡ true)
-  -- whoever lets both Answers go then is driven out by at most two events
+  -- the rule that lets all go, and so both Answers then, is driven out by at most two events
   pub strategies : (us : List ℕ)
       × AllUncontrollable automatonV us
       × (length us ≤ 2)

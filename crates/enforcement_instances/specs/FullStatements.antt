@@ -114,8 +114,8 @@ pub record FullEnforced : Type 0 where
       × (accepts automatonV (reached automatonV 0 (1 ∷ [])) ≡ true)
   pub opened-after : (winningAfter automatonV tableV query ≡ true)
       × (accepts automatonV (reached automatonV 0 (1 ∷ 0 ∷ 1 ∷ [])) ≡ true)
-  -- two are in hand then, one more than the capacity; whoever lets both go is driven out by at
-  -- most two events
+  -- two are in hand then, one more than the capacity; the rule that lets all go, and so both, is
+  -- driven out by at most two events
   pub in-hand : length (arrivalAt automatonV secondAnswer .buffer) ≡ 2
   pub strategies : (us : List ℕ)
       × AllUncontrollable automatonV us

@@ -131,8 +131,8 @@ fn longest(lengths: &[u8], count: usize) -> usize
     as_usize(lengths[count - 1])
 }
 
-// The longest front part of the buffer that leads to where the monitor may rest with what is left;
-// k is the number of controllable symbols.
+// The longest front part of the buffer that leads to where the monitor may rest with what is left,
+// and whether there is one; k is the number of controllable symbols.
 pub fn release<'a>(
     next: &'a [u8; 512],
     ranks: &'a [u8; 16],
