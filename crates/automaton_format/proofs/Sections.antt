@@ -1,17 +1,17 @@
 -- Laws of reading: the classes, the flags and the next states after one another.
 use Prim.Native.Nat.{ℕ, zero, suc, _+_, _-_, _*_, _<_, _≤_}
 use mathlib.Core.Path.{_≡_, refl, sym, _∙_, ap, ap₂}
-use mathlib.Core.List.{List, [], _∷_, _++_, append-assoc}
+use mathlib.Core.List.{List, [], _∷_, _++_}
 use native.Mathlib.Numerals.{add-one}
 use native.Mathlib.Omega.{arith}
-use lib.ListN.{length, replicate, length-append, length-replicate, replicate-append-replicate}
-use lib.Seq.{sets, length-sets, sets-eq, take-append-seam, drop-append-add}
+use lib.ListN.{length, replicate, length-append}
+use lib.Seq.{sets, length-sets}
 use lib.Dec.{eqb, ltb}
 use borrow.Author.Tests.{le-ltb, eq-eqb, ne-eqb, eqb-true, eqb-false, ltb-true, ltb-false}
 use Rattle.base.specs.Rows.{first}
 use Rattle.base.specs.Pad.{pad}
 use Rattle.base.proofs.Bools.{by}
-use Rattle.base.proofs.Padding.{pad-length, pad-sets, drop-zeros}
+use Rattle.base.proofs.Padding.{pad-length, pad-sets, pad-more}
 use Rattle.varint.specs.declared.Number.{Number}
 use Rattle.varint.specs.Varint.{fault, read}
 use Rattle.automaton_format.specs.Reading.{checked, between, tally, itemRow, Numbers, numbers, nextStates, afterNumbers, afterNumber, refused, Parsed}
@@ -81,19 +81,6 @@ module _ (n : Number) (go : ℕ → ℕ → Parsed) where
   pub after-number-passes : n .refusal ≡ 0 → afterNumber n go ≡ go (n .value) (n .place)
   unfolding afterNumber
   after-number-passes z = rw (eq-eqb (n .refusal) 0 z)
-
--- a state's numbers stored behind those before it
-pub pad-more : (size : ℕ) (before block : List ℕ) (width : ℕ) → length block ≤ width → length before + width ≤ size
-    → sets (pad size before) (length before) block ≡ pad size (before ++ pad width block)
-unfolding pad
-pad-more size before block width h k =
-    let zeros : ℕ → List ℕ = λ i. replicate i 0 in
-    let a : length before + length block ≤ length (before ++ zeros (size - length before)) = simp (length-append, length-replicate) (omega arith) in
-    let e : size - length before - length block ≡ (width - length block) + (size - (length before + width)) = omega arith in
-    let f : length (before ++ (block ++ zeros (width - length block))) ≡ length before + width = simp (length-append, length-replicate) (omega arith) in
-    sets-eq block (before ++ zeros (size - length before)) (length before) a ∙
-    rw (take-append-seam before (zeros (size - length before)), drop-append-add before (zeros (size - length before)) (length block), drop-zeros (size - length before) (length block), f, e)
-    (rw (← replicate-append-replicate {A = ℕ} (width - length block) (size - (length before + width)) 0) (simp append-assoc))
 
 -- the loop over the states
 pub record StatesFilled (s : List ℕ) (n m at : ℕ) (next : List ℕ) (place q : ℕ) : Type 0 where

@@ -10,3 +10,4 @@ pub mod Fronts
 pub mod Guards
 pub mod LentLocals
 pub mod LentSlices
+pub mod Tabulation

@@ -4,8 +4,8 @@ use mathlib.Core.Path.{_≡_, refl, sym, _∙_, ap}
 use mathlib.Core.List.{List, [], _∷_, _++_, append-nil, append-assoc}
 use native.Mathlib.Nat.{zero-add}
 use native.Mathlib.Omega.{arith}
-use lib.ListN.{length, getD, set, take, drop, replicate, length-append, length-replicate, List·getD-append}
-use lib.Seq.{sets, sets-eq, ext-getD, getD-take, getD-append-add, length-take-le, take-append-seam, set-append-seam, append-snoc, set-getD}
+use lib.ListN.{length, getD, set, take, drop, replicate, length-append, length-replicate, replicate-append-replicate, List·getD-append}
+use lib.Seq.{sets, sets-eq, ext-getD, getD-take, getD-append-add, length-take-le, take-append-seam, drop-append-add, set-append-seam, append-snoc, set-getD}
 use lib.Dec.{ltb}
 use borrow.Author.Tests.{ltb-true, ltb-false}
 use Rattle.base.specs.Pad.{pad, UsedTo}
@@ -96,6 +96,19 @@ pad-sets n l (x ∷ v) h =
     ap (λ i. sets (pad n (l ++ x ∷ [])) i v) e ∙
     pad-sets n (l ++ x ∷ []) v (simp length-append (omega arith)) ∙
     ap (pad n) (append-assoc l (x ∷ []) v)
+
+-- a list stored behind a padded list, with zeros up to a width of its own
+pub pad-more : (size : ℕ) (before block : List ℕ) (width : ℕ) → length block ≤ width → length before + width ≤ size
+    → sets (pad size before) (length before) block ≡ pad size (before ++ pad width block)
+unfolding pad
+pad-more size before block width h k =
+    let zeros : ℕ → List ℕ = λ i. replicate i 0 in
+    let a : length before + length block ≤ length (before ++ zeros (size - length before)) = simp (length-append, length-replicate) (omega arith) in
+    let e : size - length before - length block ≡ (width - length block) + (size - (length before + width)) = omega arith in
+    let f : length (before ++ (block ++ zeros (width - length block))) ≡ length before + width = simp (length-append, length-replicate) (omega arith) in
+    sets-eq block (before ++ zeros (size - length before)) (length before) a ∙
+    rw (take-append-seam before (zeros (size - length before)), drop-append-add before (zeros (size - length before)) (length block), drop-zeros (size - length before) (length block), f, e)
+    (rw (← replicate-append-replicate {A = ℕ} (width - length block) (size - (length before + width)) 0) (simp append-assoc))
 
 -- equal elements, one more
 pub repeat-end : (k : ℕ) (x : ℕ) (l : List ℕ) → replicate k x ++ x ∷ l ≡ replicate (suc k) x ++ l

@@ -3,3 +3,4 @@ pub mod All
 pub mod Rows
 pub mod Pad
 pub mod Masks
+pub mod Tabulate

@@ -3,6 +3,7 @@ pub mod Rounds
 pub mod Refining
 pub mod Largest
 pub mod Growth
+pub mod Projection
 pub mod Paper
 pub mod Numbering
 pub mod Tables

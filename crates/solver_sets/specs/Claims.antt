@@ -5,13 +5,14 @@ use mathlib.Core.Logic.{_⊎_, _↔_}
 use mathlib.Core.Bool.{true}
 use mathlib.Core.List.{List, [], _∷_, _++_}
 use lib.ListN.{length}
+use Rattle.base.specs.All.{AllOf}
 use Rattle.base.specs.Each.{count}
 use Rattle.base.specs.Masks.{has}
 use Rattle.automaton.specs.declared.Automaton.{Automaton}
 use Rattle.automaton.specs.Automaton.{accepts, step, valid}
 use Rattle.solver_sets.specs.Sets.{setsFor}
 use Rattle.solver_sets.specs.Table.{index, buffersCount, short, Buffer, table, Solved}
-use Rattle.solver_sets.specs.Definition6.{States, Final, Uncontrollable, Definition6}
+use Rattle.solver_sets.specs.Definition6.{States, Union, Final, Uncontrollable, Definition6}
 
 -- q is in S, or in I, of a buffer
 abbrev pub Winning : Automaton → List ℕ → States
@@ -44,6 +45,24 @@ abbrev pub UnionAddsNothing : Type 0
 UnionAddsNothing =
     (a : Automaton) → valid a ≡ true → (w : List ℕ) (e q : ℕ) → q < a .states
     → (Winning a w q → Winning a (w ++ e ∷ []) q) × (Intermediate a w q → Intermediate a (w ++ e ∷ []) q)
+
+-- A map of the states of c to those of another automaton over the same symbols: it keeps every
+-- step and takes accepting states to accepting ones, and the symbols that a may not hold back c
+-- may not either.
+pub record Projects (c a : Automaton) (π : ℕ → ℕ) : Type 0 where
+  pub below : (q : ℕ) → q < c .states → π q < a .states
+  pub steps : (q e : ℕ) → q < c .states → e < c .symbols → π (step c q e) ≡ step a (π q) e
+  pub final : (q : ℕ) → q < c .states → Final c q → Final a (π q)
+  pub free : (e : ℕ) → Uncontrollable a e → Uncontrollable c e
+
+-- where c may rest with a buffer, its image may rest with it, and where it may come to rest, its
+-- image may; the buffer need not keep the capacity of either
+abbrev pub ImagesRest : Type 0
+ImagesRest =
+    (c a : Automaton) → valid c ≡ true → valid a ≡ true → (π : ℕ → ℕ) → Projects c a π → (w : List ℕ) → AllOf (λ e. e < c .symbols) w
+    → (q : ℕ) → q < c .states
+    → (Winning c w q → Winning a w (π q))
+    × (Union (Winning c w) (Intermediate c w) q → Union (Winning a w) (Intermediate a w) (π q))
 
 -- the sets satisfy Definition 6 ..
 abbrev pub SatisfyDefinition6 : Type 0

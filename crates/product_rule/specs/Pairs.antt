@@ -1,0 +1,35 @@
+-- Pairs of states over the arrays of two records, the second of n states. Inner functions are lent
+-- these and not the records.
+use Prim.Native.Nat.{ℕ, _+_, _*_, _/_, _%_}
+use mathlib.Core.Bool.{Bool, cond, _&&_}
+use mathlib.Core.List.{List}
+use lib.ListN.{getD}
+use lib.Dec.{eqb}
+use Rattle.base.specs.Each.{each}
+use Rattle.base.specs.Pad.{pad}
+use Rattle.base.specs.Tabulate.{tabulate, rows}
+use Rattle.automaton.specs.Arrays.{acceptingAt, goes}
+
+-- the number of a pair of states: first state × second count + second state
+abbrev pub pair : ℕ → ℕ → ℕ → ℕ
+pair n p q = p * n + q
+
+-- pair r accepts: both its states do
+abbrev pub bothAccept : List ℕ → List ℕ → ℕ → ℕ → Bool
+bothAccept first second n r = acceptingAt first (r / n) && acceptingAt second (r % n)
+
+-- the flags of the pairs
+unfoldable pub pairFlags : List ℕ → List ℕ → ℕ → ℕ → List ℕ
+pairFlags first second n pairs = tabulate pairs (λ r. cond (bothAccept first second n r) 1 0)
+
+-- the next states of pair r under m symbols: the pairs of its states' next ones
+unfoldable pub pairNext : List ℕ → List ℕ → ℕ → ℕ → ℕ → List ℕ
+pairNext first second n m r = tabulate m (λ e. pair n (goes first (r / n) e) (goes second (r % n) e))
+
+-- those of each pair, 16 places for each
+unfoldable pub pairStates : List ℕ → List ℕ → ℕ → ℕ → ℕ → List ℕ
+pairStates first second n m pairs = rows pairs (λ r. pad 16 (pairNext first second n m r))
+
+-- the first m symbols have the same classes
+unfoldable pub sameClasses : List ℕ → List ℕ → ℕ → Bool
+sameClasses first second m = each m (λ e. eqb (getD first e 0) (getD second e 0))
