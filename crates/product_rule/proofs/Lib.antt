@@ -1,1 +1,3 @@
-
+pub mod Filling
+pub mod Rows
+pub mod Answers

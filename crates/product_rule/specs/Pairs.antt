@@ -1,6 +1,6 @@
 -- Pairs of states over the arrays of two records, the second of n states. Inner functions are lent
 -- these and not the records.
-use Prim.Native.Nat.{ℕ, _+_, _*_, _/_, _%_}
+use Prim.Native.Nat.{ℕ, _+_, _*_, _/_, _%_, _<_}
 use mathlib.Core.Bool.{Bool, cond, _&&_}
 use mathlib.Core.List.{List}
 use lib.ListN.{getD}
@@ -22,13 +22,20 @@ bothAccept first second n r = acceptingAt first (r / n) && acceptingAt second (r
 unfoldable pub pairFlags : List ℕ → List ℕ → ℕ → ℕ → List ℕ
 pairFlags first second n pairs = tabulate pairs (λ r. cond (bothAccept first second n r) 1 0)
 
--- the next states of pair r under m symbols: the pairs of its states' next ones
-unfoldable pub pairNext : List ℕ → List ℕ → ℕ → ℕ → ℕ → List ℕ
-pairNext first second n m r = tabulate m (λ e. pair n (goes first (r / n) e) (goes second (r % n) e))
+-- the next states of the pair of p and q under m symbols: the pairs of their next ones
+unfoldable pub pairNext : List ℕ → List ℕ → ℕ → ℕ → ℕ → ℕ → List ℕ
+pairNext first second n m p q = tabulate m (λ e. pair n (goes first p e) (goes second q e))
 
 -- those of each pair, 16 places for each
 unfoldable pub pairStates : List ℕ → List ℕ → ℕ → ℕ → ℕ → List ℕ
-pairStates first second n m pairs = rows pairs (λ r. pad 16 (pairNext first second n m r))
+pairStates first second n m pairs = rows pairs (λ r. pad 16 (pairNext first second n m (r / n) (r % n)))
+
+-- (their numbers are bytes)
+abbrev pub NextBytes : List ℕ → List ℕ → ℕ → ℕ → ℕ → ℕ → Type 0
+NextBytes first second n m p q = (e : ℕ) → e < m → pair n (goes first p e) (goes second q e) < 256
+
+abbrev pub StatesBytes : List ℕ → List ℕ → ℕ → ℕ → ℕ → Type 0
+StatesBytes first second n m pairs = (r : ℕ) → r < pairs → NextBytes first second n m (r / n) (r % n)
 
 -- the first m symbols have the same classes
 unfoldable pub sameClasses : List ℕ → List ℕ → ℕ → Bool

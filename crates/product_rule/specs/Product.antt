@@ -43,12 +43,9 @@ productRefusal a b =
     (24, not (sameSymbols a b)) ∷
     (25, ltb 32 (pairsCount a b)) ∷ [])
 
--- a refused answer has an all-zero record
-unfoldable pub refused : ℕ → Product
-refused row = record { refusal = row; automaton = blank }
-
+-- the answer; a refused one has an all-zero record
 unfoldable pub productAnswer : Automaton → Automaton → Product
 productAnswer a b =
     cond (eqb (productRefusal a b) 0)
     (record { refusal = 0; automaton = productOf a b })
-    (refused (productRefusal a b))
+    (record { refusal = productRefusal a b; automaton = blank })
