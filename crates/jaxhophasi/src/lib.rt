@@ -30,6 +30,7 @@ use configuration::Configuration;
 ghost use mathlib.Core.Path.{_≡_};
 ghost use Rattle.automaton_format.specs.Reading.{parse};
 ghost use Rattle.automaton_format.specs.Writing.{writeAnswer, writeBuffer};
+ghost use Rattle.product_rule.specs.Product.{productAnswer};
 ghost use Rattle.solver_answers.specs.Solving.{solution, solvedTable, countAnswer};
 ghost use Rattle.configuration.specs.Configuration.{initialAnswer};
 ghost use Rattle.monitor_answers.specs.Answers.{status};
@@ -71,6 +72,23 @@ pub extern "C" fn jaxhophasi_write(
     let written = automaton_write::write(automaton_of(automaton), out);
     *length = number_bytes(written.length);
     written.refusal
+}
+
+// The product of two automata (document 02, Card 6: two sheets merged into one). Refused, the
+// bytes of the record become 0.
+#[no_mangle]
+pub extern "C" fn jaxhophasi_product(
+    first: &[u8; AUTOMATON_SIZE],
+    second: &[u8; AUTOMATON_SIZE],
+    automaton: &mut [u8; AUTOMATON_SIZE],
+) -> u8
+    ensures { λ r. let x = productAnswer (automatonOf (now (first .entry))) (automatonOf (now (second .entry))) in
+        ⌜ (r ≡ x .refusal) × (now (automaton .exit) ≡ automatonBytes (x .automaton)) ⌝ }
+{
+    let answer = product::product(automaton_of(first), automaton_of(second));
+    let merged = answer.automaton;
+    *automaton = automaton_bytes(merged);
+    answer.refusal
 }
 
 // How many buffers (document 01's held lists) there are: T. The table takes 2 T places.

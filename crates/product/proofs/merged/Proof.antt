@@ -42,10 +42,11 @@ pair-states-requires : tie.Need-pair-states-requires
 pair-states-requires c κs =
     let u = counted c in
     let s = u .before .before in
-    let few = few-pairs _ _ (s .pre) in
-    ((omega (arith, second-facts _ _ (s .pre) .states-low), omega (arith, c .as-usize3 .ensures .0, first-facts _ _ (s .pre) .symbols-high), omega (arith, pairs-are u, few)),
-    subst (λ m. Bytes s m (u .as-usize2 .result * u .before .as-usize .result)) (sym (c .as-usize3 .ensures .0))
-    (subst (Bytes s (s .args .t1 .symbols)) (sym (pairs-are u)) (next-bytes _ _ (s .pre))))
+    let few = few-pairs _ _ (s .pre) in (
+      (omega (arith, second-facts _ _ (s .pre) .states-low), omega (arith, c .as-usize3 .ensures .0, first-facts _ _ (s .pre) .symbols-high), omega (arith, pairs-are u, few)),
+      subst (λ m. Bytes s m (u .as-usize2 .result * u .before .as-usize .result)) (sym (c .as-usize3 .ensures .0))
+          (subst (Bytes s (s .args .t1 .symbols)) (sym (pairs-are u)) (next-bytes _ _ (s .pre))),
+    )
 
 cast-t9 : tie.Need-cast-t9
 cast-t9 c = let u = counted (c .before) in omega (arith, pairs-are u, few-pairs _ _ (u .before .before .pre))
