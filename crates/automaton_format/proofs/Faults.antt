@@ -13,9 +13,9 @@ use Rattle.base.specs.Pad.{pad}
 use Rattle.base.proofs.Bools.{by}
 use Rattle.varint.specs.declared.Number.{Number}
 use Rattle.varint.specs.Varint.{groups, read}
-use Rattle.automaton.specs.Automaton.{maxClass}
+use Rattle.automaton.specs.Automaton.{maxClass, blank}
 use Rattle.automaton_format.specs.declared.Parsed.{Parsed}
-use Rattle.automaton_format.specs.Claims.{RefusedInside}
+use Rattle.automaton_format.specs.Claims.{RefusedInside, RefusedBlank}
 use Rattle.automaton_format.specs.Reading.{checked, between, tally, itemRow, classRow, Numbers, numbers, nextStates, parsed, refused, afterNumber, afterNumbers, tables, automatonFrom, parse}
 
 -- a number of seven-bit groups
@@ -47,6 +47,7 @@ pub record Sound (end : ℕ) (p : Parsed) : Type 0 where
   pub row : p .refusal ≤ 10
   pub within : p .place ≤ end
   pub whole : p .refusal ≡ 0 → p ≡ parsed (p .automaton)
+  pub zeros : (p .refusal ≡ 0 → ⊥) → p .automaton ≡ blank
 
 -- numbers by a reader that stays inside
 module _ (from : ℕ → Number) (end : ℕ) where
@@ -85,7 +86,7 @@ module _ (from : ℕ → Number) (end : ℕ) where
     Fine p = Sound end p
 
     faulty : (row at : ℕ) → (row ≡ 0 → ⊥) → Inside row at → Fine (refused row at)
-    faulty row at z i = record { row = i .0; within = i .1; whole = λ e. absurd (z e) }
+    faulty row at z i = record { row = i .0; within = i .1; whole = λ e. absurd (z e); zeros = λ _. refl }
 
     after-number-sound : (n : Number) (go : ℕ → ℕ → Parsed) → Inside (n .refusal) (n .place) → ((v at : ℕ) → at ≤ end → Fine (go v at)) → Fine (afterNumber n go)
     unfolding afterNumber
@@ -110,7 +111,7 @@ module _ (from : ℕ → Number) (end : ℕ) where
         after-numbers-sound _ _ (next-states-inside (between 0 n 9) (λ v. between-row 0 n 9 v (omega arith)) m n [] at2 h2) λ next at3 h3.
         by (ltb at3 end)
         (λ e. rw e (faulty 10 at3 (λ z. omega arith) (omega arith, h3)))
-        (λ e. rw e (record { row = omega arith; within = omega arith; whole = λ _. refl }))
+        (λ e. rw e (record { row = omega arith; within = omega arith; whole = λ _. refl; zeros = λ z. absurd (z refl) }))
 
     from-sound : Fine (automatonFrom from maxClass end)
     unfolding automatonFrom
@@ -131,3 +132,6 @@ parse-sound s = from-sound (read s) (length s) (read-inside s)
 
 pub refused-inside : RefusedInside
 refused-inside s = (parse-sound s .row, parse-sound s .within)
+
+pub refused-blank : RefusedBlank
+refused-blank s = parse-sound s .zeros

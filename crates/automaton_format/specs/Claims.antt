@@ -5,7 +5,7 @@ use mathlib.Core.Bool.{true}
 use mathlib.Core.List.{List}
 use lib.ListN.{length}
 use Rattle.automaton.specs.declared.Automaton.{Automaton}
-use Rattle.automaton.specs.Automaton.{valid}
+use Rattle.automaton.specs.Automaton.{valid, blank}
 use Rattle.automaton_format.specs.Reading.{parsed, parse}
 use Rattle.automaton_format.specs.Writing.{recordBytes}
 
@@ -26,3 +26,7 @@ ReadAgain =
 -- a fault's row is one of the first ten, and its place is within the bytes or at their end
 abbrev pub RefusedInside : Type 0
 RefusedInside = (s : List ℕ) → (parse s .refusal ≤ 10) × (parse s .place ≤ length s)
+
+-- a refused read hands back an all-zero record
+abbrev pub RefusedBlank : Type 0
+RefusedBlank = (s : List ℕ) → (parse s .refusal ≡ 0 → ⊥) → parse s .automaton ≡ blank

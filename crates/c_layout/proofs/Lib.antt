@@ -6,3 +6,4 @@ pub mod Offsets
 pub mod ClientCalls
 pub mod Handing
 pub mod FeedCalls
+pub mod Records

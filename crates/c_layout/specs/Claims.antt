@@ -7,6 +7,8 @@ use mathlib.Core.List.{List, [], _∷_}
 use lib.ListN.{length, getD, take, replicate}
 use Rattle.automaton.specs.declared.Automaton.{Automaton}
 use Rattle.automaton.specs.Automaton.{class, flag, step, shaped}
+use Rattle.automaton_format.specs.Reading.{parse}
+use Rattle.product_rule.specs.Product.{productAnswer}
 use Rattle.configuration_places.specs.declared.InputPlace.{InputPlace}
 use Rattle.configuration_places.specs.Places.{inputPlace, inputNumber, outputNumber}
 use Rattle.configuration.specs.declared.Configuration.{Configuration}
@@ -157,6 +159,17 @@ AutomatonKept = (a : Automaton) → shaped a ≡ true → automatonOf (automaton
 
 abbrev pub AutomatonBytesKept : Type 0
 AutomatonBytesKept = (bytes : List ℕ) → length bytes ≡ automatonSize → automatonBytes (automatonOf bytes) ≡ bytes
+
+-- what a product leaves in its bytes is what the next call takes out of them, refused or not
+abbrev pub ProductHandedOn : Type 0
+ProductHandedOn = (a b : Automaton) → let c = productAnswer a b .automaton in automatonOf (automatonBytes c) ≡ c
+
+-- a refused call that answers with a record leaves 0 in each of its bytes
+pub record RefusedRecordsZero : Type 0 where
+  pub read : (bytes : List ℕ) → (parse bytes .refusal ≡ 0 → ⊥)
+      → automatonBytes (parse bytes .automaton) ≡ replicate automatonSize 0
+  pub product : (a b : Automaton) → (productAnswer a b .refusal ≡ 0 → ⊥)
+      → automatonBytes (productAnswer a b .automaton) ≡ replicate automatonSize 0
 
 -- so does a configuration
 abbrev pub ConfigurationKept : Type 0

@@ -1,3 +1,9 @@
-pub mod Filling
+pub mod Pairs
+pub mod Arrays
 pub mod Rows
+pub mod Merged
+pub mod Runs
+pub mod Rests
+pub mod Converse
+pub mod Filling
 pub mod Answers

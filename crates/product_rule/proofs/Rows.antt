@@ -64,7 +64,7 @@ module _ (a b : Automaton) where
   not-many : (many ≡ false) ↔ (pairsCount a b ≤ 32)
   not-many = (ltb-false 32 (pairsCount a b), le-ltb 32 (pairsCount a b))
 
-  -- the rows after the second 11, and after the first
+  -- the rows from 25 on, from 24 on, and from the second 11 on
   abbrev from-25 : List (ℕ × Bool)
   from-25 = (25, many) ∷ []
 
@@ -74,13 +74,7 @@ module _ (a b : Automaton) where
   abbrev second-11 : List (ℕ × Bool)
   second-11 = (11, not (valid b)) ∷ from-24
 
-  -- rows 24 and 25 give no other number
-  nothing-but : (m : ℕ) → (24 ≡ m → ⊥) → (25 ≡ m → ⊥) → (0 ≡ m → ⊥) → first from-24 ≡ m → ⊥
-  unfolding first
-  nothing-but m n24 n25 n0 =
-      first-never 24 (not (sameSymbols a b)) from-25 m n24 (first-never 25 many [] m n25 n0)
-
-  -- another number than 11 is that of the rows after both
+  -- another number than 11 is that of the rows after both 11s
   after-11 : {Z : Type 0} (m : ℕ) → (11 ≡ m → ⊥) → ((first from-24 ≡ m) ↔ Z) → (productRefusal a b ≡ m) ↔ ((valid a ≡ true) × (valid b ≡ true) × Z)
   unfolding productRefusal
   after-11 m other z =
@@ -89,7 +83,7 @@ module _ (a b : Automaton) where
       (λ _. first-later 11 (not (valid b)) from-24 (contrary (valid b) .0) (contrary (valid b) .1) m other (λ _. z)))
       (λ (va, (vb, x)). (va, vb, x), λ (va, vb, x). (va, (vb, x)))
 
-  -- and another than 24 is that of the row after them
+  -- and another than 24 that of the row after it
   after-24 : {Z : Type 0} (m : ℕ) → (11 ≡ m → ⊥) → (24 ≡ m → ⊥) → ((first from-25 ≡ m) ↔ Z) → (productRefusal a b ≡ m) ↔ (Alike a b × Z)
   after-24 m n11 n24 z =
       Iff·trans (after-11 m n11 (first-later 24 (not (sameSymbols a b)) from-25 differ same m n24 (λ _. z))) (
@@ -97,15 +91,20 @@ module _ (a b : Automaton) where
         λ (k, x). (k .first-valid, k .second-valid, ((k .same-number, k .same-class), x)),
       )
 
-  -- 11 for the first or for the second
+  -- 11 stands for the first or for the second; no later row gives it
+  not-11 : first from-24 ≡ 11 → ⊥
+  unfolding first
+  not-11 = first-never 24 (not (sameSymbols a b)) from-25 11 (λ h. omega arith) (first-never 25 many [] 11 (λ h. omega arith) (λ h. omega arith))
+
   row-11 : (productRefusal a b ≡ 11) ↔ ((valid a ≡ false) ⊎ (valid b ≡ false))
   unfolding productRefusal
   row-11 =
-      let never = nothing-but 11 (λ h. omega arith) (λ h. omega arith) (λ h. omega arith) in
-      let second = first-own 11 (not (valid b)) from-24 (contrary (valid b) .0) (contrary (valid b) .1) never in (
-        λ h. by (valid a) (λ v. inr (second .0 (sym (first-passes 11 (not (valid a)) second-11 (contrary (valid a) .1 .1 v)) ∙ h))) inl,
+      let passed : valid a ≡ true → first ((11, not (valid a)) ∷ second-11) ≡ first second-11 = λ v.
+      first-passes 11 (not (valid a)) second-11 (contrary (valid a) .1 .1 v) in
+      let second = first-own 11 (not (valid b)) from-24 (contrary (valid b) .0) (contrary (valid b) .1) not-11 in (
+        λ h. by (valid a) (λ v. inr (second .0 (sym (passed v) ∙ h))) inl,
         λ x. by (valid a)
-            (λ v. first-passes 11 (not (valid a)) second-11 (contrary (valid a) .1 .1 v) ∙ second .1 (either x (λ f. absurd (clash v f)) (λ f. f)))
+            (λ v. passed v ∙ second .1 (either x (λ f. absurd (clash v f)) (λ f. f)))
             (λ f. first-stands 11 (not (valid a)) second-11 (contrary (valid a) .0 .1 f)),
       )
 

@@ -4,7 +4,7 @@ use mathlib.Core.Path.{_≡_}
 use mathlib.Core.Bool.{true}
 use mathlib.Core.List.{List, [], _∷_, _++_}
 use native.Mathlib.Omega.{arith}
-use lib.ListN.{length, drop, length-drop, length-append}
+use lib.ListN.{drop, length-drop}
 use Rattle.automaton.specs.declared.Automaton.{Automaton}
 use Rattle.automaton.specs.Automaton.{controllable}
 use Rattle.solver_sets.specs.Table.{Controllable, Buffer}
@@ -22,7 +22,3 @@ module _ (a : Automaton) where
   -- what is left after a front part
   pub buffer-drop : (k : ℕ) (w : List ℕ) → Buffer a w → Buffer a (drop k w)
   buffer-drop k w b = (controllable-drop k w (b .0), omega (arith, length-drop k w, b .1))
-
-  -- one more at the end, where there is room
-  pub buffer-end : (w : List ℕ) (e : ℕ) → Buffer a w → e < a .symbols → controllable a e ≡ true → length w < a .capacity → Buffer a (w ++ e ∷ [])
-  buffer-end w e b l h r = (controllable-end w e (b .0) l h, omega (arith, length-append w (e ∷ [])))

@@ -1,0 +1,92 @@
+-- Where the product may rest, each part may: each is an image of it.
+use Prim.Native.Nat.{ℕ, _/_, _%_, _<_}
+use mathlib.Core.Path.{_≡_, sym, _∙_, ap, subst}
+use mathlib.Core.List.{List}
+use native.Mathlib.Omega.{arith}
+use Rattle.base.specs.All.{AllOf}
+use Rattle.automaton.specs.declared.Automaton.{Automaton}
+use Rattle.automaton.specs.Automaton.{class, controllable, uncontrollable, step}
+use Rattle.solver_sets.specs.Definition6.{Union, Final, Uncontrollable}
+use Rattle.solver_sets.specs.Claims.{Winning, Intermediate, Projects}
+use Rattle.solver_sets.proofs.Total.{total}
+use Rattle.solver_sets.proofs.Projection.{images-rest}
+use Rattle.product_rule.specs.Pairs.{pair}
+use Rattle.product_rule.specs.Product.{productOf}
+use Rattle.product_rule.specs.Claims.{Alike, Merges, Symbols, PartsRest}
+use Rattle.product_rule.proofs.Pairs.{pair-first, pair-second, pair-below, of-pairs}
+use Rattle.product_rule.proofs.Rows.{alike}
+use Rattle.product_rule.proofs.Merged.{product-merges}
+
+-- the same symbols, of the same classes
+free-too : (c a : Automaton) → c .symbols ≡ a .symbols → ((e : ℕ) → class c e ≡ class a e) → (e : ℕ) → Uncontrollable a e → Uncontrollable c e
+unfolding uncontrollable controllable
+free-too c a symbols classes e (l, u) = (omega arith, rw (classes e) u)
+
+-- any record that is the two merged
+module _ (a b c : Automaton) (k : Alike a b) (m : Merges a b c) where
+  abbrev n : ℕ
+  n = b .states
+
+  -- what holds of each pair holds of each of its states
+  of-states : (P : ℕ → Type 0) → ((p q : ℕ) → p < a .states → q < n → P (pair n p q)) → (r : ℕ) → r < c .states → P r
+  of-states P f r l = of-pairs (a .states) n r (omega (arith, m .states)) P f
+
+  -- where a symbol leads from a pair: to the pair of where it leads from both
+  module _ (p q e : ℕ) (lp : p < a .states) (lq : q < n) (le : e < c .symbols) where
+    pair-next : step c (pair n p q) e ≡ pair n (step a p e) (step b q e)
+    pair-next = m .next p q e lp lq (omega (arith, m .symbols .0))
+
+    second-next : step b q e < n
+    second-next = total b (k .second-valid) q e
+
+    first-steps : step c (pair n p q) e / n ≡ step a (pair n p q / n) e
+    first-steps =
+        ap (λ r. r / n) pair-next ∙ pair-first n (step a p e) (step b q e) second-next ∙ ap (λ r. step a r e) (sym (pair-first n p q lq))
+
+    second-steps : step c (pair n p q) e % n ≡ step b (pair n p q % n) e
+    second-steps =
+        ap (λ r. r % n) pair-next ∙ pair-second n (step a p e) (step b q e) second-next ∙ ap (λ r. step b r e) (sym (pair-second n p q lq))
+
+  first-projects : Projects c a (λ r. r / n)
+  first-projects =
+      record {
+        below = of-states (λ r. r / n < a .states) (λ p q lp lq. rw (pair-first n p q lq) lp);
+        steps = λ r e l le. of-states (λ r. step c r e / n ≡ step a (r / n) e) (λ p q lp lq. first-steps p q e lp lq le) r l;
+        final = of-states (λ r. Final c r → Final a (r / n)) (λ p q lp lq h. rw (pair-first n p q lq) (m .accepting p q lp lq .0 h .0));
+        free = free-too c a (m .symbols .0) (λ e. m .classes e .0);
+      }
+
+  second-projects : Projects c b (λ r. r % n)
+  second-projects =
+      record {
+        below = of-states (λ r. r % n < n) (λ p q lp lq. rw (pair-second n p q lq) lq);
+        steps = λ r e l le. of-states (λ r. step c r e % n ≡ step b (r % n) e) (λ p q lp lq. second-steps p q e lp lq le) r l;
+        final = of-states (λ r. Final c r → Final b (r % n)) (λ p q lp lq h. rw (pair-second n p q lq) (m .accepting p q lp lq .0 h .1));
+        free = free-too c b (m .symbols .1) (λ e. m .classes e .1);
+      }
+
+  module _ (w : List ℕ) (s : Symbols a w) (p q : ℕ) (lp : p < a .states) (lq : q < n) where
+    abbrev r : ℕ
+    r = pair n p q
+
+    below : r < c .states
+    below = omega (arith, m .states, pair-below n p q lq (a .states) lp)
+
+    -- of its symbols too
+    held : AllOf (λ e. e < c .symbols) w
+    held = subst (λ i. AllOf (λ e. e < i) w) (sym (m .symbols .0)) s
+
+    first-rests : (Winning c w r → Winning a w p) × (Union (Winning c w) (Intermediate c w) r → Union (Winning a w) (Intermediate a w) p)
+    first-rests =
+        rw (pair-first n p q lq) at (images-rest c a (m .passes) (k .first-valid) (λ r. r / n) first-projects w held r below)
+
+    second-rests : (Winning c w r → Winning b w q) × (Union (Winning c w) (Intermediate c w) r → Union (Winning b w) (Intermediate b w) q)
+    second-rests =
+        rw (pair-second n p q lq) at (images-rest c b (m .passes) (k .second-valid) (λ r. r % n) second-projects w held r below)
+
+    parts : (Winning c w r → Winning a w p × Winning b w q)
+        × (Union (Winning c w) (Intermediate c w) r → Union (Winning a w) (Intermediate a w) p × Union (Winning b w) (Intermediate b w) q)
+    parts = (λ h. (first-rests .0 h, second-rests .0 h), λ h. (first-rests .1 h, second-rests .1 h))
+
+pub parts-rest : PartsRest
+parts-rest a b z = parts a b (productOf a b) (alike a b z) (product-merges a b z)
