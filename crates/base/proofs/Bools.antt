@@ -1,9 +1,10 @@
 -- Case analysis on tests.
-use Prim.Native.Nat.{ℕ}
+use Prim.Native.Nat.{ℕ, _≤_}
 use mathlib.Core.Path.{_≡_, refl, sym, _∙_}
 use mathlib.Core.Logic.{_⊎_, inl, inr}
-use mathlib.Core.Bool.{Bool, true, false, _&&_, _||_}
+use mathlib.Core.Bool.{Bool, true, false, cond, _&&_, _||_}
 use native.Mathlib.Omega.{arith}
+use lib.Dec.{eqb}
 
 -- by the two values of a test, each remembered
 pub by {ℓ} : {A : Type ℓ} (b : Bool) → (b ≡ true → A) → (b ≡ false → A) → A
@@ -63,3 +64,10 @@ or-neither false b h = (refl, h)
 -- two tests that hold together are equal
 pub same-test : (a b : Bool) → (a ≡ true → b ≡ true) → (b ≡ true → a ≡ true) → a ≡ b
 same-test a b f g = by a (λ p. p ∙ sym (f p)) (λ p. by b (λ q. absurd (clash (g q) p)) (λ q. p ∙ sym q))
+
+-- a test as 1 or 0
+pub flag-low : (t : Bool) → cond t 1 0 ≤ 1
+flag-low t = by t (λ h. rw h (omega arith)) (λ h. rw h (omega arith))
+
+pub flag-tests : (t : Bool) → eqb (cond t 1 0) 1 ≡ t
+flag-tests t = by t (λ h. rw h) (λ h. rw h)

@@ -1,24 +1,15 @@
 -- The arrays of the product, from those of the parts.
 use Prim.Native.Nat.{ℕ, _+_, _*_, _/_, _%_, _<_, _≤_}
 use mathlib.Core.Path.{_≡_, _∙_}
-use mathlib.Core.Bool.{Bool, cond}
+use mathlib.Core.Bool.{cond}
 use mathlib.Core.List.{List}
 use native.Mathlib.Omega.{arith}
 use lib.ListN.{length, getD}
-use lib.Dec.{eqb}
 use Rattle.base.specs.Pad.{pad}
-use Rattle.base.proofs.Bools.{by}
 use Rattle.base.proofs.Padding.{pad-length, pad-inside, pad-outside}
 use Rattle.base.proofs.Tabulation.{tabulate-length, tabulate-at, rows-length, rows-at}
 use Rattle.automaton.specs.Arrays.{goes}
 use Rattle.product_rule.specs.Pairs.{pair, bothAccept, pairFlags, pairNext, pairStates}
-
--- a flag is 0 or 1, and says its test
-pub flag-low : (t : Bool) → cond t 1 0 ≤ 1
-flag-low t = by t (λ h. rw h (omega arith)) (λ h. rw h (omega arith))
-
-pub flag-tests : (t : Bool) → eqb (cond t 1 0) 1 ≡ t
-flag-tests t = by t (λ h. rw h) (λ h. rw h)
 
 module _ (first second : List ℕ) (n pairs : ℕ) where
   -- flags

@@ -7,19 +7,19 @@ use native.Mathlib.Nat.{mul-pos, le-antisymm, min-le-left, min-le-right, min-eq-
 use native.Mathlib.Omega.{arith}
 use lib.Dec.{eqb, ltb, leb}
 use borrow.Author.Tests.{ltb-true, ltb-false, leb-true, leb-false}
-use Rattle.base.proofs.Bools.{by, either, and-pair, and-both}
+use Rattle.base.proofs.Bools.{by, either, and-pair, and-both, flag-low, flag-tests}
 use Rattle.automaton.specs.declared.Automaton.{Automaton}
 use Rattle.automaton.specs.Arrays.{acceptingAt}
 use Rattle.automaton.specs.Automaton.{class, flag, controllables, accepts, step}
 use Rattle.automaton.proofs.Facts.{Valid, valid-facts, valid-of}
+use Rattle.automaton.proofs.Equality.{same-record}
 use Rattle.solver_sets.specs.Definition6.{Final}
 use Rattle.product_rule.specs.Pairs.{pair, bothAccept}
 use Rattle.product_rule.specs.Product.{pairsCount, productOf, productRefusal}
 use Rattle.product_rule.specs.Claims.{Alike, Merges, ProductAsWorded}
 use Rattle.product_rule.proofs.Pairs.{pair-first, pair-second, pair-below, first-below, second-below, of-pairs}
-use Rattle.product_rule.proofs.Arrays.{flag-low, flag-tests, flags-at, flags-past, flags-size, next-at, next-no-symbol, next-no-pair, states-size}
+use Rattle.product_rule.proofs.Arrays.{flags-at, flags-past, flags-size, next-at, next-no-symbol, next-no-pair, states-size}
 use Rattle.product_rule.proofs.Rows.{product-rows-as-worded}
-use Rattle.automaton.proofs.Equality.{same-record}
 
 -- the smaller of two numbers is one of them
 min-one : (m n : ℕ) → (min m n ≡ m) ⊎ (min m n ≡ n)

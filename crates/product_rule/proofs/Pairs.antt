@@ -6,6 +6,7 @@ use native.Mathlib.Omega.{arith}
 use lib.Arith.{digits-lt, digits-div, digits-mod}
 use Rattle.product_rule.specs.Pairs.{pair}
 
+-- the parts of a pair, and its range
 module _ (n p q : ℕ) (l : q < n) where
   pub pair-first : pair n p q / n ≡ p
   pair-first = digits-div p l

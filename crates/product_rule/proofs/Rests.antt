@@ -5,11 +5,11 @@ use mathlib.Core.List.{List}
 use native.Mathlib.Omega.{arith}
 use Rattle.base.specs.All.{AllOf}
 use Rattle.automaton.specs.declared.Automaton.{Automaton}
-use Rattle.automaton.specs.Automaton.{class, controllable, uncontrollable, step}
-use Rattle.solver_sets.specs.Definition6.{Union, Final, Uncontrollable}
+use Rattle.automaton.specs.Automaton.{step}
+use Rattle.solver_sets.specs.Definition6.{Union, Final}
 use Rattle.solver_sets.specs.Claims.{Winning, Intermediate, Projects}
 use Rattle.solver_sets.proofs.Total.{total}
-use Rattle.solver_sets.proofs.Projection.{images-rest}
+use Rattle.solver_sets.proofs.Projection.{same-free, images-rest}
 use Rattle.product_rule.specs.Pairs.{pair}
 use Rattle.product_rule.specs.Product.{productOf}
 use Rattle.product_rule.specs.Claims.{Alike, Merges, Symbols, PartsRest}
@@ -17,17 +17,12 @@ use Rattle.product_rule.proofs.Pairs.{pair-first, pair-second, pair-bel
 use Rattle.product_rule.proofs.Rows.{alike}
 use Rattle.product_rule.proofs.Merged.{product-merges}
 
--- the same symbols, of the same classes
-free-too : (c a : Automaton) → c .symbols ≡ a .symbols → ((e : ℕ) → class c e ≡ class a e) → (e : ℕ) → Uncontrollable a e → Uncontrollable c e
-unfolding uncontrollable controllable
-free-too c a symbols classes e (l, u) = (omega arith, rw (classes e) u)
-
 -- any record that is the two merged
 module _ (a b c : Automaton) (k : Alike a b) (m : Merges a b c) where
   abbrev n : ℕ
   n = b .states
 
-  -- what holds of each pair holds of each of its states
+  -- what holds of each pair holds of each state of the merged record
   of-states : (P : ℕ → Type 0) → ((p q : ℕ) → p < a .states → q < n → P (pair n p q)) → (r : ℕ) → r < c .states → P r
   of-states P f r l = of-pairs (a .states) n r (omega (arith, m .states)) P f
 
@@ -53,7 +48,7 @@ module _ (a b c : Automaton) (k : Alike a b) (m : Merges a b c) where
         below = of-states (λ r. r / n < a .states) (λ p q lp lq. rw (pair-first n p q lq) lp);
         steps = λ r e l le. of-states (λ r. step c r e / n ≡ step a (r / n) e) (λ p q lp lq. first-steps p q e lp lq le) r l;
         final = of-states (λ r. Final c r → Final a (r / n)) (λ p q lp lq h. rw (pair-first n p q lq) (m .accepting p q lp lq .0 h .0));
-        free = free-too c a (m .symbols .0) (λ e. m .classes e .0);
+        free = same-free c a (m .symbols .0) (λ e. m .classes e .0);
       }
 
   second-projects : Projects c b (λ r. r % n)
@@ -62,9 +57,10 @@ module _ (a b c : Automaton) (k : Alike a b) (m : Merges a b c) where
         below = of-states (λ r. r % n < n) (λ p q lp lq. rw (pair-second n p q lq) lq);
         steps = λ r e l le. of-states (λ r. step c r e % n ≡ step b (r % n) e) (λ p q lp lq. second-steps p q e lp lq le) r l;
         final = of-states (λ r. Final c r → Final b (r % n)) (λ p q lp lq h. rw (pair-second n p q lq) (m .accepting p q lp lq .0 h .1));
-        free = free-too c b (m .symbols .1) (λ e. m .classes e .1);
+        free = same-free c b (m .symbols .1) (λ e. m .classes e .1);
       }
 
+  -- both images, at one pair
   module _ (w : List ℕ) (s : Symbols a w) (p q : ℕ) (lp : p < a .states) (lq : q < n) where
     abbrev r : ℕ
     r = pair n p q
@@ -72,7 +68,7 @@ module _ (a b c : Automaton) (k : Alike a b) (m : Merges a b c) where
     below : r < c .states
     below = omega (arith, m .states, pair-below n p q lq (a .states) lp)
 
-    -- of its symbols too
+    -- the list is of its symbols too
     held : AllOf (λ e. e < c .symbols) w
     held = subst (λ i. AllOf (λ e. e < i) w) (sym (m .symbols .0)) s
 

@@ -120,6 +120,18 @@ module _ (a b : Automaton) where
   unfolding first
   none = Iff·trans (first-later 25 many [] too-many not-many 0 (λ h. omega arith) (λ _. Iff·rfl)) (λ (l, _). l, λ l. (l, refl))
 
+  -- there is no other number
+  known : (productRefusal a b ≡ 0) ⊎ (productRefusal a b ≡ 11) ⊎ (productRefusal a b ≡ 24) ⊎ (productRefusal a b ≡ 25)
+  unfolding first productRefusal
+  known =
+      by (valid a)
+      (λ va. by (valid b)
+      (λ vb. by (sameSymbols a b)
+      (λ s. by many (λ m. rw (va, vb, s, m) (inr (inr (inr refl)))) (λ m. rw (va, vb, s, m) (inl refl)))
+      (λ s. rw (va, vb, s) (inr (inr (inl refl)))))
+      (λ vb. rw (va, vb) (inr (inl refl))))
+      (λ va. rw va (inr (inl refl)))
+
 pub product-rows-as-worded : ProductRowsAsWorded
 product-rows-as-worded a b =
     record {
@@ -127,6 +139,7 @@ product-rows-as-worded a b =
       row-24 = after-11 a b 24 (λ h. omega arith) (row-24 a b);
       row-25 = after-24 a b 25 (λ h. omega arith) (λ h. omega arith) (row-25 a b);
       none = after-24 a b 0 (λ h. omega arith) (λ h. omega arith) (none a b);
+      known = known a b;
     }
 
 -- where no row stands

@@ -31,6 +31,7 @@ pub record ProductRows (a b : Automaton) (n : ℕ) : Type 0 where
   pub row-24 : (n ≡ 24) ↔ ((valid a ≡ true) × (valid b ≡ true) × SymbolsDiffer a b)
   pub row-25 : (n ≡ 25) ↔ (Alike a b × (32 < a .states * b .states))
   pub none : (n ≡ 0) ↔ (Alike a b × (a .states * b .states ≤ 32))
+  pub known : (n ≡ 0) ⊎ (n ≡ 11) ⊎ (n ≡ 24) ⊎ (n ≡ 25)
 
 abbrev pub ProductRowsAsWorded : Type 0
 ProductRowsAsWorded = (a b : Automaton) → ProductRows a b (productRefusal a b)

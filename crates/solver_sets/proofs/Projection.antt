@@ -3,15 +3,21 @@ use Prim.Native.Nat.{ℕ, _<_}
 use mathlib.Core.Path.{_≡_, refl, _∙_, ap, subst}
 use mathlib.Core.Logic.{inl, inr}
 use mathlib.Core.List.{List, [], _∷_}
+use native.Mathlib.Omega.{arith}
 use Rattle.base.specs.All.{AllOf}
 use Rattle.base.proofs.Bools.{either}
 use Rattle.automaton.specs.declared.Automaton.{Automaton}
-use Rattle.automaton.specs.Automaton.{step}
-use Rattle.solver_sets.specs.Definition6.{States, Union, Final}
+use Rattle.automaton.specs.Automaton.{class, controllable, uncontrollable, step}
+use Rattle.solver_sets.specs.Definition6.{States, Union, Final, Uncontrollable}
 use Rattle.solver_sets.specs.Claims.{Winning, Intermediate, Projects, ImagesRest}
 use Rattle.solver_sets.proofs.Total.{Total, total}
 use Rattle.solver_sets.proofs.Largest.{sets-are}
 use Rattle.solver_sets.proofs.Growth.{none-intermediate, intermediate-first, first-intermediate}
+
+-- over the same symbols, of the same classes, those that may not be held back are the same
+pub same-free : (c a : Automaton) → c .symbols ≡ a .symbols → ((e : ℕ) → class c e ≡ class a e) → (e : ℕ) → Uncontrollable a e → Uncontrollable c e
+unfolding uncontrollable controllable
+same-free c a symbols classes e (l, u) = (omega arith, rw (classes e) u)
 
 module _ (c a : Automaton) (tc : Total c) (ta : Total a) (π : ℕ → ℕ) (p : Projects c a π) where
   -- the states that one of X is mapped to
