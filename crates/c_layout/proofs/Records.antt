@@ -1,5 +1,5 @@
 -- The records that calls answer with, in their bytes.
-use mathlib.Core.Path.{_≡_, refl, sym, _∙_, ap}
+use mathlib.Core.Path.{_≡_, refl, _∙_, ap}
 use mathlib.Core.Bool.{true}
 use lib.ListN.{replicate}
 use lib.Dec.{eqb}

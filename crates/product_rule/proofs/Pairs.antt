@@ -30,7 +30,7 @@ module _ (m n r : ℕ) (h : r < m * n) where
   pub second-below : r % n < n
   second-below = mod-lt r (some-second m n r h)
 
-  pair-parts : pair n (r / n) (r % n) ≡ r
+  pub pair-parts : pair n (r / n) (r % n) ≡ r
   pair-parts = div-add-mod' r n
 
   -- so what holds of each pair holds of it

@@ -1,8 +1,7 @@
-use mathlib.Core.Path.{_≡_, sym, _∙_, ap, ap₂}
+use mathlib.Core.Path.{sym, _∙_, ap, ap₂}
 use Prim.Native.Nat.{ℕ}
 use Rattle.automaton.specs.declared.Automaton.{Automaton}
 use Rattle.product_rule.specs.declared.Product.{Product}
-use Rattle.product_rule.specs.Product.{productRefusal}
 use Rattle.product_rule.proofs.Rows.{product-answered-as-worded}
 use borrow.Author.Needs.{needs}
 use Rattle.product.proofs.product.Statement.{statement}
