@@ -1,4 +1,4 @@
--- Laws of `tabulate` and `rows`.
+-- Laws of `tabulate` and `blocks`.
 use Prim.Native.Nat.{ℕ, zero, suc, _+_, _*_, _<_}
 use mathlib.Core.Path.{_≡_, refl, sym, _∙_, ap}
 use mathlib.Core.List.{List, [], _∷_, _++_}
@@ -10,7 +10,7 @@ use lib.Seq.{getD-at, getD-append-add}
 use lib.Arith.{digits-lt}
 use lib.Dec.{ltb}
 use borrow.Author.Tests.{ltb-true, ltb-false}
-use Rattle.base.specs.Tabulate.{tabulate, rows}
+use Rattle.base.specs.Tabulate.{tabulate, blocks}
 use Rattle.base.proofs.Bools.{by}
 
 pub tabulate-length : (n : ℕ) (f : ℕ → ℕ) → length (tabulate n f) ≡ n
@@ -33,27 +33,27 @@ tabulate-at (suc n) f i h =
     let e : i ≡ n = omega (arith, ltb-false i n u) in
     getD-at (tabulate n f) (f n) [] 0 i (omega arith) ∙ ap f (sym e))
 
-pub rows-more : (n : ℕ) (f : ℕ → List ℕ) → rows (n + 1) f ≡ rows n f ++ f n
-unfolding rows
-rows-more n f = rw (add-one n)
+pub blocks-more : (n : ℕ) (f : ℕ → List ℕ) → blocks (n + 1) f ≡ blocks n f ++ f n
+unfolding blocks
+blocks-more n f = rw (add-one n)
 
--- rows of one width
+-- blocks of one width
 module _ (w : ℕ) (f : ℕ → List ℕ) (wide : (r : ℕ) → length (f r) ≡ w) where
-  pub rows-length : (n : ℕ) → length (rows n f) ≡ n * w
-  unfolding rows
-  rows-length zero = sym (zero-mul w)
-  rows-length (suc n) = length-append (rows n f) (f n) ∙ omega (arith, rows-length n, wide n, suc-mul n w)
+  pub blocks-length : (n : ℕ) → length (blocks n f) ≡ n * w
+  unfolding blocks
+  blocks-length zero = sym (zero-mul w)
+  blocks-length (suc n) = length-append (blocks n f) (f n) ∙ omega (arith, blocks-length n, wide n, suc-mul n w)
 
-  pub rows-at : (n r e : ℕ) → r < n → e < w → getD (rows n f) (r * w + e) 0 ≡ getD (f r) e 0
-  unfolding rows
-  rows-at zero r e h l = absurd (omega arith)
-  rows-at (suc n) r e h l =
-      let long : length (rows n f) ≡ n * w = rows-length n in
+  pub blocks-at : (n r e : ℕ) → r < n → e < w → getD (blocks n f) (r * w + e) 0 ≡ getD (f r) e 0
+  unfolding blocks
+  blocks-at zero r e h l = absurd (omega arith)
+  blocks-at (suc n) r e h l =
+      let long : length (blocks n f) ≡ n * w = blocks-length n in
       by (ltb r n)
       (λ u.
       let s : r < n = ltb-true r n u in
-      List·getD-append (rows n f) (f n) 0 (r * w + e) (omega (arith, digits-lt s l)) ∙ rows-at n r e s l)
+      List·getD-append (blocks n f) (f n) 0 (r * w + e) (omega (arith, digits-lt s l)) ∙ blocks-at n r e s l)
       (λ u.
       let s : r ≡ n = omega (arith, ltb-false r n u) in
-      let at : r * w + e ≡ length (rows n f) + e = rw (s, long) in
-      ap (λ i. getD (rows n f ++ f n) i 0) at ∙ getD-append-add (rows n f) (f n) e 0 ∙ ap (λ q. getD (f q) e 0) (sym s))
+      let at : r * w + e ≡ length (blocks n f) + e = rw (s, long) in
+      ap (λ i. getD (blocks n f ++ f n) i 0) at ∙ getD-append-add (blocks n f) (f n) e 0 ∙ ap (λ q. getD (f q) e 0) (sym s))

@@ -8,6 +8,6 @@ tabulate zero f = []
 tabulate (suc n) f = tabulate n f ++ f n ∷ []
 
 -- the lists f 0, f 1, .. up to f (n - 1), one behind the other
-unfoldable pub rows : ℕ → (ℕ → List ℕ) → List ℕ
-rows zero f = []
-rows (suc n) f = rows n f ++ f n
+unfoldable pub blocks : ℕ → (ℕ → List ℕ) → List ℕ
+blocks zero f = []
+blocks (suc n) f = blocks n f ++ f n

@@ -7,7 +7,7 @@ use native.Mathlib.Omega.{arith}
 use lib.ListN.{length, getD}
 use Rattle.base.specs.Pad.{pad}
 use Rattle.base.proofs.Padding.{pad-length, pad-inside, pad-outside}
-use Rattle.base.proofs.Tabulation.{tabulate-length, tabulate-at, rows-length, rows-at}
+use Rattle.base.proofs.Tabulation.{tabulate-length, tabulate-at, blocks-length, blocks-at}
 use Rattle.automaton.specs.Arrays.{goes}
 use Rattle.product_rule.specs.Pairs.{pair, bothAccept, pairFlags, pairNext, pairStates}
 
@@ -34,14 +34,14 @@ module _ (first second : List ℕ) (n pairs : ℕ) where
     abbrev next-of : ℕ → List ℕ
     next-of r = pairNext first second n m (r / n) (r % n)
 
-    abbrev row : ℕ → List ℕ
-    row r = pad 16 (next-of r)
+    abbrev block : ℕ → List ℕ
+    block r = pad 16 (next-of r)
 
     next-length : (r : ℕ) → length (next-of r) ≡ m
     unfolding pairNext
     next-length r = tabulate-length m _
 
-    wide : (r : ℕ) → length (row r) ≡ 16
+    wide : (r : ℕ) → length (block r) ≡ 16
     wide r = pad-length 16 (next-of r) (omega (arith, next-length r))
 
     abbrev states : List ℕ
@@ -49,13 +49,13 @@ module _ (first second : List ℕ) (n pairs : ℕ) where
 
     states-length : length states ≡ pairs * 16
     unfolding pairStates
-    states-length = rows-length 16 row wide pairs
+    states-length = blocks-length 16 block wide pairs
 
-    states-at : (r e : ℕ) → r < pairs → e < 16 → goes (pad 512 states) r e ≡ getD (row r) e 0
+    states-at : (r e : ℕ) → r < pairs → e < 16 → goes (pad 512 states) r e ≡ getD (block r) e 0
     unfolding pairStates
     states-at r e l h =
         pad-inside 512 states (r * 16 + e) (omega (arith, states-length)) ∙
-        rows-at 16 row wide pairs r e l h
+        blocks-at 16 block wide pairs r e l h
 
     pub next-at : (r e : ℕ) → r < pairs → e < m → goes (pad 512 states) r e ≡ pair n (goes first (r / n) e) (goes second (r % n) e)
     unfolding pairNext

@@ -9,7 +9,7 @@ use Rattle.base.specs.Each.{each, count}
 use Rattle.base.specs.Masks.{has, mask}
 use Rattle.base.specs.Pad.{pad}
 use Rattle.base.specs.Rows.{first}
-use Rattle.base.specs.Tabulate.{tabulate, rows}
+use Rattle.base.specs.Tabulate.{tabulate, blocks}
 use Rattle.base.proofs.Bools.{either, clash}
 use Rattle.automaton.specs.Arrays.{controllableIn, stands, placesStand}
 use Rattle.automaton.specs.Automaton.{controllable, accepts, step, shaped, ranged, classesStand, flagsStand, nextStand, valid}
@@ -25,7 +25,7 @@ resting = 0
 
 -- .. and those of the product
 unfoldable merging : ℕ
-unfolding tabulate rows pairFlags pairNext pairStates productOf
+unfolding tabulate blocks pairFlags pairNext pairStates productOf
 merging = 0
 
 merged : productRefusal sheetV silent ≡ 0

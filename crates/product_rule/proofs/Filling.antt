@@ -9,11 +9,11 @@ use lib.Seq.{sets}
 use lib.Dec.{eqb}
 use borrow.Author.Tests.{eq-eqb, ne-eqb}
 use Rattle.base.specs.Pad.{pad}
-use Rattle.base.specs.Tabulate.{tabulate, rows}
+use Rattle.base.specs.Tabulate.{tabulate, blocks}
 use Rattle.base.proofs.Padding.{pad-length, pad-set, pad-more}
 use Rattle.base.proofs.Ranges.{each-falls, each-keeps}
 use Rattle.base.proofs.Stores.{sets-more}
-use Rattle.base.proofs.Tabulation.{tabulate-length, tabulate-more, rows-length, rows-more}
+use Rattle.base.proofs.Tabulation.{tabulate-length, tabulate-more, blocks-length, blocks-more}
 use Rattle.automaton.specs.Arrays.{goes}
 use Rattle.product_rule.specs.Pairs.{pair, bothAccept, pairFlags, pairNext, pairStates, sameClasses}
 
@@ -71,7 +71,7 @@ module _ (first second : List ℕ) (n m r : ℕ) (next : List ℕ) (narrow : m �
       let list : ℕ → List ℕ = λ r. tabulate m (λ e. pair n (goes first (r / n) e) (goes second (r % n) e)) in
       let f : ℕ → List ℕ = λ r. pad 16 (list r) in
       let short : (r : ℕ) → length (list r) ≡ m = λ r. tabulate-length m (λ e. pair n (goes first (r / n) e) (goes second (r % n) e)) in
-      let long : length (rows r f) ≡ r * 16 = rows-length 16 f (λ r. pad-length 16 (list r) (omega (arith, short r))) r in
-      rw (so-far, rows-more r f)
-      (ap (λ i. sets (pad 512 (rows r f)) i (list r)) (sym long) ∙
-      pad-more 512 (rows r f) (list r) 16 (omega (arith, short r)) (omega arith))
+      let long : length (blocks r f) ≡ r * 16 = blocks-length 16 f (λ r. pad-length 16 (list r) (omega (arith, short r))) r in
+      rw (so-far, blocks-more r f)
+      (ap (λ i. sets (pad 512 (blocks r f)) i (list r)) (sym long) ∙
+      pad-more 512 (blocks r f) (list r) 16 (omega (arith, short r)) (omega arith))

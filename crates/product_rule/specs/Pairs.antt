@@ -7,7 +7,7 @@ use lib.ListN.{getD}
 use lib.Dec.{eqb}
 use Rattle.base.specs.Each.{each}
 use Rattle.base.specs.Pad.{pad}
-use Rattle.base.specs.Tabulate.{tabulate, rows}
+use Rattle.base.specs.Tabulate.{tabulate, blocks}
 use Rattle.automaton.specs.Arrays.{acceptingAt, goes}
 
 -- the number of a pair of states: first state × second count + second state
@@ -28,7 +28,7 @@ pairNext first second n m p q = tabulate m (λ e. pair n (goes first p e) (goes 
 
 -- those of each pair, 16 places for each
 unfoldable pub pairStates : List ℕ → List ℕ → ℕ → ℕ → ℕ → List ℕ
-pairStates first second n m pairs = rows pairs (λ r. pad 16 (pairNext first second n m (r / n) (r % n)))
+pairStates first second n m pairs = blocks pairs (λ r. pad 16 (pairNext first second n m (r / n) (r % n)))
 
 -- (their numbers are bytes)
 abbrev pub NextBytes : List ℕ → List ℕ → ℕ → ℕ → ℕ → ℕ → Type 0

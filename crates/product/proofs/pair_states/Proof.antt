@@ -3,7 +3,7 @@ use Prim.Native.Nat.{_≤_, _-_}
 use native.Mathlib.Nat.{div-le-self, mod-le}
 use lib.ListN.{length}
 use Rattle.base.specs.Pad.{pad}
-use Rattle.base.specs.Tabulate.{rows}
+use Rattle.base.specs.Tabulate.{blocks}
 use Rattle.product_rule.specs.Pairs.{pairStates}
 use Rattle.product_rule.proofs.Filling.{states-more}
 use native.Mathlib.Omega.{arith}
@@ -22,7 +22,7 @@ as-usize-requires : tie.Need-as-usize-requires Inv-loop μ-loop
 as-usize-requires c κs = search needs
 
 loop-holds : tie.Need-loop-holds Inv-loop μ-loop
-unfolding pad pairStates rows
+unfolding pad pairStates blocks
 loop-holds c = (omega arith, refl, refl)
 
 div-fill-pair : tie.Need-div-fill-pair Inv-loop μ-loop
