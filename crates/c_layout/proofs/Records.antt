@@ -1,20 +1,22 @@
 -- The records that calls answer with, in their bytes.
 use mathlib.Core.Path.{_≡_, refl, _∙_, ap}
+use Prim.Native.Nat.{ℕ}
 use mathlib.Core.Bool.{true}
+use mathlib.Core.List.{List}
 use lib.ListN.{replicate}
 use lib.Dec.{eqb}
 use borrow.Author.Tests.{eqb-true, eqb-false}
 use Rattle.base.proofs.Bools.{by, and-pair}
 use Rattle.automaton.specs.declared.Automaton.{Automaton}
 use Rattle.automaton.specs.Automaton.{shaped, valid, blank}
-use Rattle.automaton_format.proofs.Faults.{refused-blank}
-use Rattle.product_rule.specs.declared.Product.{Product}
-use Rattle.product_rule.specs.Product.{productOf, productRefusal, productAnswer}
-use Rattle.product_rule.proofs.Rows.{product-answered-as-worded}
-use Rattle.product_rule.proofs.Merged.{product-as-worded}
+use Rattle.automaton_format.specs.Reading.{parse}
+use Rattle.automaton_format.proofs.Faults.{parse-sound, refused-blank}
+use Rattle.automaton_format.proofs.Trips.{read-is-valid}
+use Rattle.product_rule.specs.Product.{productAnswer}
+use Rattle.product_rule.proofs.Merged.{product-answered-as-worded}
 use Rattle.c_layout.specs.Offsets.{automatonSize}
-use Rattle.c_layout.specs.Layout.{automatonOf, automatonBytes}
-use Rattle.c_layout.specs.Claims.{ProductHandedOn, RefusedRecordsZero}
+use Rattle.c_layout.specs.Layout.{automatonBytes}
+use Rattle.c_layout.specs.Claims.{AutomataHandedOn, RefusedAutomataZero}
 use Rattle.c_layout.proofs.Trips.{automaton-kept}
 
 blank-zeros : automatonBytes blank ≡ replicate automatonSize 0
@@ -29,23 +31,32 @@ blank-shaped : shaped blank ≡ true
 unfolding shaped
 blank-shaped = refl
 
--- the product, or the blank record
-module _ (a b : Automaton) (P : Automaton → Type 0) where
-  of-answer : (productRefusal a b ≡ 0 → P (productOf a b)) → P blank → P (productAnswer a b .automaton)
-  of-answer made none =
-      by (eqb (productRefusal a b) 0)
-      (λ e. let z = eqb-true _ _ e in rw (product-answered-as-worded a b .made z) (made z))
-      (λ e. rw (product-answered-as-worded a b .refused (eqb-false _ _ e)) none)
+-- what is answered: the product, which row 11 lets pass, or the blank record
+product-shaped : (a b : Automaton) → shaped (productAnswer a b .automaton) ≡ true
+product-shaped a b =
+    let x = productAnswer a b in
+    let k = product-answered-as-worded a b .0 in
+    by (eqb (x .refusal) 0)
+    (λ e. valid-shaped (x .automaton) (k .made (eqb-true (x .refusal) 0 e) .passes))
+    (λ e. rw (k .refused (eqb-false (x .refusal) 0 e)) blank-shaped)
 
-pub product-handed-on : ProductHandedOn
-product-handed-on a b =
-    of-answer a b (λ c. automatonOf (automatonBytes c) ≡ c)
-    (λ z. automaton-kept (productOf a b) (valid-shaped (productOf a b) (product-as-worded a b z .0 .passes)))
-    (automaton-kept blank blank-shaped)
+-- .. and by a read
+read-shaped : (s : List ℕ) → shaped (parse s .automaton) ≡ true
+read-shaped s =
+    by (eqb (parse s .refusal) 0)
+    (λ e. valid-shaped (parse s .automaton) (read-is-valid s (parse s .automaton) (parse-sound s .whole (eqb-true (parse s .refusal) 0 e))))
+    (λ e. rw (refused-blank s (eqb-false (parse s .refusal) 0 e)) blank-shaped)
 
-pub refused-records-zero : RefusedRecordsZero
-refused-records-zero =
+pub automata-handed-on : AutomataHandedOn
+automata-handed-on =
     record {
-      read = λ bytes h. ap automatonBytes (refused-blank bytes h) ∙ blank-zeros;
-      product = λ a b h. ap (λ (p : Product). automatonBytes (p .automaton)) (product-answered-as-worded a b .refused (λ z. h (ap (λ (p : Product). p .refusal) (product-answered-as-worded a b .made z)))) ∙ blank-zeros;
+      read = λ s. automaton-kept (parse s .automaton) (read-shaped s);
+      product = λ a b. automaton-kept (productAnswer a b .automaton) (product-shaped a b);
+    }
+
+pub refused-automata-zero : RefusedAutomataZero
+refused-automata-zero =
+    record {
+      read = λ s h. ap automatonBytes (refused-blank s h) ∙ blank-zeros;
+      product = λ a b h. ap automatonBytes (product-answered-as-worded a b .0 .refused h) ∙ blank-zeros;
     }

@@ -160,17 +160,6 @@ AutomatonKept = (a : Automaton) → shaped a ≡ true → automatonOf (automaton
 abbrev pub AutomatonBytesKept : Type 0
 AutomatonBytesKept = (bytes : List ℕ) → length bytes ≡ automatonSize → automatonBytes (automatonOf bytes) ≡ bytes
 
--- what a product leaves in its bytes is what the next call takes out of them, refused or not
-abbrev pub ProductHandedOn : Type 0
-ProductHandedOn = (a b : Automaton) → let c = productAnswer a b .automaton in automatonOf (automatonBytes c) ≡ c
-
--- a refused call that answers with a record leaves 0 in each of its bytes
-pub record RefusedRecordsZero : Type 0 where
-  pub read : (bytes : List ℕ) → (parse bytes .refusal ≡ 0 → ⊥)
-      → automatonBytes (parse bytes .automaton) ≡ replicate automatonSize 0
-  pub product : (a b : Automaton) → (productAnswer a b .refusal ≡ 0 → ⊥)
-      → automatonBytes (productAnswer a b .automaton) ≡ replicate automatonSize 0
-
 -- so does a configuration
 abbrev pub ConfigurationKept : Type 0
 ConfigurationKept = (c : Configuration) → Typed c → configurationOf (configurationBytes c) ≡ c
@@ -297,3 +286,16 @@ RunHandedOn =
     (record-bytes t c events out : List ℕ) → length c ≡ configurationSize → Bytes c
     → configurationOf (runLeaves record-bytes t c events out .configuration)
     ≡ ran (automatonOf record-bytes) t (configurationOf c) events out .configuration
+
+-- the record that a call leaves is what the next call takes out of its bytes, refused or not
+pub record AutomataHandedOn : Type 0 where
+  pub read : (bytes : List ℕ) → let a = parse bytes .automaton in automatonOf (automatonBytes a) ≡ a
+  pub product : (a b : Automaton) → let c = productAnswer a b .automaton in automatonOf (automatonBytes c) ≡ c
+
+-- a refused call that answers with an automaton's record leaves 0 in each of its bytes (document
+-- 02, Card 6)
+pub record RefusedAutomataZero : Type 0 where
+  pub read : (bytes : List ℕ) → (parse bytes .refusal ≡ 0 → ⊥)
+      → automatonBytes (parse bytes .automaton) ≡ replicate automatonSize 0
+  pub product : (a b : Automaton) → (productAnswer a b .refusal ≡ 0 → ⊥)
+      → automatonBytes (productAnswer a b .automaton) ≡ replicate automatonSize 0

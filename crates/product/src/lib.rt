@@ -11,7 +11,7 @@ ghost use lib.Dec.{eqb};
 ghost use lib.ListN.{length};
 ghost use lib.Seq.{sets};
 ghost use Rattle.base.specs.Pad.{pad};
-ghost use Rattle.product_rule.specs.Pairs.{pairFlags, pairNext, NextBytes, pairStates, StatesBytes, sameClasses};
+ghost use Rattle.product_rule.specs.Pairs.{pairFlags, pairNext, NextFits, pairStates, StatesFit, sameClasses};
 ghost use Rattle.product_rule.specs.Product.{productOf, productRefusal, productAnswer};
 
 fn smaller(x: u8, y: u8) -> u8
@@ -72,7 +72,7 @@ fn fill_pair<'a>(
     at: usize,
 )
     requires { ⌜ (p < 32) × (q < 32) × (m ≤ 16) × (at + m ≤ length (now next)) ⌝ }
-    requires { ⌜ NextBytes (now first) (now second) n m p q ⌝ }
+    requires { ⌜ NextFits (now first) (now second) n m p q ⌝ }
     ensures { λ _. ⌜ now (next .exit) ≡ sets (now (next .entry)) at
         (pairNext (now (first .entry)) (now (second .entry)) n m p q) ⌝ }
 {
@@ -92,7 +92,7 @@ fn pair_states<'a>(
     pairs: usize,
 ) -> [u8; 512]
     requires { ⌜ (0 < n) × (m ≤ 16) × (pairs ≤ 32) ⌝ }
-    requires { ⌜ StatesBytes (now first) (now second) n m pairs ⌝ }
+    requires { ⌜ StatesFit (now first) (now second) n m pairs ⌝ }
     ensures { λ s. ⌜ s ≡ pad 512 (pairStates (now (first .entry)) (now (second .entry)) n m pairs) ⌝ }
 {
     let count = as_usize(n);

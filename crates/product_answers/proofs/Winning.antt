@@ -22,9 +22,9 @@ use Rattle.monitor_answers.specs.Answers.{isWinning, callRefusal, status}
 use Rattle.monitor_answers.proofs.Refusals.{Clear, clear, status-clear}
 use Rattle.monitor_answers.proofs.Accepted.{clear-occurs}
 use Rattle.product_rule.specs.Product.{productOf, productRefusal}
-use Rattle.product_rule.specs.Claims.{Alike, Merges, Symbols}
+use Rattle.product_rule.specs.Claims.{Matching, Merges, Symbols}
 use Rattle.product_rule.proofs.Pairs.{first-below, second-below, pair-parts}
-use Rattle.product_rule.proofs.Rows.{alike}
+use Rattle.product_rule.proofs.Rows.{matching}
 use Rattle.product_rule.proofs.Merged.{product-merges}
 use Rattle.product_rule.proofs.Rests.{parts-rest}
 use Rattle.product_answers.specs.Claims.{inState, PartsWin}
@@ -76,8 +76,8 @@ module _ (a b : Automaton) (z : productRefusal a b ≡ 0) where
   abbrev n : ℕ
   n = b .states
 
-  abbrev k : Alike a b
-  k = alike a b z
+  abbrev k : Matching a b
+  k = matching a b z
 
   abbrev m : Merges a b c
   m = product-merges a b z
@@ -135,7 +135,7 @@ module _ (a b : Automaton) (z : productRefusal a b ≡ 0) where
 
 pub parts-win : PartsWin
 parts-win a b z t ta tb s sa sb x h =
-    let k = alike a b z in
+    let k = matching a b z in
     let m = product-merges a b z in
     let l = below a b z t s x h in
     let g = parts a b z t s x h in (

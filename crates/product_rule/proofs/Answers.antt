@@ -10,7 +10,7 @@ use Rattle.base.specs.Rows.{first}
 use Rattle.automaton.specs.declared.Automaton.{Automaton}
 use Rattle.automaton.specs.Automaton.{step, valid}
 use Rattle.automaton.proofs.Facts.{Valid, valid-facts, step-high}
-use Rattle.product_rule.specs.Pairs.{pair, sameClasses, StatesBytes}
+use Rattle.product_rule.specs.Pairs.{pair, sameClasses, StatesFit}
 use Rattle.product_rule.specs.Product.{pairsCount, sameSymbols, productRefusal}
 use Rattle.product_rule.proofs.Rows.{product-rows-as-worded}
 
@@ -57,7 +57,7 @@ module _ (a b : Automaton) (h : productRefusal a b ≡ 0) where
   pub initial-byte : pair (b .states) (a .initial) (b .initial) < 256
   initial-byte = omega (arith, few-pairs, digits-lt (first-facts .initial-below) (second-facts .initial-below))
 
-  pub next-bytes : StatesBytes (a .next) (b .next) (b .states) (a .symbols) (pairsCount a b)
+  pub next-bytes : StatesFit (a .next) (b .next) (b .states) (a .symbols) (pairsCount a b)
   unfolding step
   next-bytes r _ e l =
       let s : e < 16 = omega (arith, first-facts .symbols-high) in

@@ -16,11 +16,11 @@ use Rattle.automaton.specs.Automaton.{controllable, accepts, step, shaped, rang
 use Rattle.solver_sets.specs.Sets.{acceptingSet, admits, stays, refine, settle, settled, setsOf, emptySets, into, setsFor}
 use Rattle.product_rule.specs.Pairs.{pairFlags, pairNext, pairStates, sameClasses}
 use Rattle.product_rule.specs.Product.{productOf, sameSymbols, productRefusal}
-use Rattle.product_rule.specs.Claims.{sheetV, silent, ApartNotTogether, ConverseFalse}
+use Rattle.product_rule.specs.Claims.{sheetV, noAnswer, ApartNotTogether, ConverseFalse}
 
 -- the definitions that compute where a sheet may rest, ..
 unfoldable resting : ℕ
-unfolding each has mask pad acceptingSet admits stays refine settle settled setsOf emptySets into setsFor accepts step controllable sheetV silent
+unfolding each has mask pad acceptingSet admits stays refine settle settled setsOf emptySets into setsFor accepts step controllable sheetV noAnswer
 resting = 0
 
 -- .. and those of the product
@@ -28,31 +28,31 @@ unfoldable merging : ℕ
 unfolding tabulate blocks pairFlags pairNext pairStates productOf
 merging = 0
 
-merged : productRefusal sheetV silent ≡ 0
+merged : productRefusal sheetV noAnswer ≡ 0
 unfolding
     each count first pad controllableIn stands placesStand shaped ranged classesStand flagsStand nextStand valid
-    sameClasses sameSymbols productRefusal sheetV silent
+    sameClasses sameSymbols productRefusal sheetV noAnswer
 merged = refl
 
 first-rests : has (setsFor sheetV (1 ∷ []) .winning) 0 ≡ true
 unfolding resting
 first-rests = refl
 
-second-rests : has (setsFor silent (1 ∷ []) .winning) 0 ≡ true
+second-rests : has (setsFor noAnswer (1 ∷ []) .winning) 0 ≡ true
 unfolding resting
 second-rests = refl
 
 -- the product in state 0, the pair of both first states
-not-winning : has (setsFor (productOf sheetV silent) (1 ∷ []) .winning) 0 ≡ false
+not-winning : has (setsFor (productOf sheetV noAnswer) (1 ∷ []) .winning) 0 ≡ false
 unfolding resting merging
 not-winning = refl
 
-not-intermediate : has (setsFor (productOf sheetV silent) (1 ∷ []) .intermediate) 0 ≡ false
+not-intermediate : has (setsFor (productOf sheetV noAnswer) (1 ∷ []) .intermediate) 0 ≡ false
 unfolding resting merging
 not-intermediate = refl
 
 apart-not-together : ApartNotTogether
-unfolding controllable productOf sheetV silent pad
+unfolding controllable productOf sheetV noAnswer pad
 apart-not-together =
     record {
       merged = merged;
@@ -63,7 +63,7 @@ apart-not-together =
     }
 
 pub converse-false : ConverseFalse
-unfolding sheetV silent
+unfolding sheetV noAnswer
 converse-false =
     let t = apart-not-together in
-    (t, λ c. t .product-does-not (inl (c sheetV silent (t .merged) (1 ∷ []) (t .held) 0 0 (omega arith) (omega arith) (t .first-rests) (t .second-rests))))
+    (t, λ c. t .product-does-not (inl (c sheetV noAnswer (t .merged) (1 ∷ []) (t .held) 0 0 (omega arith) (omega arith) (t .first-rests) (t .second-rests))))

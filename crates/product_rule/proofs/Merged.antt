@@ -1,32 +1,34 @@
 -- The product is the two merged, and no other record is.
-use Prim.Native.Nat.{ℕ, _/_, _%_, _<_, _≤_, min}
+use Prim.Native.Nat.{ℕ, _*_, _/_, _%_, _<_, _≤_, min}
 use mathlib.Core.Path.{_≡_, refl, sym, _∙_, ap}
 use mathlib.Core.Logic.{_⊎_, inl, inr, _↔_, Iff·trans, Iff·symm}
 use mathlib.Core.Bool.{Bool, cond, _&&_}
+use mathlib.Core.List.{List, [], _∷_}
 use native.Mathlib.Nat.{mul-pos, le-antisymm, min-le-left, min-le-right, min-eq-left, min-eq-right}
 use native.Mathlib.Omega.{arith}
 use lib.Dec.{eqb, ltb, leb}
-use borrow.Author.Tests.{ltb-true, ltb-false, leb-true, leb-false}
+use borrow.Author.Tests.{eqb-true, eqb-false, ltb-true, ltb-false, leb-true, leb-false}
 use Rattle.base.proofs.Bools.{by, either, and-pair, and-both, flag-low, flag-tests}
 use Rattle.automaton.specs.declared.Automaton.{Automaton}
 use Rattle.automaton.specs.Arrays.{acceptingAt}
-use Rattle.automaton.specs.Automaton.{class, flag, controllables, accepts, step}
+use Rattle.automaton.specs.Automaton.{class, flag, controllable, controllables, accepts, step}
 use Rattle.automaton.proofs.Facts.{Valid, valid-facts, valid-of}
 use Rattle.automaton.proofs.Equality.{same-record}
+use Rattle.solver_sets.specs.Table.{Controllable}
 use Rattle.solver_sets.specs.Definition6.{Final}
 use Rattle.product_rule.specs.Pairs.{pair, bothAccept}
-use Rattle.product_rule.specs.Product.{pairsCount, productOf, productRefusal}
-use Rattle.product_rule.specs.Claims.{Alike, Merges, ProductAsWorded}
-use Rattle.product_rule.proofs.Pairs.{pair-first, pair-second, pair-below, first-below, second-below, of-pairs}
+use Rattle.product_rule.specs.Product.{Product, pairsCount, productOf, productRefusal, productAnswer}
+use Rattle.product_rule.specs.Claims.{Matching, Merges, ProductAnswered, ProductAnsweredAsWorded, ProductAsWorded, StatesArePairs, HeldByBoth}
+use Rattle.product_rule.proofs.Pairs.{pair-first, pair-second, pair-below, first-below, second-below, pair-parts, of-pairs}
 use Rattle.product_rule.proofs.Arrays.{flags-at, flags-past, flags-size, next-at, next-no-symbol, next-no-pair, states-size}
-use Rattle.product_rule.proofs.Rows.{product-rows-as-worded}
+use Rattle.product_rule.proofs.Rows.{product-rows-as-worded, answer-made, answer-refused, only-row}
 
 -- the smaller of two numbers is one of them
 min-one : (m n : ℕ) → (min m n ≡ m) ⊎ (min m n ≡ n)
 min-one m n = by (leb m n) (λ h. inl (min-eq-left (leb-true m n h))) (λ h. let l = leb-false m n h in inr (min-eq-right (omega arith)))
 
 -- the product of two records that no row refuses
-module _ (a b : Automaton) (k : Alike a b) (few : pairsCount a b ≤ 32) where
+module _ (a b : Automaton) (k : Matching a b) (few : pairsCount a b ≤ 32) where
   abbrev va : Valid a
   va = valid-facts a (k .first-valid)
 
@@ -55,9 +57,9 @@ module _ (a b : Automaton) (k : Alike a b) (few : pairsCount a b ≤ 32) where
   unfolding productOf
   capacity-most = (min-le-left (a .capacity) (b .capacity), min-le-right (a .capacity) (b .capacity))
 
-  capacity-one : (c .capacity ≡ a .capacity) ⊎ (c .capacity ≡ b .capacity)
+  capacity-either : (c .capacity ≡ a .capacity) ⊎ (c .capacity ≡ b .capacity)
   unfolding productOf
-  capacity-one = min-one (a .capacity) (b .capacity)
+  capacity-either = min-one (a .capacity) (b .capacity)
 
   -- its flags
   flag-at : (r : ℕ) → r < pairs → flag c r ≡ cond (both r) 1 0
@@ -121,7 +123,7 @@ module _ (a b : Automaton) (k : Alike a b) (few : pairsCount a b ≤ 32) where
         states-high = few;
         symbols-low = va .symbols-low;
         symbols-high = va .symbols-high;
-        capacity-low = either capacity-one (λ h. omega (arith, va .capacity-low)) (λ h. omega (arith, vb .capacity-low));
+        capacity-low = either capacity-either (λ h. omega (arith, va .capacity-low)) (λ h. omega (arith, vb .capacity-low));
         capacity-high = omega (arith, capacity-most .0, va .capacity-high);
         initial-below = rw initial-pair (pair-below n (a .initial) (b .initial) (vb .initial-below) (a .states) (va .initial-below));
         class-high = va .class-high;
@@ -150,7 +152,7 @@ module _ (a b : Automaton) (k : Alike a b) (few : pairsCount a b ≤ 32) where
         symbols = (refl, k .same-number);
         classes = λ e. (refl, same-class-at e);
         capacity-most = capacity-most;
-        capacity-one = capacity-one;
+        capacity-either = capacity-either;
         initial = initial-pair;
         accepting = λ p q lp lq. (
           λ h. and-pair (accepts a p) (accepts b q) (sym (accepts-at p q lp lq) ∙ h),
@@ -163,7 +165,7 @@ module _ (a b : Automaton) (k : Alike a b) (few : pairsCount a b ≤ 32) where
 no-larger : {a b c d : Automaton} → Merges a b c → Merges a b d → c .capacity ≤ d .capacity
 no-larger mc md =
     let (first, second) = mc .capacity-most in
-    either (md .capacity-one) (λ h. omega arith) (λ h. omega arith)
+    either (md .capacity-either) (λ h. omega arith) (λ h. omega arith)
 
 -- two records that are the two merged are one
 only-one : (a b c d : Automaton) → Merges a b c → Merges a b d → c ≡ d
@@ -185,3 +187,55 @@ pub product-as-worded : ProductAsWorded
 product-as-worded a b z =
     let m = product-merges a b z in
     (m, λ c k. only-one a b c (productOf a b) k m)
+
+-- the whole answer
+answered : (a b : Automaton) → ProductAnswered a b (productAnswer a b)
+answered a b =
+    by (eqb (productRefusal a b) 0)
+    (λ e.
+    let z = eqb-true (productRefusal a b) 0 e in
+    rw (answer-made a b z)
+    (record { rows = rw z at (product-rows-as-worded a b); made = λ _. product-merges a b z; refused = λ n. absurd (n refl) }))
+    (λ e.
+    let z = eqb-false (productRefusal a b) 0 e in
+    rw (answer-refused a b z) (record { rows = product-rows-as-worded a b; made = λ n. absurd (z n); refused = λ _. refl }))
+
+only-answer : (a b : Automaton) (x y : Product) → ProductAnswered a b x → ProductAnswered a b y → x ≡ y
+only-answer a b x y rx ry =
+    let row : x .refusal ≡ y .refusal = only-row (rx .rows) (ry .rows) in
+    let same : x .automaton ≡ y .automaton =
+    by (eqb (x .refusal) 0)
+    (λ e. let z = eqb-true (x .refusal) 0 e in only-one a b (x .automaton) (y .automaton) (rx .made z) (ry .made (sym row ∙ z)))
+    (λ e. let n = eqb-false (x .refusal) 0 e in rx .refused n ∙ sym (ry .refused (λ z. n (row ∙ z)))) in
+    λ i. record { refusal = row i; automaton = same i }
+
+pub product-answered-as-worded : ProductAnsweredAsWorded
+product-answered-as-worded a b = (answered a b, λ x k. only-answer a b x (productAnswer a b) k (answered a b))
+
+-- the states are the pairs
+pub states-are-pairs : StatesArePairs
+states-are-pairs a b z r l =
+    let h : r < a .states * b .states = omega (arith, product-merges a b z .states) in
+    (first-below (a .states) (b .states) r h, second-below (a .states) (b .states) r h, pair-parts (a .states) (b .states) r h)
+
+-- over the same symbols, of the same classes, the same lists are controllable
+same-controllable : (c a : Automaton) → c .symbols ≡ a .symbols → ((e : ℕ) → class c e ≡ class a e) → (w : List ℕ) → Controllable c w → Controllable a w
+unfolding controllable
+same-controllable c a symbols classes [] h = tt
+same-controllable c a symbols classes (e ∷ w) h =
+    ((omega (arith, h .0 .0), rw (classes e) at (h .0 .1)), same-controllable c a symbols classes w (h .1))
+
+pub held-by-both : HeldByBoth
+held-by-both a b z w =
+    let c = productOf a b in
+    let m = product-merges a b z in
+    let (first, second) = m .capacity-most in (
+      λ (h, l). (
+        (same-controllable c a (m .symbols .0) (λ e. m .classes e .0) w h, omega arith),
+        (same-controllable c b (m .symbols .1) (λ e. m .classes e .1) w h, omega arith),
+      ),
+      λ ((h, l), (_, k)). (
+        same-controllable a c (sym (m .symbols .0)) (λ e. sym (m .classes e .0)) w h,
+        either (m .capacity-either) (λ e. omega arith) (λ e. omega arith),
+      ),
+    )

@@ -12,13 +12,13 @@ use Rattle.solver_sets.proofs.Total.{total}
 use Rattle.solver_sets.proofs.Projection.{same-free, images-rest}
 use Rattle.product_rule.specs.Pairs.{pair}
 use Rattle.product_rule.specs.Product.{productOf}
-use Rattle.product_rule.specs.Claims.{Alike, Merges, Symbols, PartsRest}
+use Rattle.product_rule.specs.Claims.{Matching, Merges, Symbols, PartsRest}
 use Rattle.product_rule.proofs.Pairs.{pair-first, pair-second, pair-below, of-pairs}
-use Rattle.product_rule.proofs.Rows.{alike}
+use Rattle.product_rule.proofs.Rows.{matching}
 use Rattle.product_rule.proofs.Merged.{product-merges}
 
 -- any record that is the two merged
-module _ (a b c : Automaton) (k : Alike a b) (m : Merges a b c) where
+module _ (a b c : Automaton) (k : Matching a b) (m : Merges a b c) where
   abbrev n : ℕ
   n = b .states
 
@@ -72,17 +72,25 @@ module _ (a b c : Automaton) (k : Alike a b) (m : Merges a b c) where
     held : AllOf (λ e. e < c .symbols) w
     held = subst (λ i. AllOf (λ e. e < i) w) (sym (m .symbols .0)) s
 
-    first-rests : (Winning c w r → Winning a w p) × (Union (Winning c w) (Intermediate c w) r → Union (Winning a w) (Intermediate a w) p)
-    first-rests =
+    -- where the product may rest, can come to rest and must release, a part does so in a state
+    abbrev Follows : Automaton → ℕ → Type 0
+    Follows x u =
+        (Winning c w r → Winning x w u) × (Union (Winning c w) (Intermediate c w) r → Union (Winning x w) (Intermediate x w) u)
+        × (Intermediate c w r → Intermediate x w u)
+
+    first-follows : Follows a p
+    first-follows =
         rw (pair-first n p q lq) at (images-rest c a (m .passes) (k .first-valid) (λ r. r / n) first-projects w held r below)
 
-    second-rests : (Winning c w r → Winning b w q) × (Union (Winning c w) (Intermediate c w) r → Union (Winning b w) (Intermediate b w) q)
-    second-rests =
+    second-follows : Follows b q
+    second-follows =
         rw (pair-second n p q lq) at (images-rest c b (m .passes) (k .second-valid) (λ r. r % n) second-projects w held r below)
 
-    parts : (Winning c w r → Winning a w p × Winning b w q)
-        × (Union (Winning c w) (Intermediate c w) r → Union (Winning a w) (Intermediate a w) p × Union (Winning b w) (Intermediate b w) q)
-    parts = (λ h. (first-rests .0 h, second-rests .0 h), λ h. (first-rests .1 h, second-rests .1 h))
-
 pub parts-rest : PartsRest
-parts-rest a b z = parts a b (productOf a b) (alike a b z) (product-merges a b z)
+parts-rest a b z w s p q lp lq =
+    let c = productOf a b in
+    let k = matching a b z in
+    let m = product-merges a b z in
+    let f = first-follows a b c k m w s p q lp lq in
+    let g = second-follows a b c k m w s p q lp lq in
+    (λ h. (f .0 h, g .0 h), λ h. (f .1 h, g .1 h), λ h. (f .2 h, g .2 h))

@@ -12,10 +12,10 @@ use Rattle.base.proofs.Bools.{by, either, clash, and-pair, and-both, and-none, 
 use Rattle.base.proofs.Ranges.{each-at, each-all, each-fails, each-false}
 use Rattle.base.proofs.Refusals.{first-stands, first-passes, first-never, first-own, first-later, contrary}
 use Rattle.automaton.specs.declared.Automaton.{Automaton}
-use Rattle.automaton.specs.Automaton.{class, valid}
+use Rattle.automaton.specs.Automaton.{class, valid, blank}
 use Rattle.product_rule.specs.Pairs.{sameClasses}
-use Rattle.product_rule.specs.Product.{pairsCount, sameSymbols, productRefusal, productAnswer}
-use Rattle.product_rule.specs.Claims.{SymbolsDiffer, Alike, ProductRowsAsWorded, ProductAnsweredAsWorded}
+use Rattle.product_rule.specs.Product.{pairsCount, productOf, sameSymbols, productRefusal, productAnswer}
+use Rattle.product_rule.specs.Claims.{SymbolsDiffer, Matching, ProductRows, ProductRowsAsWorded}
 
 module _ (a b : Automaton) where
   -- the same number of symbols, of the same classes
@@ -84,7 +84,7 @@ module _ (a b : Automaton) where
       (λ (va, (vb, x)). (va, vb, x), λ (va, vb, x). (va, (vb, x)))
 
   -- and another than 24 that of the row after it
-  after-24 : {Z : Type 0} (m : ℕ) → (11 ≡ m → ⊥) → (24 ≡ m → ⊥) → ((first from-25 ≡ m) ↔ Z) → (productRefusal a b ≡ m) ↔ (Alike a b × Z)
+  after-24 : {Z : Type 0} (m : ℕ) → (11 ≡ m → ⊥) → (24 ≡ m → ⊥) → ((first from-25 ≡ m) ↔ Z) → (productRefusal a b ≡ m) ↔ (Matching a b × Z)
   after-24 m n11 n24 z =
       Iff·trans (after-11 m n11 (first-later 24 (not (sameSymbols a b)) from-25 differ same m n24 (λ _. z))) (
         λ (va, vb, ((n, c), x)). (record { first-valid = va; second-valid = vb; same-number = n; same-class = c }, x),
@@ -143,14 +143,21 @@ product-rows-as-worded a b =
     }
 
 -- where no row stands
-pub alike : (a b : Automaton) → productRefusal a b ≡ 0 → Alike a b
-alike a b z = product-rows-as-worded a b .none .0 z .0
+pub matching : (a b : Automaton) → productRefusal a b ≡ 0 → Matching a b
+matching a b z = product-rows-as-worded a b .none .0 z .0
 
--- the whole answer
-pub product-answered-as-worded : ProductAnsweredAsWorded
+-- the answer, where no row refuses and where one does
+pub answer-made : (a b : Automaton) → productRefusal a b ≡ 0 → productAnswer a b ≡ record { refusal = 0; automaton = productOf a b }
 unfolding productAnswer
-product-answered-as-worded a b =
-    record {
-      made = λ z. rw z;
-      refused = λ z. rw (ne-eqb (productRefusal a b) 0 z);
-    }
+answer-made a b z = rw z
+
+pub answer-refused : (a b : Automaton) → (productRefusal a b ≡ 0 → ⊥) → productAnswer a b ≡ record { refusal = productRefusal a b; automaton = blank }
+unfolding productAnswer
+answer-refused a b z = rw (ne-eqb (productRefusal a b) 0 z)
+
+-- the rows in words settle the number
+pub only-row : {a b : Automaton} {m n : ℕ} → ProductRows a b m → ProductRows a b n → m ≡ n
+only-row r t =
+    either (r .known) (λ e. e ∙ sym (t .none .1 (r .none .0 e)))
+    (λ k. either k (λ e. e ∙ sym (t .row-11 .1 (r .row-11 .0 e)))
+    (λ k. either k (λ e. e ∙ sym (t .row-24 .1 (r .row-24 .0 e))) (λ e. e ∙ sym (t .row-25 .1 (r .row-25 .0 e)))))

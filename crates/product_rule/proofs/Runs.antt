@@ -9,12 +9,12 @@ use Rattle.automaton.proofs.Facts.{valid-facts}
 use Rattle.solver_sets.proofs.Total.{Total, total, reached-below}
 use Rattle.product_rule.specs.Pairs.{pair}
 use Rattle.product_rule.specs.Product.{productOf}
-use Rattle.product_rule.specs.Claims.{Alike, Merges, Symbols, EndsAccepting, LeadsToPair, EndsAsBoth}
-use Rattle.product_rule.proofs.Rows.{alike}
+use Rattle.product_rule.specs.Claims.{Matching, Merges, Symbols, EndsAccepting, LeadsToPair, EndsAsBoth}
+use Rattle.product_rule.proofs.Rows.{matching}
 use Rattle.product_rule.proofs.Merged.{product-merges}
 
 -- any record that is the two merged
-module _ (a b c : Automaton) (k : Alike a b) (m : Merges a b c) where
+module _ (a b c : Automaton) (k : Matching a b) (m : Merges a b c) where
   abbrev n : ℕ
   n = b .states
 
@@ -43,7 +43,7 @@ module _ (a b c : Automaton) (k : Alike a b) (m : Merges a b c) where
       (m .accepting (reached a (a .initial) es) (reached b (b .initial) es) (reached-below a ta (a .initial) es la) (reached-below b tb (b .initial) es lb))
 
 pub leads-to-pair : LeadsToPair
-leads-to-pair a b z = leads a b (productOf a b) (alike a b z) (product-merges a b z)
+leads-to-pair a b z = leads a b (productOf a b) (matching a b z) (product-merges a b z)
 
 pub ends-as-both : EndsAsBoth
-ends-as-both a b z = ends a b (productOf a b) (alike a b z) (product-merges a b z)
+ends-as-both a b z = ends a b (productOf a b) (matching a b z) (product-merges a b z)

@@ -30,12 +30,12 @@ pairNext first second n m p q = tabulate m (λ e. pair n (goes first p e) (goes 
 unfoldable pub pairStates : List ℕ → List ℕ → ℕ → ℕ → ℕ → List ℕ
 pairStates first second n m pairs = blocks pairs (λ r. pad 16 (pairNext first second n m (r / n) (r % n)))
 
--- (their numbers are bytes)
-abbrev pub NextBytes : List ℕ → List ℕ → ℕ → ℕ → ℕ → ℕ → Type 0
-NextBytes first second n m p q = (e : ℕ) → e < m → pair n (goes first p e) (goes second q e) < 256
+-- their numbers are bytes
+abbrev pub NextFits : List ℕ → List ℕ → ℕ → ℕ → ℕ → ℕ → Type 0
+NextFits first second n m p q = (e : ℕ) → e < m → pair n (goes first p e) (goes second q e) < 256
 
-abbrev pub StatesBytes : List ℕ → List ℕ → ℕ → ℕ → ℕ → Type 0
-StatesBytes first second n m pairs = (r : ℕ) → r < pairs → NextBytes first second n m (r / n) (r % n)
+abbrev pub StatesFit : List ℕ → List ℕ → ℕ → ℕ → ℕ → Type 0
+StatesFit first second n m pairs = (r : ℕ) → r < pairs → NextFits first second n m (r / n) (r % n)
 
 -- the first m symbols have the same classes
 unfoldable pub sameClasses : List ℕ → List ℕ → ℕ → Bool

@@ -62,4 +62,4 @@ module _ (c a : Automaton) (tc : Total c) (ta : Total a) (π : ℕ → ℕ) (p :
 pub images-rest : ImagesRest
 images-rest c a vc va π p w b q l =
     let k = projected c a (total c vc) (total a va) π p w b in
-    (k .0 q l, λ h. either h (λ x. inl (k .0 q l x)) (λ y. inr (k .1 q l y)))
+    (k .0 q l, λ h. either h (λ x. inl (k .0 q l x)) (λ y. inr (k .1 q l y)), k .1 q l)

@@ -1,4 +1,5 @@
--- What is proved of the sets and the numbering: demand 2's first sentence.
+-- What is proved of the sets and the numbering: demand 2's first sentence; and of images (document
+-- 02, Card 6).
 use Prim.Native.Nat.{ℕ, _+_, _*_, _<_, _≤_}
 use mathlib.Core.Path.{_≡_}
 use mathlib.Core.Logic.{_⊎_, _↔_}
@@ -46,23 +47,24 @@ UnionAddsNothing =
     (a : Automaton) → valid a ≡ true → (w : List ℕ) (e q : ℕ) → q < a .states
     → (Winning a w q → Winning a (w ++ e ∷ []) q) × (Intermediate a w q → Intermediate a (w ++ e ∷ []) q)
 
--- A map of the states of c to those of another automaton over the same symbols: it keeps every
--- step and takes accepting states to accepting ones, and the symbols that a may not hold back c
--- may not either.
+-- A map of the states of c to those of another automaton, a (a functional simulation): it keeps
+-- every step under c's symbols and takes accepting states to accepting ones; and the symbols that
+-- cannot be held back in a are symbols that cannot be held back in c.
 pub record Projects (c a : Automaton) (π : ℕ → ℕ) : Type 0 where
   pub below : (q : ℕ) → q < c .states → π q < a .states
   pub steps : (q e : ℕ) → q < c .states → e < c .symbols → π (step c q e) ≡ step a (π q) e
   pub final : (q : ℕ) → q < c .states → Final c q → Final a (π q)
   pub free : (e : ℕ) → Uncontrollable a e → Uncontrollable c e
 
--- where c may rest with a buffer, its image may rest with it, and where it may come to rest, its
--- image may; the buffer need not keep the capacity of either
+-- Where c may rest with a buffer, its image may rest with it; where it can come to rest, its image
+-- can; and where it must release, its image must. Of the buffer only that it has symbols of c.
 abbrev pub ImagesRest : Type 0
 ImagesRest =
     (c a : Automaton) → valid c ≡ true → valid a ≡ true → (π : ℕ → ℕ) → Projects c a π → (w : List ℕ) → AllOf (λ e. e < c .symbols) w
     → (q : ℕ) → q < c .states
     → (Winning c w q → Winning a w (π q))
     × (Union (Winning c w) (Intermediate c w) q → Union (Winning a w) (Intermediate a w) (π q))
+    × (Intermediate c w q → Intermediate a w (π q))
 
 -- the sets satisfy Definition 6 ..
 abbrev pub SatisfyDefinition6 : Type 0

@@ -1,7 +1,7 @@
 use Prim.Native.Nat.{ℕ, _+_, _*_}
 use mathlib.Core.Path.{_≡_, sym, _∙_, ap₂, subst}
 use Rattle.base.specs.Pad.{pad}
-use Rattle.product_rule.specs.Pairs.{pairFlags, pairStates, StatesBytes}
+use Rattle.product_rule.specs.Pairs.{pairFlags, pairStates, StatesFit}
 use Rattle.product_rule.specs.Product.{productOf, pairsCount}
 use Rattle.product_rule.proofs.Answers.{few-pairs, first-facts, second-facts, initial-byte, next-bytes}
 use native.Mathlib.Omega.{arith}
@@ -18,7 +18,7 @@ counted c = c .before .before .before .before .before .before .before .before .b
 
 -- the next states of the pairs are bytes
 abbrev Bytes : tie.Start → ℕ → ℕ → Type 0
-Bytes c = StatesBytes (c .args .t1 .next) (c .args .t2 .next) (c .args .t2 .states)
+Bytes c = StatesFit (c .args .t1 .next) (c .args .t2 .next) (c .args .t2 .states)
 
 as-usize-requires : tie.Need-as-usize-requires
 as-usize-requires c κs = search needs
