@@ -1,12 +1,13 @@
 /*
  * Compares the archive with the C version of the same rules, and measures both.
  *
- *   driver compare COUNT   COUNT rounds of every call on sheets, records, tables, states, days and
- *                          feeds, valid and damaged; stops at the first difference; then prints
- *                          how often a controllable event came to a full hold, and what came of it
+ *   driver compare COUNT   COUNT rounds of every call on sheets, records, tables, states, days,
+ *                          feeds and pairs of sheets, valid and damaged; stops at the first
+ *                          difference; then prints how often a controllable event came to a full
+ *                          hold, and what came of it, and how often each kind of pair was met
  *   driver time            the solver, one event and a day, then a day over lists of clients, then
- *                          one event and one record of a feed over such a list, both in turn, best
- *                          of several
+ *                          one event and one record of a feed over such a list, then the product
+ *                          of two sheets, both in turn, best of several
  */
 #include <stdio.h>
 #include <stdlib.h>
@@ -46,26 +47,54 @@ static void *room(size_t size)
 
 /* ---- making inputs ---- */
 
-/* A valid record. With a core, the first states are acceptable and the uncontrollable kinds stay
- * among them, so that S is not empty. */
-static void make_record(uint8_t *r, unsigned n, unsigned m, unsigned b, unsigned k, int core)
+/* The first four numbers of a record, all else 0. */
+static void make_head(uint8_t *r, unsigned n, unsigned m, unsigned b)
 {
-    unsigned inside = core ? 1 + below(n) : 0;
     memset(r, 0, JAXHOPHASI_AUTOMATON_SIZE);
     r[0] = (uint8_t)n;
     r[1] = (uint8_t)m;
     r[2] = (uint8_t)b;
     r[3] = (uint8_t)below(n);
-    for (unsigned left = k; left;) {
-        unsigned e = below(m);
-        left -= !r[4 + e];
-        r[4 + e] = 1;
-    }
+}
+
+/* Its states, once it has classes. So many of the first are acceptable, and the uncontrollable
+ * kinds stay among them. */
+static void make_states(uint8_t *r, unsigned inside)
+{
+    unsigned n = r[0], m = r[1];
     for (unsigned q = 0; q < n; q++)
         r[20 + q] = q < inside || below(2);
     for (unsigned q = 0; q < n; q++)
         for (unsigned e = 0; e < m; e++)
             r[52 + q * 16 + e] = (uint8_t)(q < inside && !r[4 + e] && below(64) ? below(inside) : below(n));
+}
+
+/* How many states are of the core, where there is one: then S is not empty. */
+static unsigned make_inside(unsigned n, int core)
+{
+    return core ? 1 + below(n) : 0;
+}
+
+/* A valid record, perhaps with a core. */
+static void make_record(uint8_t *r, unsigned n, unsigned m, unsigned b, unsigned k, int core)
+{
+    unsigned inside = make_inside(n, core);
+    make_head(r, n, m, b);
+    for (unsigned left = k; left;) {
+        unsigned e = below(m);
+        left -= !r[4 + e];
+        r[4 + e] = 1;
+    }
+    make_states(r, inside);
+}
+
+/* Another record with the kinds and classes of a valid one. */
+static void make_alike(uint8_t *r, const uint8_t *other, unsigned n, unsigned b, int core)
+{
+    unsigned inside = make_inside(n, core);
+    make_head(r, n, other[1], b);
+    memcpy(r + 4, other + 4, 16);
+    make_states(r, inside);
 }
 
 static unsigned least(unsigned a, unsigned b)
@@ -106,6 +135,47 @@ static void damage_record(uint8_t *r)
     case 11: r[m < 16 ? 52 + q * 16 + m : 563] = 1; break;
     case 12: r[563] ^= 1; break;
     default: r[start[part] + below(size[part])] = (uint8_t)(below(2) ? below(4) : below(4) ? below(40) : any());
+    }
+}
+
+/* How many states each of two sheets has: few pairs, as many as there may be, or more. */
+static void make_sizes(unsigned *first, unsigned *second)
+{
+    static const uint8_t most[] = { 1, 2, 4, 8, 16, 32 };
+    /* 33 pairs, 34, 36; and over 255, as many as 0 or 5 in eight bits */
+    static const uint8_t over[][2] = { { 3, 11 }, { 11, 3 }, { 2, 17 }, { 6, 6 }, { 8, 32 }, { 32, 32 }, { 29, 9 }, { 9, 29 } };
+    unsigned i = below(6), j = below(8);
+    switch (below(4)) {
+    case 0: *first = most[i], *second = most[5 - i]; break;
+    case 1: *first = over[j][0], *second = over[j][1]; break;
+    default: *first = 1 + below(6), *second = 1 + below(32 / *first);
+    }
+}
+
+/* Two records to be merged: often with the same kinds; then one is the other, or one or both are
+ * changed, so that they are damaged or their kinds differ in number or class. */
+static void make_two(uint8_t *r, uint8_t *s)
+{
+    unsigned m = 1 + below(below(4) ? 5 : 16), n, other_n;
+    make_sizes(&n, &other_n);
+    make_record(r, n, m, 1 + below(below(4) ? 2 : 6), below(least(m, 8) + 1), (int)below(3));
+    make_alike(s, r, other_n, 1 + below(below(4) ? 2 : 6), (int)below(3));
+    switch (below(12)) {
+    case 0: memcpy(s, r, JAXHOPHASI_AUTOMATON_SIZE); break;
+    case 1: damage_record(r); break;
+    case 2: damage_record(s); break;
+    case 3:
+        damage_record(r);
+        damage_record(s);
+        break;
+    case 4: make_record(s, other_n, 1 + below(16), 1 + below(6), 0, 1); break;
+    case 5: /* one kind more, of class 0, so that all 16 places of the classes agree */
+        if (m < 16)
+            (below(2) ? r : s)[1]++;
+        break;
+    case 6: /* the class of one kind, often the last */
+        (below(2) ? r : s)[4 + (below(2) ? m - 1 : below(m))] ^= 1;
+        break;
     }
 }
 
@@ -677,6 +747,163 @@ static void compare_list(twin record, twin table, size_t places)
     drop_twins(expected);
 }
 
+/* What was met of two sheets to be merged; and the lines that say it, each up to its last one. */
+enum {
+    BAD_FIRST, BAD_SECOND, BAD_BOTH, BAD_BEFORE_OTHERS,
+    OTHER_NUMBER, OTHER_NUMBER_ALONE, OTHER_CLASS, OTHER_LAST_CLASS, OTHER_BEFORE_MANY,
+    PAIRS_33, PAIRS_OVER_33, PAIRS_OVER_255,
+    PAIRS_UNDER_32, PAIRS_1_32, PAIRS_32_1, PAIRS_32, TWICE_THE_SAME,
+    FIRST_SMALLER, SECOND_SMALLER, SAME_HOLD,
+    ENDS_IN_NEITHER, ENDS_IN_SECOND, ENDS_IN_FIRST, ENDS_IN_BOTH,
+    RESTS_NOT_IN_BOTH, RESTS_IN_BOTH, RESTS_IN_ALL,
+    MET_OF_TWO
+};
+static const struct {
+    const char *names;
+    unsigned last;
+} lines_of_two[] = {
+    { "11 of the first, the second, both, and before 24 or 25", BAD_BEFORE_OTHERS },
+    { "24 by the number of kinds, with the same classes, by a class, by the last one, and before 25", OTHER_BEFORE_MANY },
+    { "25 with 33 pairs, with more, and with more than 255", PAIRS_OVER_255 },
+    { "merged, under 32 pairs, 1 and 32 states, 32 and 1, other 32 pairs, and one sheet twice", TWICE_THE_SAME },
+    { "merged, the first's hold smaller, the second's, and neither's", SAME_HOLD },
+    { "a list that ends acceptably in neither, in the second, in the first, and in both", ENDS_IN_BOTH },
+    { "a held list where not both may rest, where both may and the product may not, and where all may", RESTS_IN_ALL },
+};
+static unsigned long met_of_two[MET_OF_TWO];
+
+/* Counts two sheets that were given a row. */
+static void meet_two(const uint8_t *r, const uint8_t *s, uint8_t row)
+{
+    uint8_t count[8];
+    unsigned pairs = (unsigned)r[0] * s[0], m = least(r[1], 16), same_to = 0;
+    int bad_first = ref_buffers_count(r, count) != 0, bad_second = ref_buffers_count(s, count) != 0;
+    while (same_to < m && r[4 + same_to] == s[4 + same_to])
+        same_to++;
+    int differ = r[1] != s[1] || same_to < m;
+    if (row == 11) {
+        met_of_two[bad_first && bad_second ? BAD_BOTH : bad_first ? BAD_FIRST : BAD_SECOND]++;
+        met_of_two[BAD_BEFORE_OTHERS] += differ || pairs > 32;
+    } else if (row == 24) {
+        met_of_two[r[1] != s[1] ? OTHER_NUMBER : OTHER_CLASS]++;
+        met_of_two[OTHER_NUMBER_ALONE] += memcmp(r + 4, s + 4, 16) == 0;
+        met_of_two[OTHER_LAST_CLASS] += r[1] == s[1] && same_to == m - 1;
+        met_of_two[OTHER_BEFORE_MANY] += pairs > 32;
+    } else if (row == 25) {
+        met_of_two[pairs == 33 ? PAIRS_33 : PAIRS_OVER_33]++;
+        met_of_two[PAIRS_OVER_255] += pairs > 255;
+    } else {
+        met_of_two[pairs < 32 ? PAIRS_UNDER_32 : r[0] == 1 ? PAIRS_1_32 : s[0] == 1 ? PAIRS_32_1 : PAIRS_32]++;
+        met_of_two[TWICE_THE_SAME] += memcmp(r, s, JAXHOPHASI_AUTOMATON_SIZE) == 0;
+        met_of_two[r[2] < s[2] ? FIRST_SMALLER : s[2] < r[2] ? SECOND_SMALLER : SAME_HOLD]++;
+    }
+}
+
+/* Prints the counts; from 20,000 rounds on there must be some of each. */
+static int met_all_of_two(unsigned long count)
+{
+    int all = 1;
+    unsigned what = 0;
+    for (unsigned line = 0; line < sizeof lines_of_two / sizeof *lines_of_two; line++) {
+        printf("two sheets, %s:", lines_of_two[line].names);
+        for (; what <= lines_of_two[line].last; what++) {
+            printf(" %lu", met_of_two[what]);
+            all &= met_of_two[what] > 0;
+        }
+        puts("");
+    }
+    if (!all && count >= 20000)
+        puts("NOT MET: some of these");
+    return all || count < 20000;
+}
+
+static void same_number(const char *what, unsigned ours, unsigned theirs)
+{
+    uint8_t one = (uint8_t)ours, other = (uint8_t)theirs;
+    same(what, &one, &other, 1);
+}
+
+/* Where a list of kinds leads in a sheet from its start. */
+static unsigned led_to(const uint8_t *r, const uint8_t *list, size_t length)
+{
+    unsigned q = r[3];
+    for (size_t i = 0; i < length; i++)
+        q = r[52 + q * 16 + list[i]];
+    return q;
+}
+
+/* A list leads in the product to the pair of where it leads in both, and ends acceptably there
+ * where it does in both. */
+static void compare_ends(const uint8_t *r, const uint8_t *s, const uint8_t *product)
+{
+    uint8_t list[40];
+    size_t length = below(sizeof list + 1);
+    for (size_t i = 0; i < length; i++)
+        list[i] = (uint8_t)below(r[1]);
+    unsigned p = led_to(r, list, length), q = led_to(s, list, length), pair = led_to(product, list, length);
+    same_number("where a list leads", pair, p * s[0] + q);
+    same_number("whether a list ends acceptably", product[20 + pair], r[20 + p] && s[20 + q]);
+    met_of_two[ENDS_IN_NEITHER + 2 * r[20 + p] + s[20 + q]]++;
+}
+
+/* Where the product may rest with a held list, each part may, and where it must release, each
+ * must: by solved tables, that of the product the same in C. (S and I of a list do not depend on
+ * the hold, so the parts are solved with the smaller one.) */
+static void compare_rests(const uint8_t *r, const uint8_t *s, twin product)
+{
+    uint8_t count[8], first[JAXHOPHASI_AUTOMATON_SIZE], second[JAXHOPHASI_AUTOMATON_SIZE];
+    ref_buffers_count(product.ours, count);
+    size_t places = 2 * jaxhophasi_number_at(count);
+    if (places > 400)
+        return;
+    twin table = twins(4 * places, 0);
+    uint32_t *by_product = (uint32_t *)table.ours, *by_first = room(4 * places), *by_second = room(4 * places);
+    compare_solve(product, table, places);
+    memcpy(first, r, sizeof first);
+    memcpy(second, s, sizeof second);
+    first[2] = second[2] = product.ours[2];
+    call_now = "solve of two sheets and their product";
+    same_row(jaxhophasi_solve(first, by_first, places, count), 0);
+    same_row(jaxhophasi_solve(second, by_second, places, count), 0);
+    for (size_t i = 0; i < places; i++)
+        for (unsigned p = 0; p < r[0]; p++)
+            for (unsigned q = 0; q < s[0]; q++) {
+                unsigned both = by_first[i] >> p & by_second[i] >> q & 1, all = by_product[i] >> (p * s[0] + q) & 1;
+                same_number(i % 2 ? "where all must release" : "where all may rest", all, all & both);
+                if (i % 2 == 0)
+                    met_of_two[all ? RESTS_IN_ALL : both ? RESTS_IN_BOTH : RESTS_NOT_IN_BOTH]++;
+            }
+    drop_twins(table);
+    free(by_first);
+    free(by_second);
+}
+
+/* Two sheets, and what is true of their product. The same sheet is also lent twice. */
+static void compare_product(void)
+{
+    uint8_t r[JAXHOPHASI_AUTOMATON_SIZE], s[JAXHOPHASI_AUTOMATON_SIZE];
+    make_two(r, s);
+    twin first = twins(sizeof r, 0), second = twins(sizeof s, 0), product = twins(JAXHOPHASI_AUTOMATON_SIZE, 0);
+    set_twins(first, r, sizeof r);
+    set_twins(second, s, sizeof s);
+    call_now = "product";
+    uint8_t row = ref_product(first.theirs, second.theirs, product.theirs);
+    uint8_t *lent = memcmp(r, s, sizeof r) == 0 && below(2) ? first.ours : second.ours;
+    same_row(jaxhophasi_product(first.ours, lent, product.ours), row);
+    same_twins("the first record", first);
+    same_twins("the second record", second);
+    same_twins("the product", product);
+    meet_two(r, s, row);
+    if (row == 0) {
+        compare_ends(r, s, product.ours);
+        if (below(4) == 0)
+            compare_rests(r, s, product);
+    }
+    drop_twins(first);
+    drop_twins(second);
+    drop_twins(product);
+}
+
 /* Leaves fewer bits in a table, sometimes, so that fewer front parts of a hold may go. */
 static void thin_out(twin table, size_t places)
 {
@@ -723,6 +950,8 @@ static void compare_round(uint32_t most)
     drop_twins(record);
     drop_twins(state);
     drop_twins(table);
+    for (unsigned i = 0; i < 4; i++)
+        compare_product();
 }
 
 static int compare(unsigned long count)
@@ -732,7 +961,8 @@ static int compare(unsigned long count)
         compare_round(round_now % 997 == 996 ? 299593 : round_now % 97 == 96 ? 20000 : 400);
     }
     printf("the same: %lu rounds, %lu comparisons\n", count, calls);
-    return met_all(count) ? 0 : 1;
+    int all = met_all(count), all_of_two = met_all_of_two(count);
+    return all && all_of_two ? 0 : 1;
 }
 
 /* ---- measuring ---- */
@@ -1109,6 +1339,47 @@ static void measure_singles(const char *name)
     fflush(stdout);
 }
 
+/* ---- measuring products ---- */
+
+static uint8_t other_record[JAXHOPHASI_AUTOMATON_SIZE];
+static uint8_t product[JAXHOPHASI_AUTOMATON_SIZE], product_by_c[JAXHOPHASI_AUTOMATON_SIZE];
+
+enum { PRODUCTS = 2000 };
+
+static void products_ours(void)
+{
+    emitted = 0;
+    for (unsigned i = 0; i < PRODUCTS; i++)
+        emitted += jaxhophasi_product(record, other_record, product) + (uint64_t)product[0];
+}
+
+static void products_by_c(void)
+{
+    emitted_by_c = 0;
+    for (unsigned i = 0; i < PRODUCTS; i++)
+        emitted_by_c += ref_product(record, other_record, product_by_c) + (uint64_t)product_by_c[0];
+}
+
+static void measure_product(const char *name)
+{
+    double p[3];
+    best_of_singles(products_ours, products_by_c, p);
+    equal("product", product, product_by_c, sizeof product);
+    printf("%-12s | %3u  %7.1f  %4.2f  %4.2f\n", name, product[0], p[0] / PRODUCTS, p[0] / p[1], p[0] / p[2]);
+    fflush(stdout);
+}
+
+/* Two random sheets with 16 kinds. */
+static void measure_random_product(unsigned n, unsigned other_n)
+{
+    char name[32];
+    seed = 1;
+    make_record(record, n, 16, 6, 8, 1);
+    make_alike(other_record, record, other_n, 6, 1);
+    snprintf(name, sizeof name, "%u x %u, m 16", n, other_n);
+    measure_product(name);
+}
+
 /* Sheet W of document 01, and the seeds of the random sheets. */
 static const uint8_t w[] = { 4, 4, 2, 0, 0, 0, 1, 1, 1, 1, 0, 0, 1, 0, 3, 0, 1, 0, 2, 1, 2, 3, 3, 1, 3, 3, 3, 3 };
 static const unsigned seeds[] = { 4, 18, 54, 8, 39 };
@@ -1143,6 +1414,20 @@ static void time_singles(void)
     measure_random(measure_singles, 8, 6, seeds, 2);
 }
 
+static void time_products(void)
+{
+    /* sheet V of document 01, and that of samples/silent.txt */
+    static const uint8_t v[] = { 3, 2, 1, 0, 0, 1, 1, 0, 1, 1, 0, 1, 2, 2, 2 };
+    static const uint8_t silent[] = { 2, 2, 1, 0, 0, 1, 1, 0, 0, 1, 1, 1 };
+    uint8_t place[8];
+    puts("\nproduct      | pairs    ns    /C  /C-v");
+    jaxhophasi_read(v, sizeof v, record, place);
+    jaxhophasi_read(silent, sizeof silent, other_record, place);
+    measure_product("V, silent");
+    measure_random_product(4, 8);
+    measure_random_product(1, 32);
+}
+
 static int time_all(void)
 {
     uint8_t place[8];
@@ -1167,6 +1452,7 @@ static int time_all(void)
     measure_random(measure_any, 8, 6, seeds, 5);
     time_clients();
     time_singles();
+    time_products();
     return 0;
 }
 

@@ -1,5 +1,6 @@
 /* The rules of document 01, and of document 02's lists of growers, its feed, its places in the
- * input and its full hold, in plain C, to compare with and to measure against. */
+ * input, its full hold and its two sheets merged, in plain C, to compare with and to measure
+ * against. */
 #include <string.h>
 
 #include "reference.h"
@@ -93,10 +94,16 @@ static int stands_flat(const uint8_t *record)
     return !bad && ones <= CONTROLLABLE;
 }
 
+/* Whether row 11 lets a record pass. */
+static int valid(const uint8_t *record)
+{
+    return ref_flat_check ? stands_flat(record) : stands(record);
+}
+
 /* Row 11: the sheet of a record, or 0. */
 static int automaton_of(const uint8_t *record, struct automaton *s)
 {
-    if (ref_flat_check ? !stands_flat(record) : !stands(record))
+    if (!valid(record))
         return 0;
     s->n = record[0];
     s->m = record[1];
@@ -732,5 +739,41 @@ uint8_t ref_judge(const uint8_t *automaton, const uint8_t *configuration, uint8_
         return 17;
     answer[0] = (uint8_t)may_rest(&s, c.buffer, c.held, s.n, c.state);
     answer[1] = (uint8_t)can_rest(&s, c.buffer, c.held, s.n, c.state);
+    return 0;
+}
+
+/* The rows of a product, in their order: 11 for each record, 24, 25, or 0. */
+static uint8_t product_row(const uint8_t *first, const uint8_t *second)
+{
+    if (!valid(first) || !valid(second))
+        return 11;
+    if (first[1] != second[1])
+        return 24;
+    for (unsigned e = 0; e < first[1]; e++)
+        if (first[4 + e] != second[4 + e])
+            return 24;
+    return (unsigned)first[0] * second[0] > STATES ? 25 : 0;
+}
+
+uint8_t ref_product(const uint8_t *first, const uint8_t *second, uint8_t *automaton)
+{
+    memset(automaton, 0, 564);
+    uint8_t row = product_row(first, second);
+    if (row)
+        return row;
+    unsigned m = first[1], n = second[0];
+    automaton[0] = (uint8_t)(first[0] * n);
+    automaton[1] = (uint8_t)m;
+    automaton[2] = first[2] < second[2] ? first[2] : second[2];
+    automaton[3] = (uint8_t)(first[3] * n + second[3]);
+    memcpy(automaton + 4, first + 4, m);
+    for (unsigned p = 0; p < first[0]; p++)
+        for (unsigned q = 0; q < n; q++) {
+            const uint8_t *from_p = first + 52 + p * SYMBOLS, *from_q = second + 52 + q * SYMBOLS;
+            uint8_t *from = automaton + 52 + (p * n + q) * SYMBOLS;
+            automaton[20 + p * n + q] = first[20 + p] && second[20 + q];
+            for (unsigned e = 0; e < m; e++)
+                from[e] = (uint8_t)(from_p[e] * n + from_q[e]);
+        }
     return 0;
 }

@@ -32,5 +32,6 @@ uint8_t ref_run_for(const uint8_t *automaton, const uint32_t *table, size_t tabl
 uint8_t ref_feed(const uint8_t *automaton, const uint32_t *table, size_t table_length, uint8_t (*configurations)[40],
     size_t configurations_length, const uint8_t *bytes, size_t bytes_length, uint8_t *expected, uint8_t *answer);
 uint8_t ref_judge(const uint8_t *automaton, const uint8_t *configuration, uint8_t *answer);
+uint8_t ref_product(const uint8_t *first, const uint8_t *second, uint8_t *automaton);
 
 #endif

@@ -84,6 +84,7 @@ def library_at(path):
         "receive": [byte, word, size, carried, ctypes.c_uint32, byte],
         "run": [byte, word, size, carried, word, size, byte, size, byte],
         "judge": [byte, carried, byte],
+        "product": [byte, byte, byte],
         "receive_for": [byte, word, size, carried, size, ctypes.c_uint32, ctypes.c_uint32, byte],
         "run_for": [byte, word, size, carried, size, word, size, byte, size, byte],
         "feed": [byte, word, size, carried, size, byte, size, byte, byte],
@@ -122,15 +123,15 @@ def read_file(path, most=-1):
         stop(2, path, error.strerror)
 
 
-def read(library, path):
-    """The record of a sheet; the number of refusal and its place are printed, and nothing is
-    handed back."""
+def read(library, path, which=""):
+    """The record of a sheet; the number of refusal and its place are printed, behind which sheet
+    it is where there are two, and nothing is handed back."""
     data = read_file(path, BYTES_READ)
     automaton, place = lent(AUTOMATON_SIZE), lent(NUMBER_SIZE)
     row = library.jaxhophasi_read(filled(data), len(data), automaton, place)
     if row == 0:
         return automaton
-    print("refused", row, "at", number_at(place))
+    print("{}refused {} at {}".format(which, row, number_at(place)))
     return None
 
 
@@ -190,15 +191,19 @@ def print_day(library, automaton, table, places, events):
         print("day out", symbols(out[:number_at(answer)]), carried_state(configuration), "refused", number_at(answer, 8))
 
 
-def run_sheet(library, path, events):
-    """Reads the sheet and runs it, or prints its refusal; the status."""
-    automaton = read(library, path)
+def run_events(library, automaton, events):
+    """Solves a sheet and runs the events, unless it is refused; the status."""
     if automaton is None:
         return 1
     table, places = solve(library, automaton)
     print_events(library, automaton, table, places, events)
     print_day(library, automaton, table, places, events)
     return 0
+
+
+def run_sheet(library, path, events):
+    """Reads the sheet and runs the events, or prints the sheet's refusal; the status."""
+    return run_events(library, read(library, path), events)
 
 
 def printed(run, *arguments):
@@ -214,10 +219,15 @@ def printed(run, *arguments):
     return status
 
 
+def read_events(words):
+    """The numbers of words, each an event."""
+    return [number_of(word, 0xFFFFFFFF, "no event number (0 to 4294967295)") for word in words]
+
+
 def main(words):
     if len(words) < 3:
         stop(2, "usage", "day.py LIBRARY SHEET EVENT ..")
-    events = [number_of(word, 0xFFFFFFFF, "no event number (0 to 4294967295)") for word in words[3:]]
+    events = read_events(words[3:])
     return printed(run_sheet, library_at(words[1]), words[2], events)
 
 

@@ -99,14 +99,15 @@ static size_t read_file(const char *name, uint8_t bytes[BYTES_READ])
     return length;
 }
 
-/* Reads the sheet of a file into a record; prints its refusal and hands it back. */
-static uint8_t read_sheet(const char *name, uint8_t automaton[JAXHOPHASI_AUTOMATON_SIZE])
+/* Reads the sheet of a file into a record; prints its refusal, behind which sheet it is where
+ * there are two, and hands it back. */
+static uint8_t read_sheet(const char *which, const char *name, uint8_t automaton[JAXHOPHASI_AUTOMATON_SIZE])
 {
     uint8_t bytes[BYTES_READ], place[JAXHOPHASI_NUMBER_SIZE];
     size_t length = read_file(name, bytes);
     uint8_t row = jaxhophasi_read(bytes, length, automaton, place);
     if (row)
-        printf("refused %u at %u\n", row, (unsigned)jaxhophasi_number_at(place));
+        printf("%srefused %u at %u\n", which, row, (unsigned)jaxhophasi_number_at(place));
     return row;
 }
 

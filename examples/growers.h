@@ -125,7 +125,7 @@ static int over_growers(int words, char **word, const char *usage, const struct 
         stop(2, "usage", usage);
     g.count = number_of(word[2], MOST_GROWERS, "no number of growers (0 to 65535)");
     struct line *lines = read_lines(word[3], form, &count);
-    int refused = read_sheet(word[1], g.automaton) != 0;
+    int refused = read_sheet("", word[1], g.automaton) != 0;
     if (!refused) {
         g.table = solve(g.automaton, &g.places);
         g.list = room(g.count, JAXHOPHASI_CONFIGURATION_SIZE);

@@ -6,7 +6,8 @@
  * Every function returns the number of refusal, 0 where nothing is refused. In a refused call's
  * answer every count, length, place in the input and yes-or-no is 0; the lent carried state or
  * list of them, expected serial, table and output keep their contents (the same bytes may be
- * stored again). A refused read leaves an all-zero record and the place of the fault. One
+ * stored again). A refused call that answers with a sheet's record, jaxhophasi_read or
+ * jaxhophasi_product, leaves an all-zero record there, and the read the place of the fault. One
  * exception: where 19, 13, 14, 15 or 23 refuses the event of a feed's record, that record was let
  * in, so the answer has its loss and the lent expected serial moves on.
  *
@@ -34,7 +35,7 @@ extern "C" {
  * or may see another answer, the second where calls are added, the third at every other change.
  * The three are also one number, 10000 for 1.0.0 and 10203 for 1.2.3. */
 #define JAXHOPHASI_VERSION_MAJOR 3
-#define JAXHOPHASI_VERSION_MINOR 0
+#define JAXHOPHASI_VERSION_MINOR 1
 #define JAXHOPHASI_VERSION_PATCH 0
 #define JAXHOPHASI_VERSION \
     (JAXHOPHASI_VERSION_MAJOR * 10000 + JAXHOPHASI_VERSION_MINOR * 100 + JAXHOPHASI_VERSION_PATCH)
@@ -163,10 +164,11 @@ static inline uint64_t jaxhophasi_number_at(const uint8_t *bytes)
 #define JAXHOPHASI_TABLE_MOST JAXHOPHASI_MAX_TABLE
 #define JAXHOPHASI_SHEET_MOST JAXHOPHASI_MAX_SHEET
 
-/* Numbers of refusal. A read goes left to right, every other call checks its own in this order,
- * but that receive_for and run_for check 20 and 19 after 12, and feed 11, 12, 20, then its record
- * (1 and 2 left to right, 10, 21, 22), then the event (19, 13, 14, 15, 23); the first that holds
- * is given. (18 is the programs' own.) */
+/* Numbers of refusal. A read goes left to right, every other call checks its own in this order
+ * (product 11 of the first record and of the second, 24, 25), but that receive_for and run_for
+ * check 20 and 19 after 12, and feed 11, 12, 20, then its record (1 and 2 left to right, 10, 21,
+ * 22), then the event (19, 13, 14, 15, 23); the first that holds is given. (18 is the programs'
+ * own.) */
 enum {
     JAXHOPHASI_FINE = 0,
     JAXHOPHASI_ENDS_EARLY = 1,         /* read, feed: the bytes end before the sheet or the feed's
@@ -212,9 +214,13 @@ enum {
     JAXHOPHASI_BAD_SERIAL = 21,        /* feed: serial above 65,535 */
     JAXHOPHASI_LATE_SERIAL = 22,       /* feed: late or a repeat: a serial 32,768 or more forward
                                         * of the expected one */
-    JAXHOPHASI_INPUT_COUNT_END = 23    /* receive, receive_for, feed: an event of any class that
+    JAXHOPHASI_INPUT_COUNT_END = 23,   /* receive, receive_for, feed: an event of any class that
                                         * would be accepted, but the input count is at its end,
                                         * 4,294,967,295 (a day passes over it and counts it) */
+    JAXHOPHASI_SYMBOLS_DIFFER = 24,    /* product: the kinds of the two records differ in number,
+                                        * or one of them in its class */
+    JAXHOPHASI_MANY_PAIRS = 25         /* product: more than 32 pairs of states (n of the first
+                                        * times n of the second) */
 };
 
 /* Reads and checks a sheet. Rows 1 to 10, left to right; place is where the faulty number begins,
@@ -298,6 +304,23 @@ uint8_t jaxhophasi_feed(const uint8_t automaton[JAXHOPHASI_AUTOMATON_SIZE], cons
  * without a table; for small sheets. Rows 11, 13, 17. */
 uint8_t jaxhophasi_judge(const uint8_t automaton[JAXHOPHASI_AUTOMATON_SIZE],
     const uint8_t configuration[JAXHOPHASI_CONFIGURATION_SIZE], uint8_t answer[JAXHOPHASI_VERDICT_SIZE]);
+
+/* Two sheets, both to be obeyed, become one: their product, into automaton. Its states are pairs:
+ * state p of the first and state q of the second are state p * n + q, with n of the second. It
+ * starts in the pair of both starts, a pair is acceptable where both its states are, each kind
+ * leads from a pair to the pair of where it leads in both, and the hold is the smaller one. Kinds
+ * and classes are those of both. Rows 11 of the first, 11 of the second, 24, 25; refused,
+ * automaton becomes all zeros. (first and second may be the same record; automaton overlaps
+ * neither.)
+ *
+ * A list of events ends in an acceptable state of the product exactly where it does in both. Over
+ * solved tables, where the product is guarded so is each of the two, in its state of the pair and
+ * with the same held list. But both may be guarded where the product is not: with Answer held V is
+ * in state 0, and so is 2 2 1 0, 0 1, 1 0, 0 1, 1 1 (no Answer may go out), but their product is
+ * not in the pair of these, for after a Query the one needs the Answer to go, the other to
+ * stay. */
+uint8_t jaxhophasi_product(const uint8_t first[JAXHOPHASI_AUTOMATON_SIZE], const uint8_t second[JAXHOPHASI_AUTOMATON_SIZE],
+    uint8_t automaton[JAXHOPHASI_AUTOMATON_SIZE]);
 
 #ifdef __cplusplus
 }

@@ -3,14 +3,18 @@ what came out below it, numbers or groups of them. Lines that begin with # are p
 
     python3 tests/cases.py LIBRARY FILE
 
-LIBRARY is the shared object made from the archive. One record, one table, one carried state and
-one list of clients' carried states are kept from line to line. A line is a word and numbers;
-spaces, commas and semicolons part them. A carried state (STATE) is sixteen numbers: the state, how
-many are held, six kinds, their six places in the input, how many came in and how many went out.
+LIBRARY is the shared object made from the archive. One record, two records to be merged, one
+table, one carried state and one list of clients' carried states are kept from line to line. A line
+is a word and numbers; spaces, commas and semicolons part them. A carried state (STATE) is sixteen
+numbers: the state, how many are held, six kinds, their six places in the input, how many came in
+and how many went out.
 
     sheet BYTES             reads a sheet:
                             = refusal, place, n, m, B, start, the sum of all bytes of the record
     overwrite PLACE VALUE   changes one byte of the record
+    first, second           the record, as it is, becomes the first or the second to be merged
+    product                 merges these two into the record, whose bytes were 9:
+                            = refusal, n, m, B, start, the sum of all bytes of the record
     write ROOM              writes the sheet into ROOM bytes that were 9:
                             = refusal, length, those bytes
     count                   = refusal, T
@@ -42,6 +46,11 @@ many are held, six kinds, their six places in the input, how many came in and ho
     agree NUMBERS           every sheet that begins with these numbers, every carried state over
                             it: = sheets, carried states, in how many of them the judge says what
                             the solved table says
+    parts NUMBERS           every first sheet that begins with these numbers, merged with the
+                            second; every held list and every pair of states: = sheets, such states
+                            with a list, in how many the product may rest, in how many both parts
+                            may, and in how many the product may and a part may not, by solved
+                            tables
 """
 import itertools
 import pathlib
@@ -91,6 +100,7 @@ class Cases:
     def __init__(self, library):
         self.library = library
         self.automaton, self.configuration = lent(AUTOMATON_SIZE), Configuration()
+        self.two = [lent(AUTOMATON_SIZE), lent(AUTOMATON_SIZE)]  # to be merged
         self.table_words = numbers([0] * TABLE_PLACES)
         self.list = []  # the clients' carried states
 
@@ -101,6 +111,20 @@ class Cases:
 
     def overwrite(self, place, value):
         self.automaton[place] = value
+
+    def first(self):
+        self.two[0] = filled(self.automaton[:AUTOMATON_SIZE])
+
+    def second(self):
+        self.two[1] = filled(self.automaton[:AUTOMATON_SIZE])
+
+    def product(self):
+        before = [part[:] for part in self.two]
+        self.automaton = answer(AUTOMATON_SIZE)
+        row = self.library.jaxhophasi_product(*self.two, self.automaton)
+        if [part[:] for part in self.two] != before:
+            sys.exit("a product changed what it was lent")
+        return [row] + self.automaton[:4] + [sum(self.automaton)]
 
     def write(self, room):
         out, length = filled([9] * room), answer(NUMBER_SIZE)
@@ -200,6 +224,30 @@ class Cases:
                         asked += 1
                         agreed += self.judge() == [0, rests, rests | released]
         return [sheets, asked, agreed]
+
+    def resting(self, automaton):
+        """Where a record may rest, for each held list: a set as bits."""
+        self.automaton = filled(automaton[:AUTOMATON_SIZE])
+        return self.table(2 * self.count()[1])[2::2]
+
+    def parts(self, *head):
+        states, symbols = head[:2]
+        by_second, other_states = self.resting(self.two[1]), self.two[1][0]
+        pairs = list(itertools.product(range(states), range(other_states)))
+        sheets = asked = rests = both = wrong = 0
+        for accepting in itertools.product(range(2), repeat=states):
+            for following in itertools.product(range(states), repeat=states * symbols):
+                sheets += self.sheet(*head, *accepting, *following)[0] == 0
+                self.first()
+                by_first = self.resting(self.automaton)
+                self.product()
+                for one, other, merged in zip(by_first, by_second, self.resting(self.automaton)):
+                    for p, q in pairs:
+                        may = merged >> p * other_states + q & 1
+                        parts_may = one >> p & other >> q & 1
+                        asked += 1
+                        rests, both, wrong = rests + may, both + parts_may, wrong + (may > parts_may)
+        return [sheets, asked, rests, both, wrong]
 
 
 def main(library, path):

@@ -560,6 +560,123 @@ static void check_rows_of_feeds(void)
     row(11, JAXHOPHASI_BAD_AUTOMATON, FEED(3, 12, 0, 0));
 }
 
+/* ---- two sheets merged ---- */
+
+/* A sheet with V's kinds: no Answer is to go out. */
+static const uint8_t silent[] = { 2, 2, 1, 0, 0, 1, 1, 0, 0, 1, 1, 1 };
+
+static uint8_t one[ROOM], other[ROOM];
+
+static void read_two(const uint8_t *bytes, size_t length, const uint8_t *other_bytes, size_t other_length)
+{
+    same("the first sheet", jaxhophasi_read(bytes, length, one, number), 0);
+    same("the second sheet", jaxhophasi_read(other_bytes, other_length, other, number), 0);
+}
+
+/* The product of the two over bytes that are not 0; what is lent besides stays. */
+static uint8_t merge(void)
+{
+    static uint8_t kept_one[564], kept_other[564];
+    memcpy(kept_one, one, 564);
+    memcpy(kept_other, other, 564);
+    memset(automaton, 0x55, ROOM);
+    uint8_t row = jaxhophasi_product(one, other, automaton);
+    same("the byte behind the product", automaton[564], 0x55);
+    same_bytes("the first record", one, kept_one, 564);
+    same_bytes("the second record", other, kept_other, 564);
+    return row;
+}
+
+/* Pairs of V's states and silent's, 0 0 to 2 1; and of silent's and V's, 0 0 to 1 2. */
+static void check_product(void)
+{
+    static const uint8_t v_silent[564] = { 6, 2, 1, 0, [5] = 1, [20] = 1, [24] = 1,
+        [52] = 2, 1, [68] = 3, 1, [84] = 2, 5, [100] = 3, 5, [116] = 4, 5, [132] = 5, 5 };
+    static const uint8_t silent_v[564] = { 6, 2, 1, 0, [5] = 1, [20] = 1, [22] = 1,
+        [52] = 1, 3, [68] = 1, 5, [84] = 2, 5, [100] = 4, 3, [116] = 4, 5, [132] = 5, 5 };
+    read_two(v, sizeof v, silent, sizeof silent);
+    same("AUTOMATON_SIZE of a product", JAXHOPHASI_AUTOMATON_SIZE, WRITTEN(jaxhophasi_product(one, other, lent)));
+    same("V and silent", merge(), 0);
+    same_bytes("V and silent", automaton, v_silent, 564);
+    read_two(silent, sizeof silent, v, sizeof v);
+    same("silent and V", merge(), 0);
+    same_bytes("silent and V", automaton, silent_v, 564);
+    /* by the header's offsets: other starts, and another hold for each of the two */
+    for (uint8_t hold = 3; hold < 6; hold += 2) {
+        one[JAXHOPHASI_AUTOMATON_INITIAL] = 1;
+        other[JAXHOPHASI_AUTOMATON_INITIAL] = 2;
+        one[JAXHOPHASI_AUTOMATON_CAPACITY] = hold;
+        other[JAXHOPHASI_AUTOMATON_CAPACITY] = 4;
+        same("silent and V, other starts and holds", merge(), 0);
+        same("the start of a product", automaton[JAXHOPHASI_AUTOMATON_INITIAL], 5);
+        same("the hold of a product", automaton[JAXHOPHASI_AUTOMATON_CAPACITY], hold == 3 ? 3 : 4);
+    }
+    same("V twice, lent once", jaxhophasi_product(other, other, automaton), 0);
+    same("pairs of V and V", automaton[JAXHOPHASI_AUTOMATON_STATES], 9);
+    same("V twice is a sheet", jaxhophasi_buffers_count(automaton, number), 0);
+}
+
+/* With Answer held in state 0 each of the two may rest, and their product may not. */
+static void check_apart_not_together(void)
+{
+    read_two(v, sizeof v, silent, sizeof silent);
+    merge();
+    const uint8_t *const records[] = { one, other, automaton };
+    for (int i = 0; i < 3; i++) {
+        set_configuration(0, 1, 1, 1);
+        same("a table of 4 places", jaxhophasi_solve(records[i], table, 4, number), 0);
+        same("winning with Answer held", jaxhophasi_winning(records[i], table, 4, configuration, answer), 0);
+        same("guarded with Answer held", answer[0], i < 2);
+    }
+}
+
+/* A refused product is all zeros. */
+static void refused_product(unsigned document, unsigned header)
+{
+    static const uint8_t zeros[564];
+    row(document, header, merge());
+    same_bytes("a refused product", automaton, zeros, 564);
+}
+
+/* Plain sheets with so many states and kinds each. */
+static void plain_two(unsigned n, unsigned m, unsigned other_n, unsigned other_m)
+{
+    static uint8_t sheet[ROOM], other_sheet[ROOM];
+    size_t length = plain_sheet(sheet, n, m), other_length = plain_sheet(other_sheet, other_n, other_m);
+    read_two(sheet, length, other_sheet, other_length);
+}
+
+static void check_rows_of_products(void)
+{
+    read_two(v, sizeof v, silent, sizeof silent);
+    one[0] = 40;
+    refused_product(11, JAXHOPHASI_BAD_AUTOMATON);
+    read_two(v, sizeof v, silent, sizeof silent);
+    other[563] = 1;
+    refused_product(11, JAXHOPHASI_BAD_AUTOMATON);
+    read_two(v, sizeof v, w, sizeof w);
+    refused_product(24, JAXHOPHASI_SYMBOLS_DIFFER);
+    other[0] = 40; /* 11 before 24 */
+    refused_product(11, JAXHOPHASI_BAD_AUTOMATON);
+    read_two(v, sizeof v, silent, sizeof silent);
+    other[JAXHOPHASI_AUTOMATON_CLASSES] = 1;
+    refused_product(24, JAXHOPHASI_SYMBOLS_DIFFER);
+    plain_two(2, 1, 2, 2); /* all 16 places of the classes agree */
+    refused_product(24, JAXHOPHASI_SYMBOLS_DIFFER);
+    plain_two(6, 1, 6, 2); /* 24 before 25 */
+    refused_product(24, JAXHOPHASI_SYMBOLS_DIFFER);
+    plain_two(3, 2, 11, 2);
+    refused_product(25, JAXHOPHASI_MANY_PAIRS);
+    plain_two(32, 16, 8, 16); /* 256 pairs */
+    refused_product(25, JAXHOPHASI_MANY_PAIRS);
+    plain_two(4, 16, 8, 16);
+    row(0, JAXHOPHASI_FINE, merge());
+    same("32 pairs", automaton[JAXHOPHASI_AUTOMATON_STATES], JAXHOPHASI_MAX_STATES);
+    plain_two(1, 16, 32, 16);
+    row(0, JAXHOPHASI_FINE, merge());
+    same_bytes("one state and 32", automaton, other, 564);
+}
+
 /* Row 13's new parts, each broken by the header's offsets in a carried state that passed. */
 static void broken(const char *what, size_t offset, uint8_t value)
 {
@@ -614,6 +731,9 @@ int main(void)
     check_rows_of_reading();
     check_rows_of_calls();
     check_rows_of_feeds();
+    check_product();
+    check_apart_not_together();
+    check_rows_of_products();
     check_broken_places();
     free(table);
     return different;

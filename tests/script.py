@@ -7,6 +7,7 @@ import contextlib
 import os
 import pathlib
 import pty
+import re
 import select
 import shutil
 import signal
@@ -18,7 +19,15 @@ import tty
 
 from ending import Ended, PATIENCE, compare, ended, fail, finished, state, until
 
-CRATES = "base:  # not other\ntext: base\nother: base text\npack: text io\nday: text base libc\n"
+CRATES = """base:  # not other
+text: base
+other: base text
+pack: text io
+day: text base libc
+merge: text
+unpack: text
+"""
+NAMES = "day", "pack", "unpack", "merge"  # the programs
 
 RT = """#!/bin/sh
 echo "$*" >>"$CALLS"
@@ -53,6 +62,10 @@ V = [3, 2, 1, 0, 0, 1, 1, 0, 1, 1, 0, 1, 2, 2, 2]
 FILES = {
     "v.bytes": bytes([15, *V, 1, 0]),
     "a sheet": b"3 2 1 0, 0 1,\n1 0 1, 1 0, 1 2, 2 2\n",
+    "silent": b"2 2 1 0, 0 1,\n1 0, 0 1, 1 1\n",
+    "six": b"6 1 1 0, 0, 1 1 1 1 1 1, 0 0 0 0 0 0",
+    "six of two": b"6 2 1 0, 0 0, 1 1 1 1 1 1, 0 0 0 0 0 0 0 0 0 0 0 0",
+    "classes": b"2 2 1 0, 1 0, 1 0, 0 1, 1 1",
     "-events": b"1 0",
     "--help": b"3 2 1 0 0 1 1 0 1 1 0 1 2 2 2",
     "none": b"",
@@ -72,12 +85,40 @@ FILES = {
     "text": b"1 " * 131072 + b"1",
 }
 
+# What is refused of a sheet in a text: the row, the place in its bytes, and what is said of it.
+FAULTS = {
+    "states": (3, 0, "line 2: 00033 is refused by row 3"),
+    "kinds": (4, 1, "line 2: 16384 is refused by row 4"),
+    "class": (7, 5, "line 4: 200 is refused by row 7"),
+    "next": (9, 14, "line 5: 3 is refused by row 9"),
+    "left": (10, 15, "line 3: 5 is refused by row 10"),
+    "early": (1, 5, "line 3: the numbers end early, refused by row 1"),
+    "comment": (1, 0, "it has no number, refused by row 1"),
+}
+
 V_LINE = "sheet 3 2 1 start 0 guarded no\n"
 LONG_DAY = V_LINE + 59984 * "in 0 out 0 state 1 held 0 guarded no\n" + "end 59984 0\n"
 
 
+# V, "a sheet", and "silent", merged: pairs 0 0 to 2 1. Answer is held, and then Query passes.
+MERGED = "6 2 1 0 0 1 1 0 0 0 1 0 2 1 3 1 2 5 3 5 4 5 5 5\n"
+MERGED_DAY = """sheet 6 2 1 start 0 guarded no
+in 1 out - state 0 held 1 guarded no
+in 0 out 0 state 2 held 1 guarded no
+end 2 0
+"""
+
+
 def long_line(sheet, events):
     return "day: {} and {} are over 60000 bytes together, refused by row 18\n".format(sheet, events)
+
+
+def other_kinds(first, second):
+    return "day: {} and {}: their kinds differ in number or class, refused by row 24\n".format(first, second)
+
+
+def many_pairs(first, second):
+    return "day: {} and {} have more than 32 pairs of states, refused by row 25\n".format(first, second)
 
 
 # What is given, the words behind ./day, the status, what is printed and what is said. PRINTED is
@@ -94,7 +135,7 @@ CASES = [
     ("no events' file", ["a sheet", "neither"], 2, "", "day: neither: no such file\n"),
     ("a directory", ["."], 2, "", "day: .: is a directory\n"),
     ("a directory of events", ["a sheet", ".."], 2, "", "day: ..: is a directory\n"),
-    ("three names", ["a", "b", "c"], 2, "", "day: too many arguments: a b c (./day --help)\n"),
+    ("four names", ["a", "b", "c", "d"], 2, "", "day: too many arguments: a b c d (./day --help)\n"),
     ("the sample and a name", ["--sample", "a"], 2, "", "day: too many arguments: --sample a (./day --help)\n"),
     ("a text for bytes", ["a sheet"], 2, "", TEXT.format("a sheet")),
     ("a text with bytes over 127", ["high"], 2, "", TEXT.format("high")),
@@ -113,7 +154,65 @@ CASES = [
     ("row 18", ["a sheet", "long"], 0, "refused 18\n", long_line("a sheet", "long")),
     ("row 18, by the sheet", ["longer", "none"], 0, "refused 18\n", long_line("longer", "none")),
     ("60000 bytes", ["a sheet", "longest"], 0, LONG_DAY, ""),
+    ("three texts", ["a sheet", "silent", "-events"], 0, MERGED_DAY, ""),
+    ("three texts, after --", ["--", "--help", "silent", "-events"], 0, MERGED_DAY, ""),
+    ("three texts, no event", ["a sheet", "silent", "none"], 0, MERGED_DAY[:31] + "end 0 0\n", ""),
+    ("no first sheet", ["neither", "silent", "-events"], 2, "", "day: neither: no such file\n"),
+    ("no second sheet", ["a sheet", "neither", "-events"], 2, "", "day: neither: no such file\n"),
+    ("no events for two sheets", ["a sheet", "silent", "neither"], 2, "", "day: neither: no such file\n"),
+    ("a directory for the second", ["a sheet", ".", "-events"], 2, "", "day: .: is a directory\n"),
+    ("no number in the first", ["word", "silent", "-events"], 1, "", "day: word: line 2: x7 is no number\n"),
+    ("no number in the second", ["a sheet", "word", "-events"], 1, "", "day: word: line 2: x7 is no number\n"),
+    ("no number in the events for two", ["a sheet", "silent", "word"], 1, "", "day: word: line 2: x7 is no number\n"),
+    ("no number before a refusal", ["states", "six", "word"], 1, "", "day: word: line 2: x7 is no number\n"),
+    ("too long a second text", ["a sheet", "text", "none"], 1, "", "day: text: more than 262144 bytes of text\n"),
+    ("the first's fault before the second's", ["next", "states", "none"], 0, "refused 9 at 15\n",
+     "day: next: " + FAULTS["next"][2] + "\n"),
+    ("the first ends early, the second is empty", ["early", "comment", "none"], 0, "refused 1 at 6\n",
+     "day: early: " + FAULTS["early"][2] + "\n"),
+    ("a fault before row 24", ["a sheet", "kinds", "none"], 0, "refused 4 at 17\n", "day: kinds: " + FAULTS["kinds"][2] + "\n"),
+    ("row 12, merged", ["table", "table", "-events"], 0, "refused 12\n", "day: table merged with table is refused by row 12\n"),
+    ("row 18, merged", ["a sheet", "silent", "long"], 0, "refused 18\n", long_line("a sheet merged with silent", "long")),
+    ("no file to merge", ["--product", "a sheet", "neither"], 2, "", "day: neither: no such file\n"),
+    ("two names that are options", ["--product", "--", "--help", "silent"], 0, MERGED, ""),
+    ("a file --product", ["--", "--product", "-events"], 2, "", "day: --product: no such file\n"),
 ]
+
+# The samples of a run, and where its output stands.
+SAMPLES = [
+    (["W", "W-day"], "W-day"),
+    (["phi_ex", "phi_ex-day"], "phi_ex-day"),
+    (["receipt", "receipt-day"], "receipt-day"),
+    (["season-grower", "season-grower-day"], "season-grower-day"),
+    (["season", "grower", "season-grower-day"], "season-grower-day"),
+    (["V", "V-silent-day"], "V-silent-first"),
+    (["silent", "V-silent-day"], "V-silent-second"),
+    (["V", "silent", "V-silent-day"], "V-silent-day"),
+]
+
+# Two sheets merged, each case with events behind them and with --product before them.
+TWO = [
+    ("row 24, number", "a sheet", "six", "refused 24\n", other_kinds("a sheet", "six")),
+    ("row 24, class", "a sheet", "classes", "refused 24\n", other_kinds("a sheet", "classes")),
+    ("row 24 before 25", "six", "six of two", "refused 24\n", other_kinds("six", "six of two")),
+    ("row 25", "six", "six", "refused 25\n", many_pairs("six", "six")),
+    ("row 18, by the first", "longer", "silent", "refused 18\n", long_line("longer", "silent")),
+    ("row 18, by the second", "a sheet", "longer", "refused 18\n", long_line("a sheet", "longer")),
+]
+for name, (row, place, said) in FAULTS.items():
+    TWO.append((
+        "row {} of the first, {}".format(row, name), name, "silent", "refused {} at {}\n".format(row, 1 + place),
+        "day: {}: {}\n".format(name, said)))
+    TWO.append((
+        "row {} of the second, {}".format(row, name), "a sheet", name, "refused {} at {}\n".format(row, 16 + place),
+        "day: {}: {}\n".format(name, said)))
+for what, first, second, stdout, stderr in TWO:
+    CASES.append((what, [first, second, "-events"], 0, stdout, stderr))
+    CASES.append((what + ", --product", ["--product", first, second], 0, stdout, stderr))
+CASES.append(("two sheets, --product", ["--product", "a sheet", "silent"], 0, MERGED, ""))
+for words in [], ["a sheet"], ["a sheet", "silent", "-events"], ["--"], ["--", "a sheet"]:
+    what = "--product and {} words".format(len(words))
+    CASES.append((what, ["--product", *words], 2, "", "day: --product takes two sheets (./day --help)\n"))
 
 
 class House:
@@ -131,7 +230,7 @@ class House:
         (self.script.parent / "crates.txt").write_text(CRATES)
         for name, data in FILES.items():
             (self.start / name).write_bytes(data)
-        for name in "day", "pack":
+        for name in NAMES:
             shutil.copy(root / "target" / "bin" / name, self.programs)
             os.utime(self.programs / name, (0, 0))
         self.printed = (root / "crates" / "day" / "stdout").read_bytes()
@@ -150,7 +249,7 @@ class House:
     def put_programs(self, **stand_ins):
         """Puts the programs there, built: real ones, or stand-ins by their text."""
         self.remove_programs()
-        for name in "day", "pack":
+        for name in NAMES:
             place = self.script.parent / "target" / "bin" / name
             place.parent.mkdir(parents=True, exist_ok=True)
             shutil.copy(self.programs / name, place)
@@ -203,9 +302,13 @@ def try_cases(house):
     house.put_programs()
     for what, words, status, stdout, stderr in CASES:
         house.check(what, house.run(words), status, stdout, stderr)
-    for name in "W", "phi_ex", "receipt":
-        words = [house.root / "samples" / (name + end) for end in (".txt", "-day.txt")]
-        house.check(name, house.run(words), 0, (house.root / "samples" / (name + "-day.out")).read_bytes())
+    for names, out in SAMPLES:
+        words = [house.root / "samples" / (name + ".txt") for name in names]
+        house.check(" ".join(names), house.run(words), 0, (house.root / "samples" / (out + ".out")).read_bytes())
+    merged = (house.root / "samples" / "season-grower.txt").read_text()
+    line = " ".join(re.findall("[0-9]+", re.sub("#.*", "", merged))) + "\n"
+    words = ["--product", *(house.root / "samples" / (name + ".txt") for name in ("season", "grower"))]
+    house.check("season and grower, merged", house.run(words), 0, line)
     helped = house.run(["--help"])
     house.check("--help", helped._replace(stdout=helped.stdout[:27]), 0, "usage: ./day SHEET EVENTS  ")
     house.check("--help to a full device", house.run(["--help"], stdout=open("/dev/full", "wb"))._replace(stderr=b""), 1)
@@ -279,31 +382,35 @@ def try_texts(house):
 def try_outputs(house):
     """Where the output fails, or a program does."""
     house.put_programs()
-    two = ["a sheet", "longest"]
-    for words in ["v.bytes"], two:
-        house.check("a full device", house.run(words, stdout=open("/dev/full", "wb")), 1, "", "day: cannot write\n")
+    two, three, merged = ["a sheet", "longest"], ["a sheet", "silent", "-events"], ["--product", "a sheet", "silent"]
+    refused = ["a sheet", "six", "-events"]
+    for words, said in (["v.bytes"], ""), (two, ""), (three, ""), (merged, "unpack: "), (refused, ""):
+        said = "day: {}cannot write\n".format(said)
+        house.check("a full device", house.run(words, stdout=open("/dev/full", "wb")), 1, "", said)
         closed = ended(["sh", "-c", 'exec "$@" >&-', "sh", *house.command(words)], **house.how())
-        house.check("a closed output", closed, 1, "", "day: cannot write\n")
-    for words, status, stdout in (["v.bytes"], 0, "PRINTED"), (["neither"], 2, ""):
+        house.check("a closed output", closed, 1, "", said)
+    for words, status, stdout in (["v.bytes"], 0, "PRINTED"), (["neither"], 2, ""), (refused, 0, "refused 24\n"):
         silent = ended(["sh", "-c", 'exec "$@" 2>&-', "sh", *house.command(words)], **house.how())
         house.check("a closed standard error", silent, status, stdout)
-    process = house.begin(two, stdout=subprocess.PIPE, stderr=subprocess.PIPE)
-    process.stdout.close()
-    process.stdout = None
-    house.check("a reader that goes away", finished(process), 128 + signal.SIGPIPE)
+    for words in two, merged, refused:
+        process = house.begin(words, stdout=subprocess.PIPE, stderr=subprocess.PIPE)
+        process.stdout.close()
+        process.stdout = None
+        house.check("a reader that goes away", finished(process), 128 + signal.SIGPIPE)
     process = house.begin(["word", "-events"], stdout=subprocess.PIPE, stderr=subprocess.PIPE)
     process.stderr.close()
     process.stderr = None
     house.check("a reader of standard error that goes away", finished(process), 128 + signal.SIGPIPE)
-    for name, words in ("day", ["v.bytes"]), ("day", two), ("pack", two):
+    for name, words, front in [
+            ("day", ["v.bytes"], ""), ("day", two, ""), ("pack", two, "day: a sheet: "), ("day", three, ""),
+            ("pack", three, "day: a sheet: "), ("merge", three, "day: "), ("merge", merged, "day: "), ("unpack", merged, "day: ")]:
         house.put_programs(**{name: "echo front; kill -9 $$"})
-        out = "front\n" if name == "day" else ""
+        out = "front\n" if name in ("day", "unpack") else ""
         got = house.run(words)
         line = got.stderr[got.stderr.rfind(b"day: "):]  # bash says it too
         said = "day: {} was killed by signal 9\n".format(name)
         house.check(name + " is killed", got._replace(stderr=line), 128 + signal.SIGKILL, out, said)
         house.put_programs(**{name: "echo front; echo one >&2; printf two >&2"})
-        front = "" if name == "day" else "day: a sheet: "
         house.check(name + " says something", house.run(words), 1, out, "{0}one\n{0}two\n".format(front))
         house.put_programs(**{name: "exit 3"})
         house.check(name + " ends with a status", house.run(words), 3)
@@ -358,6 +465,12 @@ def try_builds(house):
     house.check("the first build, bytes", house.run(["v.bytes"]), 0, "PRINTED", built(["day"], 3))
     house.check("one program is missing", house.run(two), 0, "PRINTED", built(["day", "pack"], 4))
     house.called("one program is missing", ["check day", "check day pack"])
+    house.remove_programs()
+    house.check("the first build, two sheets", house.run(["a sheet", "silent", "-events"]), 0, MERGED_DAY,
+        built(["day", "pack", "merge"], 5))
+    house.check("unpack is missing", house.run(["--product", "a sheet", "silent"]), 0, MERGED,
+        built(["pack", "merge", "unpack"], 5))
+    house.called("two sheets", ["check day pack merge", "check pack merge unpack"])
     try_lines_as_they_come(house, two)
     try_build_on_terminal(house)
     try_failed_builds(house)
