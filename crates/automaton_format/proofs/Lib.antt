@@ -12,3 +12,4 @@ pub mod Parsing
 pub mod Trips
 pub mod Outcomes
 pub mod Faults
+pub mod Openings

@@ -1,4 +1,5 @@
 pub mod Reading
 pub mod Writing
+pub mod Opening
 pub mod Outcomes
 pub mod Claims

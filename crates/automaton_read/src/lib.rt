@@ -17,7 +17,8 @@ ghost use Rattle.automaton_format.specs.Outcomes.{outcome, oneMore};
 // How many classes there are.
 const CLASSES: u32 = automaton::CLASSES as u32;
 
-fn refused(row: u8, at: usize) -> Parsed
+// A fault's row and place, with an all-zero record.
+pub fn refused(row: u8, at: usize) -> Parsed
     ensures { λ r. ⌜ r ≡ refused row at ⌝ }
 {
     Parsed {

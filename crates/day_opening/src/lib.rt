@@ -1,4 +1,4 @@
-// The beginning of an input: the number L, then L bytes of sheet.
+// The beginning of a day's input: row 18, the number L and L bytes of sheet, the table.
 use automaton::Automaton;
 use day_transcript::Phase;
 use day_transcript::Progress;
@@ -59,20 +59,9 @@ pub fn begin(input: &[u8], table: &mut [u32; 16384]) -> Progress
     if 60000 < input.len() {
         return without(Phase::Refused(18));
     }
-    let length = varint_reader::read_at(input, 0);
-    if length.refusal != 0 {
-        return without(Phase::Faulted(length.refusal, length.place));
+    let opening = automaton_opening::read(input);
+    if opening.refusal != 0 {
+        return without(Phase::Faulted(opening.refusal, opening.place));
     }
-    let from = length.place;
-    let count = length.value as usize;
-    if input.len() - from < count {
-        return without(Phase::Faulted(1, from));
-    }
-    let end = from + count;
-    let parsed = automaton_read::read(&input[from..end]);
-    if parsed.refusal != 0 {
-        return without(Phase::Faulted(parsed.refusal, from + parsed.place));
-    }
-    let a = parsed.automaton;
-    opened(a, end, table)
+    opened(opening.automaton, opening.place, table)
 }

@@ -4,21 +4,21 @@ use mathlib.Core.Path.{_≡_, refl, sym, _∙_, ap}
 use mathlib.Core.Bool.{Bool, true, false, cond}
 use mathlib.Core.List.{List, [], _∷_, _++_}
 use native.Mathlib.Omega.{arith}
-use lib.ListN.{length, take, drop, length-append, length-take}
+use lib.ListN.{length, take, length-append, length-take}
 use lib.Seq.{getD-take}
 use lib.Dec.{eqb, ltb}
-use borrow.Author.Tests.{ltb-true, ltb-false, eqb-true, eqb-false}
+use borrow.Author.Tests.{ltb-false, eqb-true}
 use Rattle.base.specs.Rows.{first}
 use Rattle.base.proofs.Bools.{by}
 use Rattle.base.proofs.Every.{Every, every-cons, every-append}
 use Rattle.base.proofs.Padding.{take-pad}
 use Rattle.varint.specs.Varint.{read}
 use Rattle.varint.specs.Claims.{AreBytes}
-use Rattle.automaton_format.specs.Reading.{parse}
-use Rattle.automaton_format.proofs.Faults.{read-inside, parse-sound}
-use Rattle.automaton_format.proofs.Trips.{read-is-valid}
+use Rattle.automaton_format.specs.Opening.{opening}
+use Rattle.automaton_format.proofs.Faults.{read-inside}
+use Rattle.automaton_format.proofs.Openings.{opening-inside, opening-valid}
 use Rattle.automaton.specs.declared.Automaton.{Automaton}
-use Rattle.automaton.specs.Automaton.{controllable, valid}
+use Rattle.automaton.specs.Automaton.{controllable}
 use Rattle.automaton.proofs.Facts.{Valid, valid-facts}
 use Rattle.solver_sets.specs.Table.{Controllable, table}
 use Rattle.solver_sets.proofs.Total.{Total, total}
@@ -32,7 +32,7 @@ use Rattle.text.specs.Decimal.{ascii, decimal}
 use Rattle.text.proofs.Digits.{byte-length, word-length}
 use Rattle.text_lines.specs.Lines.{refusedEventLine, endLine, faultLine, refusalLine}
 use Rattle.day_lines.specs.StatusLines.{winningEnd, automatonLine, spaced, emission, eventLine}
-use Rattle.day_transcript.specs.Transcript.{Session, automatonAt, opening, sessionFrom, firstLine, answerLine, after, eventLines, sessionLines, tooLong, overPlaces, transcript}
+use Rattle.day_transcript.specs.Transcript.{Session, sessionFrom, firstLine, answerLine, after, eventLines, sessionLines, tooLong, overPlaces, transcript}
 use Rattle.day_transcript.specs.Claims.{TranscriptBounded}
 use Rattle.monitor_answers.proofs.Refusals.{place}
 use Rattle.monitor_answers.proofs.Accepted.{clear-occurs, receive-clear, receive-event}
@@ -179,41 +179,7 @@ module _ (t s : List ℕ) (bytes : AreBytes s) (few : length s ≤ 60000) where
       (λ f. rw (e, f) (omega (arith, fault-short (n .refusal) (n .place) (omega (arith, read-inside s (u .place) l .0)) (omega (arith, read-inside s (u .place) l .1))))))
       (λ e. rw e (omega (arith, end-short (u .accepted) (u .refused) (omega arith) (omega arith))))
 
--- what an input begins with
-opening-inside : (s : List ℕ) → (opening s .refusal ≤ 10) × (opening s .place ≤ length s)
-unfolding opening automatonAt
-opening-inside s =
-    let l = read s 0 in
-    let i = read-inside s 0 (omega arith) in
-    by (eqb (l .refusal) 0)
-    (λ e. by (ltb (length s) (l .place + l .value))
-    (λ f. rw (e, f) (omega arith, i .1))
-    (λ f.
-    let sheet = take (l .value) (drop (l .place) s) in
-    let p = parse sheet in
-    let long : length sheet ≤ l .value = omega (arith, length-take (l .value) (drop (l .place) s)) in
-    let j = parse-sound sheet in
-    let within : l .place + l .value ≤ length s = ltb-false (length s) (l .place + l .value) f in
-    by (eqb (p .refusal) 0)
-    (λ g. rw (e, f, g) (omega arith, within))
-    (λ g. rw (e, f, g) (j .row, omega (arith, j .within)))))
-    (λ e. rw e i)
-
-opening-valid : (s : List ℕ) → opening s .refusal ≡ 0 → valid (opening s .automaton) ≡ true
-unfolding opening automatonAt
-opening-valid s z =
-    let l = read s 0 in
-    by (eqb (l .refusal) 0)
-    (λ e. by (ltb (length s) (l .place + l .value))
-    (λ f. absurd (let y = rw (e, f) at z in omega arith))
-    (λ f.
-    let sheet = take (l .value) (drop (l .place) s) in
-    let p = parse sheet in
-    by (eqb (p .refusal) 0)
-    (λ g. rw (e, f, g) (read-is-valid sheet (p .automaton) (parse-sound sheet .whole (eqb-true (p .refusal) 0 g))))
-    (λ g. absurd (eqb-false (p .refusal) 0 g (rw (e, f, g) at z)))))
-    (λ e. absurd (eqb-false (l .refusal) 0 e (rw e at z)))
-
+-- the first line
 first-short : (t : List ℕ) (u : Session) → Valid (u .automaton) → length (firstLine t u) ≤ 96
 unfolding firstLine
 first-short t u v =

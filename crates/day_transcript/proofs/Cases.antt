@@ -11,6 +11,7 @@ use Rattle.varint.specs.Varint.{groups, read}
 use Rattle.automaton.specs.Arrays.{controllableIn, stands, placesStand}
 use Rattle.automaton.specs.Automaton.{controllable, controllables, accepts, step, reached, shaped, ranged, classesStand, flagsStand, nextStand, valid}
 use Rattle.automaton_format.specs.Reading.{checked, between, itemRow, numbers, nextStates, afterNumber, afterNumbers, tables, automatonFrom, parse}
+use Rattle.automaton_format.specs.Opening.{automatonAt, opening}
 use Rattle.solver_sets.specs.Sets.{acceptingSet, admits, stays, refine, settle, settled, setsOf, emptySets, into, setsFor}
 use Rattle.solver_sets.specs.Table.{rank, inBaseK, shorter, index, buffersCount, short, extended, buffersAt, buffersTo, pairs, table}
 use Rattle.configuration.specs.Configuration.{heldEvents, controllableSymbol, placeStands, bufferStands, placeNumbers, inputStands, inputsStand, consistentIn, initialOf}
@@ -19,7 +20,7 @@ use Rattle.monitor_answers.specs.Answers.{tableRows, configurationRows, callRow
 use Rattle.text.specs.Decimal.{ascii, digit, digits, decimal}
 use Rattle.text_lines.specs.Lines.{refusedEventLine, endLine, faultLine, refusalLine}
 use Rattle.day_lines.specs.StatusLines.{winningEnd, automatonLine, spaced, emission, eventLine}
-use Rattle.day_transcript.specs.Transcript.{automatonAt, opening, sessionFrom, firstLine, answerLine, after, eventLines, sessionLines, tooLong, overPlaces, transcript}
+use Rattle.day_transcript.specs.Transcript.{sessionFrom, firstLine, answerLine, after, eventLines, sessionLines, tooLong, overPlaces, transcript}
 use Rattle.day_transcript.specs.Claims.{v, w, large, lines, CasesPrinted, LongRefused}
 
 -- every definition that the transcript rests on

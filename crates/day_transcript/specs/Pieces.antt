@@ -7,10 +7,11 @@ use lib.ListN.{length}
 use lib.Dec.{eqb, leb}
 use Rattle.automaton.specs.declared.Automaton.{Automaton}
 use Rattle.automaton.specs.Automaton.{blank}
+use Rattle.automaton_format.specs.Opening.{opening}
 use Rattle.solver_answers.specs.Solving.{solvedTable}
 use Rattle.text.specs.Decimal.{Appended}
 use Rattle.text_lines.specs.Lines.{faultLine, refusalLine}
-use Rattle.day_transcript.specs.Transcript.{Session, opening, eventLines, sessionLines, tooLong, overPlaces, sessionFrom}
+use Rattle.day_transcript.specs.Transcript.{Session, eventLines, sessionLines, tooLong, overPlaces, sessionFrom}
 pub use Rattle.day_transcript.specs.declared.Progress.{Progress}
 pub use Rattle.day_transcript.specs.declared.Phase.{Phase}
 use Rattle.day_transcript.specs.declared.Phase.the-variants.{Ended, Refused, Faulted, Opening, Receiving}

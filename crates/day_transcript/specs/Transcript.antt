@@ -3,12 +3,11 @@
 use Prim.Native.Nat.{ℕ, zero, suc, _+_, _*_}
 use mathlib.Core.Bool.{Bool, cond}
 use mathlib.Core.List.{List, [], _++_}
-use lib.ListN.{length, take, drop}
+use lib.ListN.{length, take}
 use lib.Dec.{eqb, ltb}
 use Rattle.varint.specs.Varint.{read}
 use Rattle.automaton.specs.declared.Automaton.{Automaton}
-use Rattle.automaton_format.specs.declared.Parsed.{Parsed}
-use Rattle.automaton_format.specs.Reading.{refused, parse}
+use Rattle.automaton_format.specs.Opening.{opening}
 use Rattle.solver_sets.specs.Table.{buffersCount, table}
 use Rattle.configuration.specs.Configuration.{initialOf}
 use Rattle.monitor_answers.specs.declared.Received.{Received}
@@ -16,25 +15,6 @@ use Rattle.monitor_answers.specs.Answers.{status, received}
 use Rattle.text_lines.specs.Lines.{refusedEventLine, endLine, faultLine, refusalLine, maxInput}
 use Rattle.day_lines.specs.StatusLines.{automatonLine, eventLine}
 pub use Rattle.day_transcript.specs.declared.Session.{Session}
-
--- the sheet after L, at a place: the place after it, or its first fault, both from the input's
--- first byte
-unfoldable pub automatonAt : ℕ → ℕ → Parsed → Parsed
-automatonAt from count p =
-    cond (eqb (p .refusal) 0)
-    (record { refusal = 0; place = from + count; automaton = p .automaton })
-    (refused (p .refusal) (from + p .place))
-
--- What an input begins with, the number L and L bytes of sheet: the automaton and the place after
--- it, or the first fault.
-unfoldable pub opening : List ℕ → Parsed
-opening s =
-    let l = read s 0 in
-    cond (eqb (l .refusal) 0)
-    (cond (ltb (length s) (l .place + l .value))
-    (refused 1 (l .place))
-    (automatonAt (l .place) (l .value) (parse (take (l .value) (drop (l .place) s)))))
-    (refused (l .refusal) (l .place))
 
 -- a session before its first event, which begins at a place
 unfoldable pub sessionFrom : Automaton → ℕ → Session

@@ -1,0 +1,4 @@
+pub mod Records
+pub mod Merging
+pub mod Cases
+pub mod Worded
