@@ -1,5 +1,5 @@
--- What is proved of reading and writing: demand 2's second sentence; where a fault stands, and what
--- a refused read hands back.
+-- What is proved of reading and writing: demand 2's second sentence; where a fault stands, and
+-- what a refused read hands back.
 use Prim.Native.Nat.{ℕ, _≤_}
 use mathlib.Core.Path.{_≡_}
 use mathlib.Core.Bool.{true}

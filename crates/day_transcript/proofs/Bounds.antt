@@ -1,8 +1,8 @@
 -- How long a transcript can be.
 use Prim.Native.Nat.{ℕ, zero, suc, _+_, _*_, _^_, _<_, _≤_}
-use mathlib.Core.Path.{_≡_, refl, sym, _∙_, ap}
-use mathlib.Core.Bool.{Bool, true, false, cond}
-use mathlib.Core.List.{List, [], _∷_, _++_}
+use mathlib.Core.Path.{_≡_}
+use mathlib.Core.Bool.{Bool, true, false}
+use mathlib.Core.List.{List, [], _∷_}
 use native.Mathlib.Omega.{arith}
 use lib.ListN.{length, take, length-append, length-take}
 use lib.Seq.{getD-take}
@@ -28,7 +28,7 @@ use Rattle.configuration.proofs.Facts.{controllable-every}
 use Rattle.monitor_rule.specs.Step.{Rest, byTable, release, arrival, effect, eventRows}
 use Rattle.monitor_rule.proofs.Effects.{Occurs, Accepts, accepted-facts, arrival-arrives, effect-occurs, effect-length}
 use Rattle.monitor_answers.specs.Answers.{tableRows, configurationRows, callRows, receiveRefusal, refusedEvent, received}
-use Rattle.text.specs.Decimal.{ascii, decimal}
+use Rattle.text.specs.Decimal.{ascii}
 use Rattle.text.proofs.Digits.{byte-length, word-length}
 use Rattle.text_lines.specs.Lines.{refusedEventLine, endLine, faultLine, refusalLine}
 use Rattle.day_lines.specs.StatusLines.{winningEnd, automatonLine, spaced, emission, eventLine}

@@ -109,8 +109,8 @@ pub record Merging : Type 0 where
   -- the one written out is the two merged too, so it is this one
   pub only : written ≡ together
 
--- the whole answer: its number and its record, out of the words; and by them alone, the merged sheet
--- written out, and a row with 0 everywhere
+-- the whole answer: its number and its record, out of the words; and by them alone, the merged
+-- sheet written out, and a row with 0 everywhere
 pub record Answering : Type 0 where
   pub number : productAnswer sheetV noAnswer .refusal ≡ 0
   pub merged : Merges sheetV noAnswer (productAnswer sheetV noAnswer .automaton)

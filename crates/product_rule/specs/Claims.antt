@@ -99,15 +99,16 @@ EndsAsBoth =
     → EndsAccepting (productOf a b) es ↔ (EndsAccepting a es × EndsAccepting b es)
 
 -- Wherever the product may rest with a held list, each part may rest with it; where it must
--- release, each part must; and where it can come to rest, each part can. (Of the list's symbols
--- nothing is asked, and it may be longer than the capacities; what can be held: `HeldByBoth`.)
+-- release, each part must; and where it can come to rest, each part can. (The list may have any of
+-- the symbols and be longer than the capacities; what can be held: `HeldByBoth`.)
 abbrev pub PartsRest : Type 0
 PartsRest =
     (a b : Automaton) → productRefusal a b ≡ 0 → (w : List ℕ) → Symbols a w → (p q : ℕ) → p < a .states → q < b .states
     → let c = productOf a b in
     let r = pair (b .states) p q in
     (Winning c w r → Winning a w p × Winning b w q)
-    × (Union (Winning c w) (Intermediate c w) r → Union (Winning a w) (Intermediate a w) p × Union (Winning b w) (Intermediate b w) q)
+    × (Union (Winning c w) (Intermediate c w) r
+    → Union (Winning a w) (Intermediate a w) p × Union (Winning b w) (Intermediate b w) q)
     × (Intermediate c w r → Intermediate a w p × Intermediate b w q)
 
 -- The converse is false. Sheet V of document 01, 3 2 1 0, 0 1, 1 0 1, 1 0, 1 2, 2 2: after the
@@ -144,8 +145,8 @@ pub record ApartNotTogether : Type 0 where
 -- either
 abbrev pub Converse : Type 0
 Converse =
-    (a b : Automaton) → productRefusal a b ≡ 0 → (w : List ℕ) → Buffer (productOf a b) w → (p q : ℕ) → p < a .states → q < b .states
-    → Winning a w p → Winning b w q → Winning (productOf a b) w (pair (b .states) p q)
+    (a b : Automaton) → productRefusal a b ≡ 0 → (w : List ℕ) → Buffer (productOf a b) w
+    → (p q : ℕ) → p < a .states → q < b .states → Winning a w p → Winning b w q → Winning (productOf a b) w (pair (b .states) p q)
 
 abbrev pub ConverseFalse : Type 0
 ConverseFalse = ApartNotTogether × (Converse → ⊥)

@@ -57,11 +57,12 @@ pub record Projects (c a : Automaton) (π : ℕ → ℕ) : Type 0 where
   pub free : (e : ℕ) → Uncontrollable a e → Uncontrollable c e
 
 -- Where c may rest with a buffer, its image may rest with it; where it can come to rest, its image
--- can; and where it must release, its image must. Of the buffer only that it has symbols of c.
+-- can; and where it must release, its image must. The buffer may be of any symbols of c and of any
+-- length.
 abbrev pub ImagesRest : Type 0
 ImagesRest =
-    (c a : Automaton) → valid c ≡ true → valid a ≡ true → (π : ℕ → ℕ) → Projects c a π → (w : List ℕ) → AllOf (λ e. e < c .symbols) w
-    → (q : ℕ) → q < c .states
+    (c a : Automaton) → valid c ≡ true → valid a ≡ true → (π : ℕ → ℕ) → Projects c a π
+    → (w : List ℕ) → AllOf (λ e. e < c .symbols) w → (q : ℕ) → q < c .states
     → (Winning c w q → Winning a w (π q))
     × (Union (Winning c w) (Intermediate c w) q → Union (Winning a w) (Intermediate a w) (π q))
     × (Intermediate c w q → Intermediate a w (π q))
