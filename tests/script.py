@@ -208,7 +208,7 @@ for name, (row, place, said) in FAULTS.items():
         "day: {}: {}\n".format(name, said)))
 for what, first, second, stdout, stderr in TWO:
     CASES.append((what, [first, second, "-events"], 0, stdout, stderr))
-    CASES.append((what + ", --product", ["--product", first, second], 0, stdout, stderr))
+    CASES.append((what + ", --product", ["--product", first, second], 1, "", stderr))
 CASES.append(("two sheets, --product", ["--product", "a sheet", "silent"], 0, MERGED, ""))
 for words in [], ["a sheet"], ["a sheet", "silent", "-events"], ["--"], ["--", "a sheet"]:
     what = "--product and {} words".format(len(words))
