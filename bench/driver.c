@@ -846,6 +846,15 @@ static void compare_ends(const uint8_t *r, const uint8_t *s, const uint8_t *prod
     met_of_two[ENDS_IN_NEITHER + 2 * r[20 + p] + s[20 + q]]++;
 }
 
+/* The lowest bits: where the product's is set, both parts' are. */
+static void compare_rest(const char *what, unsigned by_first, unsigned by_second, unsigned by_product, int counted)
+{
+    unsigned both = by_first & by_second & 1, all = by_product & 1;
+    same_number(what, all, all & both);
+    if (counted)
+        met_of_two[all ? RESTS_IN_ALL : both ? RESTS_IN_BOTH : RESTS_NOT_IN_BOTH]++;
+}
+
 /* Where the product may rest with a held list, each part may, and where it must release, each
  * must: by solved tables, that of the product the same in C. (S and I of a list do not depend on
  * the hold, so the parts are solved with the smaller one.) */
@@ -867,12 +876,9 @@ static void compare_rests(const uint8_t *r, const uint8_t *s, twin product)
     same_row(jaxhophasi_solve(second, by_second, places, count), 0);
     for (size_t i = 0; i < places; i++)
         for (unsigned p = 0; p < r[0]; p++)
-            for (unsigned q = 0; q < s[0]; q++) {
-                unsigned both = by_first[i] >> p & by_second[i] >> q & 1, all = by_product[i] >> (p * s[0] + q) & 1;
-                same_number(i % 2 ? "where all must release" : "where all may rest", all, all & both);
-                if (i % 2 == 0)
-                    met_of_two[all ? RESTS_IN_ALL : both ? RESTS_IN_BOTH : RESTS_NOT_IN_BOTH]++;
-            }
+            for (unsigned q = 0; q < s[0]; q++)
+                compare_rest(i % 2 ? "where all must release" : "where all may rest", by_first[i] >> p, by_second[i] >> q,
+                    by_product[i] >> (p * s[0] + q), i % 2 == 0);
     drop_twins(table);
     free(by_first);
     free(by_second);

@@ -241,12 +241,12 @@ class Cases:
                 self.first()
                 by_first = self.resting(self.automaton)
                 self.product()
-                for one, other, merged in zip(by_first, by_second, self.resting(self.automaton)):
-                    for p, q in pairs:
-                        may = merged >> p * other_states + q & 1
-                        parts_may = one >> p & other >> q & 1
-                        asked += 1
-                        rests, both, wrong = rests + may, both + parts_may, wrong + (may > parts_may)
+                sets = zip(by_first, by_second, self.resting(self.automaton))
+                for (one, other, merged), (p, q) in itertools.product(sets, pairs):
+                    may = merged >> p * other_states + q & 1
+                    parts_may = one >> p & other >> q & 1
+                    asked += 1
+                    rests, both, wrong = rests + may, both + parts_may, wrong + (may > parts_may)
         return [sheets, asked, rests, both, wrong]
 
 

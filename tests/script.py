@@ -414,6 +414,9 @@ def try_outputs(house):
         house.check(name + " says something", house.run(words), 1, out, "{0}one\n{0}two\n".format(front))
         house.put_programs(**{name: "exit 3"})
         house.check(name + " ends with a status", house.run(words), 3)
+        if name != "merge":
+            house.put_programs(**{name: "echo front; echo refused 1 at 0 >&2"})
+            house.check(name + " says a refusal", house.run(words), 1, out, front + "refused 1 at 0\n")
 
 
 def try_places(house):

@@ -581,12 +581,12 @@ unfolding
     checked between itemRow numbers nextStates afterNumber afterNumbers tables automatonFrom parse
 reading = 0
 
-same-without : parse (2 ∷ 2 ∷ 1 ∷ 0 ∷ 0 ∷ 1 ∷ 1 ∷ 0 ∷ 0 ∷ 1 ∷ 1 ∷ 1 ∷ []) ≡ parsed noAnswer
+same-no-answer : parse (2 ∷ 2 ∷ 1 ∷ 0 ∷ 0 ∷ 1 ∷ 1 ∷ 0 ∷ 0 ∷ 1 ∷ 1 ∷ 1 ∷ []) ≡ parsed noAnswer
 unfolding reading noAnswer
-same-without = refl
+same-no-answer = refl
 
 pub same-sheets : SameSheets
-same-sheets = record { sheet-v = same-v; sheet-without = same-without }
+same-sheets = record { sheet-v = same-v; sheet-no-answer = same-no-answer }
 
 -- what a call over a solved table computes by
 unfoldable asking : ℕ

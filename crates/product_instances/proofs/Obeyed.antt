@@ -2,7 +2,7 @@
 use Prim.Native.Nat.{ℕ, _<_}
 use mathlib.Core.Path.{_≡_, refl, subst}
 use mathlib.Core.Bool.{true}
-use mathlib.Core.List.{List, [], _∷_, _++_, append-nil}
+use mathlib.Core.List.{List, [], _∷_, append-nil}
 use native.Mathlib.Omega.{arith}
 use Rattle.base.specs.All.{AllOf}
 use Rattle.base.specs.Each.{each, count, those, lastOr}
@@ -10,7 +10,6 @@ use Rattle.base.specs.Masks.{has, mask}
 use Rattle.base.specs.Pad.{pad}
 use Rattle.base.specs.Rows as rows
 use Rattle.base.specs.Tabulate.{tabulate, blocks}
-use Rattle.automaton.specs.declared.Automaton.{Automaton}
 use Rattle.automaton.specs.Arrays.{controllableIn, stands, placesStand}
 use Rattle.automaton.specs.Automaton.{controllable, controllables, accepts, step, reached, shaped, ranged, classesStand, flagsStand, nextStand, valid}
 use Rattle.solver_sets.specs.Sets.{acceptingSet, admits, stays, refine, settle, settled, setsOf, emptySets, into, setsFor}
@@ -33,7 +32,7 @@ use Rattle.enforcement_cases.specs.Cases.{at}
 use Rattle.enforcement_product.specs.Claims.{mergedMoments, PairAfter}
 use Rattle.enforcement_product.proofs.Emitted.{emitted-are-symbols}
 use Rattle.enforcement_product.proofs.Obeying.{obeys-both, state-is-pair}
-use Rattle.product_instances.specs.Obeyed.{twoAnswers, merged, tableMerged, answers, first, second, third, fourth, putOut, BothEnd, ObeyedThere, ObeyedInitially}
+use Rattle.product_instances.specs.Obeyed.{twoAnswers, merged, tableMerged, answers, first, second, third, fourth, putOut, BothEnd, ObeyedThere, calm, tableCalm, query, ObeyedInitially}
 
 -- the definitions that make the product, ..
 unfoldable making : ℕ
@@ -132,29 +131,22 @@ obeyed-there =
     }
 
 -- no Answer, and at most two
-abbrev calm : Automaton
-calm = productOf noAnswer twoAnswers
-
 calm-unrefused : productRefusal noAnswer twoAnswers ≡ 0
 unfolding making
 calm-unrefused = refl
 
-calm-solved : Solved calm (table calm ++ [])
+calm-solved : Solved calm tableCalm
 calm-solved = table-is-solved calm (product-merges noAnswer twoAnswers calm-unrefused .passes) .1 []
 
-calm-initially : isWinning calm (table calm ++ []) (initialOf calm) ≡ true
+calm-initially : isWinning calm tableCalm (initialOf calm) ≡ true
 unfolding solving calling
 calm-initially = refl
 
--- a Query is accepted
-abbrev query : Moment
-query = record { past = []; output = []; position = at 0 [] [] 0 0; event = 0 }
-
-calm-query : mergedMoments noAnswer twoAnswers (table calm ++ []) (receiveCall 0 ∷ []) ≡ query ∷ []
+calm-query : mergedMoments noAnswer twoAnswers tableCalm (receiveCall 0 ∷ []) ≡ query ∷ []
 unfolding solving calling
 calm-query = refl
 
-query-out : outputAfter calm (table calm ++ []) query ≡ 0 ∷ []
+query-out : outputAfter calm tableCalm query ≡ 0 ∷ []
 unfolding solving calling
 query-out = refl
 
@@ -164,7 +156,9 @@ CalmEnd out = EndsAccepting noAnswer out × EndsAccepting twoAnswers out
 pub obeyed-initially : ObeyedInitially
 obeyed-initially =
     record {
+      wins = calm-initially;
+      accepted = calm-query;
       after-query = subst CalmEnd query-out
-          (subst (AllOf (λ m. CalmEnd (outputAfter calm (table calm ++ []) m))) calm-query
-          (obeys-both noAnswer twoAnswers calm-unrefused (table calm ++ []) calm-solved (receiveCall 0 ∷ []) .initially calm-initially) .0);
+          (subst (AllOf (λ m. CalmEnd (outputAfter calm tableCalm m))) calm-query
+          (obeys-both noAnswer twoAnswers calm-unrefused tableCalm calm-solved (receiveCall 0 ∷ []) .initially calm-initially) .0);
     }

@@ -8,10 +8,13 @@ use Rattle.base.specs.All.{AllOf}
 use Rattle.base.specs.Pad.{pad}
 use Rattle.automaton.specs.declared.Automaton.{Automaton}
 use Rattle.automaton.specs.Automaton.{assembled}
+use Rattle.solver_sets.specs.Table.{table}
 use Rattle.product_rule.specs.Pairs.{pair}
 use Rattle.product_rule.specs.Product.{productOf}
 use Rattle.product_rule.specs.Claims.{EndsAccepting, sheetV, noAnswer}
+use Rattle.configuration.specs.Configuration.{initialOf}
 use Rattle.monitor_rule.specs.Claims.{Full}
+use Rattle.monitor_answers.specs.Answers.{isWinning}
 use Rattle.enforcement.specs.Calls.{Call, receiveCall}
 use Rattle.enforcement.specs.Moments.{Moment, positionAfter}
 use Rattle.enforcement.specs.Claims.{winningAfter, outputAfter}
@@ -72,6 +75,18 @@ pub record ObeyedThere : Type 0 where
   pub state : positionAfter merged tableMerged third .state ≡ 10
   pub pair-then : 10 ≡ pair 4 2 2
 
--- no Answer, and at most two: winning from the outset, and so after a Query both are obeyed
+-- no Answer, and at most two, merged; a solved table of it, and a Query at the outset
+abbrev pub calm : Automaton
+calm = productOf noAnswer twoAnswers
+
+abbrev pub tableCalm : List ℕ
+tableCalm = table calm ++ []
+
+abbrev pub query : Moment
+query = record { past = []; output = []; position = at 0 [] [] 0 0; event = 0 }
+
+-- winning from the outset, and so after a Query both are obeyed
 pub record ObeyedInitially : Type 0 where
+  pub wins : isWinning calm tableCalm (initialOf calm) ≡ true
+  pub accepted : mergedMoments noAnswer twoAnswers tableCalm (receiveCall 0 ∷ []) ≡ query ∷ []
   pub after-query : EndsAccepting noAnswer (0 ∷ []) × EndsAccepting twoAnswers (0 ∷ [])

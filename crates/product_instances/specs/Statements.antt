@@ -225,7 +225,7 @@ pub record ApartAgain : Type 0 where
 -- the marked cases' V is this V, and the other sheet is that of its bytes
 pub record SameSheets : Type 0 where
   pub sheet-v : sheetV ≡ automatonV
-  pub sheet-without : parse (2 ∷ 2 ∷ 1 ∷ 0 ∷ 0 ∷ 1 ∷ 1 ∷ 0 ∷ 0 ∷ 1 ∷ 1 ∷ 1 ∷ []) ≡ parsed noAnswer
+  pub sheet-no-answer : parse (2 ∷ 2 ∷ 1 ∷ 0 ∷ 0 ∷ 1 ∷ 1 ∷ 0 ∷ 0 ∷ 1 ∷ 1 ∷ 1 ∷ []) ≡ parsed noAnswer
 
 -- state 0 with an Answer held, the first of the input
 abbrev pub answerHeld : Configuration
@@ -240,7 +240,7 @@ pub record Asking : Type 0 where
   pub second : says noAnswer ≡ record { refusal = 0; winning = true }
   pub product : says together ≡ record { refusal = 0; winning = false }
 
--- a solved table
+-- a solved table (a table is solved whatever follows it: here nothing does)
 abbrev pub tableOf : Automaton → List ℕ
 tableOf a = table a ++ []
 

@@ -18,7 +18,7 @@ use Rattle.text_lines.specs.Lines.{faultLine, refusalLine}
 use Rattle.product_rule.specs.Pairs.{pairFlags, pairNext, pairStates, sameClasses}
 use Rattle.product_rule.specs.Product.{productOf, sameSymbols, productRefusal, productAnswer}
 use Rattle.product_merge.specs.Outputs.{mergedRecords, secondFrom, merging, mergeOutput, mergeNote}
-use Rattle.product_merge.specs.Claims.{v, noAnswer, withoutV, six, four, eight, fourByEight, SaysLine, CasesMerged}
+use Rattle.product_merge.specs.Claims.{v, noAnswer, mergedV, six, four, eight, fourByEight, SaysLine, CasesMerged}
 use Rattle.product_merge.proofs.Merging.{merge-long}
 
 -- every definition that the output rests on
@@ -27,7 +27,7 @@ unfolding each count pad first tabulate blocks groups read encode bytes encoded 
     classesStand flagsStand nextStand valid checked between itemRow numbers nextStates afterNumber afterNumbers tables automatonFrom
     parse nextNumbers recordNumbers recordBytes automatonAt opening ascii digit digits decimal faultLine refusalLine pairFlags
     pairNext pairStates sameClasses productOf sameSymbols productRefusal productAnswer mergedRecords secondFrom merging mergeOutput
-    mergeNote v noAnswer withoutV six four eight fourByEight
+    mergeNote v noAnswer mergedV six four eight fourByEight
 all = 0
 
 long-said : (s : List ℕ) → 60000 < length s → SaysLine s "refused 18"

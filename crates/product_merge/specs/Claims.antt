@@ -34,8 +34,8 @@ unfoldable pub noAnswer : List ℕ
 noAnswer = 2 ∷ 2 ∷ 1 ∷ 0 ∷ 0 ∷ 1 ∷ 1 ∷ 0 ∷ 0 ∷ 1 ∷ 1 ∷ 1 ∷ []
 
 -- both: pair p, q of their states is 2 p + q
-unfoldable pub withoutV : List ℕ
-withoutV =
+unfoldable pub mergedV : List ℕ
+mergedV =
     6 ∷ 2 ∷ 1 ∷ 0 ∷
     0 ∷ 1 ∷
     1 ∷ 0 ∷ 0 ∷ 0 ∷ 1 ∷ 0 ∷
@@ -75,7 +75,7 @@ abbrev pub SaysLine : List ℕ → String → Type 0
 SaysLine s line = Says s (ascii line ++ ascii "\n")
 
 pub record CasesMerged : Type 0 where
-  pub merged : Writes (v ++ noAnswer) withoutV
+  pub merged : Writes (v ++ noAnswer) mergedV
   pub nothing : SaysLine [] "refused 1 at 0"
   pub length-too-long : SaysLine (128 ∷ 128 ∷ 128 ∷ 0 ∷ []) "refused 2 at 0"
   pub too-few : SaysLine (130 ∷ 0 ∷ 3 ∷ []) "refused 1 at 2"

@@ -121,7 +121,8 @@ sheetV =
     (pad 32 (1 ∷ 0 ∷ 1 ∷ []))
     (pad 512 (pad 16 (1 ∷ 0 ∷ []) ++ (pad 16 (1 ∷ 2 ∷ []) ++ pad 16 (2 ∷ 2 ∷ []))))
 
--- A second sheet on the same symbols, 2 2 1 0, 0 1, 1 0, 0 1, 1 1: no Answer is to go out.
+-- A second sheet on the same symbols, 2 2 1 0, 0 1, 1 0, 0 1, 1 1 (`samples/silent.txt`): no
+-- Answer is to go out.
 unfoldable pub noAnswer : Automaton
 noAnswer =
     assembled 2 2 1 0
