@@ -17,11 +17,11 @@ module _ (first second : List ℕ) (n pairs : ℕ) where
   unfolding pairFlags
   flags-length = tabulate-length pairs _
 
-  pub flags-at : (r : ℕ) → r < pairs → getD (pad 32 (pairFlags first second n pairs)) r 0 ≡ cond (bothAccept first second n r) 1 0
+  pub flags-at : (r : ℕ) → r < pairs → getD (pad 32 (pairFlags first second n pairs)) r 0 ≡ cond (bothAccept first second (r / n) (r % n)) 1 0
   unfolding pairFlags
   flags-at r l =
       pad-inside 32 (pairFlags first second n pairs) r (omega (arith, flags-length)) ∙
-      tabulate-at pairs (λ r. cond (bothAccept first second n r) 1 0) r l
+      tabulate-at pairs (λ r. cond (bothAccept first second (r / n) (r % n)) 1 0) r l
 
   pub flags-past : (r : ℕ) → pairs ≤ r → getD (pad 32 (pairFlags first second n pairs)) r 0 ≡ 0
   flags-past r l = pad-outside 32 (pairFlags first second n pairs) r (omega (arith, flags-length))

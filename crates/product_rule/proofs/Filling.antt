@@ -46,11 +46,11 @@ module _ (first second : List ℕ) (e : ℕ) (same : Bool) (so-far : same ≡ sa
 
 -- one more flag
 module _ (first second : List ℕ) (n r : ℕ) (flags : List ℕ) (so-far : flags ≡ pad 32 (pairFlags first second n r)) where
-  pub flags-more : r < 32 → (v : ℕ) → v ≡ cond (bothAccept first second n r) 1 0
+  pub flags-more : r < 32 → (v : ℕ) → v ≡ cond (bothAccept first second (r / n) (r % n)) 1 0
       → set flags r v ≡ pad 32 (pairFlags first second n (r + 1))
   unfolding pairFlags
   flags-more h v e =
-      let f : ℕ → ℕ = λ r. cond (bothAccept first second n r) 1 0 in
+      let f : ℕ → ℕ = λ r. cond (bothAccept first second (r / n) (r % n)) 1 0 in
       let long : length (tabulate r f) ≡ r = tabulate-length r f in
       rw (so-far, e, tabulate-more r f)
       (ap (λ i. set (pad 32 (tabulate r f)) i (f r)) (sym long) ∙ pad-set 32 (tabulate r f) (f r) (omega arith))

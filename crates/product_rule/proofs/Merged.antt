@@ -45,7 +45,7 @@ module _ (a b : Automaton) (k : Matching a b) (few : pairsCount a b ≤ 32) wher
   pairs = pairsCount a b
 
   abbrev both : ℕ → Bool
-  both r = bothAccept (a .accepting) (b .accepting) n r
+  both r = bothAccept (a .accepting) (b .accepting) (r / n) (r % n)
 
   -- its initial state
   initial-pair : c .initial ≡ pair n (a .initial) (b .initial)

@@ -14,13 +14,13 @@ use Rattle.automaton.specs.Arrays.{acceptingAt, goes}
 abbrev pub pair : ℕ → ℕ → ℕ → ℕ
 pair n p q = p * n + q
 
--- pair r accepts: both its states do
+-- the pair of p and q accepts: both do
 abbrev pub bothAccept : List ℕ → List ℕ → ℕ → ℕ → Bool
-bothAccept first second n r = acceptingAt first (r / n) && acceptingAt second (r % n)
+bothAccept first second p q = acceptingAt first p && acceptingAt second q
 
--- the flags of the pairs
+-- the flags of the pairs; pair r is that of r / n and r % n
 unfoldable pub pairFlags : List ℕ → List ℕ → ℕ → ℕ → List ℕ
-pairFlags first second n pairs = tabulate pairs (λ r. cond (bothAccept first second n r) 1 0)
+pairFlags first second n pairs = tabulate pairs (λ r. cond (bothAccept first second (r / n) (r % n)) 1 0)
 
 -- the next states of the pair of p and q under m symbols: the pairs of their next ones
 unfoldable pub pairNext : List ℕ → List ℕ → ℕ → ℕ → ℕ → ℕ → List ℕ
