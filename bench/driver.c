@@ -4,11 +4,10 @@
  *   driver compare COUNT   COUNT rounds of every call on sheets, records, tables, states, days,
  *                          feeds and pairs of sheets, valid and damaged; stops at the first
  *                          difference; then prints how often a controllable event came to a full
- *                          hold, and what came of it, and how often each answer to a read and
- *                          each kind of pair was met
+ *                          hold, and what came of it, and how often each kind of pair was met
  *   driver time            the solver, one event and a day, then a day over lists of clients, then
  *                          one event and one record of a feed over such a list, then the product
- *                          of two sheets, then reads, both in turn, best of several
+ *                          of two sheets, both in turn, best of several
  */
 #include <stdio.h>
 #include <stdlib.h>
@@ -180,39 +179,31 @@ static void make_two(uint8_t *r, uint8_t *s)
     }
 }
 
-/* A number below 2,097,152 in seven-bit groups; one in so many is padded, with odds 0 none. */
-static size_t put_number(uint8_t *bytes, uint32_t value, uint32_t odds)
+/* A number below 2,097,152 in seven-bit groups, perhaps padded. */
+static size_t put_number(uint8_t *bytes, uint32_t value, int padded)
 {
-    unsigned last = value > 16383 ? 2 : value > 127;
-    if (odds && last < 2 && below(odds) == 0)
-        last += 1 + below(2 - last);
+    unsigned last = value > 16383 ? 2 : value > 127, more = padded ? below(8) : 0;
+    if (more < 3 && more > last)
+        last = more;
     for (unsigned i = 0; i <= last; i++)
         bytes[i] = (uint8_t)((value >> 7 * i & 127) | (i < last ? 128 : 0));
     return last + 1;
 }
 
-/* One in how many of a sheet's numbers is padded: none, many or few, so that it is any of them. */
-static uint32_t make_odds(void)
+/* The numbers of a record, which need not be a valid one, as bytes. */
+static size_t make_bytes(const uint8_t *r, uint8_t *bytes, int padded)
 {
-    static const uint16_t odds[] = { 0, 0, 2, 20, 200 };
-    return odds[below(5)];
-}
-
-/* The numbers of a record, which need not be a valid one, as bytes, perhaps padded. */
-static size_t make_bytes(const uint8_t *r, uint8_t *bytes)
-{
-    uint32_t odds = make_odds();
     size_t used = 0;
     unsigned n = least(r[0], 32), m = least(r[1], 16);
     for (unsigned i = 0; i < 4; i++)
-        used += put_number(bytes + used, r[i], odds);
+        used += put_number(bytes + used, r[i], padded);
     for (unsigned e = 0; e < m; e++)
-        used += put_number(bytes + used, r[4 + e], odds);
+        used += put_number(bytes + used, r[4 + e], padded);
     for (unsigned q = 0; q < n; q++)
-        used += put_number(bytes + used, r[20 + q], odds);
+        used += put_number(bytes + used, r[20 + q], padded);
     for (unsigned q = 0; q < n; q++)
         for (unsigned e = 0; e < m; e++)
-            used += put_number(bytes + used, r[52 + q * 16 + e], odds);
+            used += put_number(bytes + used, r[52 + q * 16 + e], padded);
     return used;
 }
 
@@ -406,9 +397,9 @@ static size_t make_feed_record(const uint8_t *r, size_t count, const uint8_t *ex
 {
     uint32_t numbers[] = { make_serial(expected), make_client_number(count), make_event(r) };
     size_t used = 0;
-    uint32_t odds = below(4) ? 0 : 3;
+    int padded = below(4) == 0;
     for (unsigned i = 0; i < 3; i++) {
-        used += put_number(bytes + used, numbers[i] & MAX_NUMBER, odds);
+        used += put_number(bytes + used, numbers[i] & MAX_NUMBER, padded);
         if (below(32) == 0)
             bytes[used - 1] |= 128;
     }
@@ -471,49 +462,10 @@ static void same_row(uint8_t ours, uint8_t theirs)
     same("the refusal", &ours, &theirs, 1);
 }
 
-static void same_number(const char *what, unsigned ours, unsigned theirs)
-{
-    uint8_t one = (uint8_t)ours, other = (uint8_t)theirs;
-    same(what, &one, &other, 1);
-}
-
-/* Whether there were some of each that is counted; from 20,000 rounds on there must be. */
-static int enough(int all, unsigned long count)
-{
-    if (all || count < 20000)
-        return 1;
-    puts("NOT MET: some of these");
-    return 0;
-}
-
-/* A line of counts: what they are of, and which is the last. */
-struct met_line {
-    const char *names;
-    unsigned last;
-};
-
-/* Prints counts in such lines. */
-static int met_all(const char *of, const struct met_line *lines, size_t many, const unsigned long *met, unsigned long count)
-{
-    int all = 1;
-    unsigned what = 0;
-    for (size_t line = 0; line < many; line++) {
-        printf("%s, %s:", of, lines[line].names);
-        for (; what <= lines[line].last; what++) {
-            printf(" %lu", met[what]);
-            all &= met[what] > 0;
-        }
-        puts("");
-    }
-    return enough(all, count);
-}
-
-#define MET_ALL(of, lines, met, count) met_all(of, lines, sizeof lines / sizeof *lines, met, count)
-
 /* Controllable events that came to a full hold, one by one: over a table that is not solved or is,
  * by the hold B, and by what came of them. */
 enum { OPENED, SHUT, OPENED_AT_END, SHUT_AT_END, MET };
-static unsigned long met_holds[2][7][MET];
+static unsigned long met[2][7][MET];
 static int solved_now;
 
 /* Counts an event that was given row 0, 15 or 23 in a carried state that no row refuses. */
@@ -522,11 +474,11 @@ static void meet(const uint8_t *r, const uint8_t *c, uint32_t event, uint8_t row
     unsigned held = c[JAXHOPHASI_CONFIGURATION_HELD];
     int at_end = jaxhophasi_place_at(c + RECEIVED) == UINT32_MAX;
     if ((row == 0 || row == 15 || row == 23) && r[4 + event] && held == r[2])
-        met_holds[solved_now][held][row == 0 ? OPENED : row == 23 ? OPENED_AT_END : at_end ? SHUT_AT_END : SHUT]++;
+        met[solved_now][held][row == 0 ? OPENED : row == 23 ? OPENED_AT_END : at_end ? SHUT_AT_END : SHUT]++;
 }
 
-/* Prints these counts. */
-static int met_all_holds(unsigned long count)
+/* Prints the counts; from 20,000 rounds on there must be some of each. */
+static int met_all(unsigned long count)
 {
     static const char *const names[MET] = { "opened", "shut", "opened at the count's end", "shut at the count's end" };
     int all = 1;
@@ -534,126 +486,29 @@ static int met_all_holds(unsigned long count)
         for (unsigned what = 0; what < MET; what++) {
             printf("full holds of 1 to 6, %s table, %s:", solved ? "solved" : "any", names[what]);
             for (unsigned b = 1; b <= 6; b++) {
-                printf(" %lu", met_holds[solved][b][what]);
-                all &= met_holds[solved][b][what] > 0;
+                printf(" %lu", met[solved][b][what]);
+                all &= met[solved][b][what] > 0;
             }
             puts("");
         }
-    return enough(all, count);
+    if (!all && count >= 20000)
+        puts("NOT MET: some of these");
+    return all || count < 20000;
 }
 
-/* What was met of reading, by the rule in force and by the old one, and of the numbers of a feed's
- * records; and the lines that say it, each up to its last one. */
-enum {
-    READ_FINE, READ_10 = READ_FINE + 10, READ_26,
-    PADDED_FINE, PADDED_10 = PADDED_FINE + 10,
-    IN_FIRST_FOUR, IN_CLASSES, IN_FLAGS, IN_NEXT,
-    IN_TWO_GROUPS, IN_THREE_GROUPS,
-    TAKEN_BEFORE, REFUSED_BEFORE, REFUSED_BEHIND,
-    FED_1, FED_2 = FED_1 + 3, FED_26 = FED_2 + 3, MET_OF_READS = FED_26 + 3
-};
-static const struct met_line lines_of_reads[] = {
-    { "not refused, rows 1 to 10, and 26", READ_26 },
-    { "by the old rule not refused, and rows 1 to 10", PADDED_10 },
-    { "26 of the first four numbers, a class, a flag, and a next state", IN_NEXT },
-    { "26 of two groups, and of three", IN_THREE_GROUPS },
-    { "26 where the old rule takes the sheet, refuses that number, and one behind it", REFUSED_BEHIND },
-    { "of a feed, rows 1, 2 and 26, each of the serial, the client, and the kind", MET_OF_READS - 1 },
-};
-static unsigned long met_of_reads[MET_OF_READS];
-
-/* What a read answers. */
-typedef struct {
-    uint8_t row;
-    size_t place;
-    uint8_t record[JAXHOPHASI_AUTOMATON_SIZE];
-} reading;
-
-/* Counts a sheet that was read by both rules. (Where 26 stands, every number before is one
- * byte.) */
-static void meet_read(const uint8_t *bytes, const reading *strict, const reading *padded)
-{
-    size_t place = strict->place;
-    met_of_reads[strict->row == 26 ? READ_26 : READ_FINE + strict->row]++;
-    met_of_reads[PADDED_FINE + padded->row]++;
-    if (strict->row != 26)
-        return;
-    unsigned classes = place < 4 ? 4 : 4u + bytes[1], flags = place < 4 ? 4 : classes + bytes[0];
-    met_of_reads[place < 4 ? IN_FIRST_FOUR : place < classes ? IN_CLASSES : place < flags ? IN_FLAGS : IN_NEXT]++;
-    met_of_reads[bytes[place + 1] ? IN_THREE_GROUPS : IN_TWO_GROUPS]++;
-    met_of_reads[!padded->row ? TAKEN_BEFORE : padded->place == place ? REFUSED_BEFORE : REFUSED_BEHIND]++;
-}
-
-/* Counts a feed's record that was given row 1, 2 or 26 at a place: of which number, is told by how
- * many end before it. */
-static void meet_fed(const uint8_t *bytes, uint8_t row, size_t place)
-{
-    unsigned ended = 0;
-    for (size_t i = 0; i < place; i++)
-        ended += bytes[i] < 128;
-    if (row == 1 || row == 2 || row == 26)
-        met_of_reads[(row == 1 ? FED_1 : row == 2 ? FED_2 : FED_26) + ended]++;
-}
-
-typedef uint8_t (*read_call)(const uint8_t *, size_t, uint8_t *, uint8_t *);
-
-static reading compare_read_by(const char *name, read_call ours, read_call theirs, const uint8_t *bytes, size_t length)
+static void compare_read(const uint8_t *bytes, size_t length)
 {
     twin source = twins(length, 0), record = twins(JAXHOPHASI_AUTOMATON_SIZE, 0), place = twins(JAXHOPHASI_NUMBER_SIZE, 0);
-    reading read;
-    call_now = name;
+    call_now = "read";
     set_twins(source, bytes, length);
-    read.row = ours(source.ours, length, record.ours, place.ours);
-    same_row(read.row, theirs(source.theirs, length, record.theirs, place.theirs));
+    same_row(jaxhophasi_read(source.ours, length, record.ours, place.ours),
+        ref_read(source.theirs, length, record.theirs, place.theirs));
     same_twins("the sheet", source);
     same_twins("the record", record);
     same_twins("the place", place);
-    read.place = jaxhophasi_number_at(place.ours);
-    memcpy(read.record, record.ours, sizeof read.record);
     drop_twins(source);
     drop_twins(record);
     drop_twins(place);
-    return read;
-}
-
-/* What 26 does not refuse is as by the old rule; 26 stands no later than the old rule's fault. */
-static void compare_rules(const reading *strict, const reading *padded)
-{
-    call_now = "read and read_padded";
-    if (strict->row == 26)
-        same_number("whether the old rule's fault is before 26", padded->row && padded->place < strict->place, 0);
-    else {
-        same_row(strict->row, padded->row);
-        same("the place", &strict->place, &padded->place, sizeof strict->place);
-        same("the record", strict->record, padded->record, sizeof strict->record);
-    }
-}
-
-/* A sheet that the old rule takes, written again: its bytes where the rule in force takes them,
- * and else fewer, with the same record. */
-static void compare_rewritten(const uint8_t *bytes, size_t length, const reading *strict, const reading *padded)
-{
-    uint8_t out[JAXHOPHASI_MAX_SHEET], number[JAXHOPHASI_NUMBER_SIZE];
-    call_now = "a sheet written again";
-    same_row(jaxhophasi_write(padded->record, out, sizeof out, number), 0);
-    size_t written = jaxhophasi_number_at(number);
-    same_number("whether it is shorter", written < length, strict->row == 26);
-    if (strict->row == 0)
-        same("its bytes", out, bytes, length);
-    reading again = compare_read_by("read of a sheet written again", jaxhophasi_read, ref_read, out, written);
-    same_row(again.row, 0);
-    same("the record", again.record, padded->record, sizeof again.record);
-}
-
-/* A sheet, by the rule in force and by the old one. */
-static void compare_read(const uint8_t *bytes, size_t length)
-{
-    reading strict = compare_read_by("read", jaxhophasi_read, ref_read, bytes, length);
-    reading padded = compare_read_by("read_padded", jaxhophasi_read_padded, ref_read_padded, bytes, length);
-    compare_rules(&strict, &padded);
-    if (padded.row == 0)
-        compare_rewritten(bytes, length, &strict, &padded);
-    meet_read(bytes, &strict, &padded);
 }
 
 static void compare_write(twin record, size_t lent)
@@ -806,12 +661,10 @@ static void compare_feed(twin record, twin table, size_t places, twin list, size
     twin bytes = twins(used, 0), answer = twins(JAXHOPHASI_FED_SIZE, 0);
     call_now = "feed";
     set_twins(bytes, made, used);
-    uint8_t row = ref_feed(record.theirs, (uint32_t *)table.theirs, places, (list_of_clients)list.theirs, count, bytes.theirs,
-        used, expected.theirs, answer.theirs);
     same_row(jaxhophasi_feed(record.ours, (uint32_t *)table.ours, places, (list_of_clients)list.ours, count, bytes.ours, used,
                  expected.ours, answer.ours),
-        row);
-    meet_fed(made, row, jaxhophasi_number_at(answer.theirs + JAXHOPHASI_FED_PLACE));
+        ref_feed(record.theirs, (uint32_t *)table.theirs, places, (list_of_clients)list.theirs, count, bytes.theirs, used,
+            expected.theirs, answer.theirs));
     same_twins("the record's bytes", bytes);
     same_twins("the list", list);
     same_twins("the expected serial", expected);
@@ -905,7 +758,10 @@ enum {
     RESTS_NOT_IN_BOTH, RESTS_IN_BOTH, RESTS_IN_ALL,
     MET_OF_TWO
 };
-static const struct met_line lines_of_two[] = {
+static const struct {
+    const char *names;
+    unsigned last;
+} lines_of_two[] = {
     { "11 of the first, the second, both, and before 24 or 25", BAD_BEFORE_OTHERS },
     { "24 by the number of kinds, with the same classes, by a class, by the last one, and before 25", OTHER_BEFORE_MANY },
     { "25 with 33 pairs, with more, and with more than 255", PAIRS_OVER_255 },
@@ -941,6 +797,30 @@ static void meet_two(const uint8_t *r, const uint8_t *s, uint8_t row)
         met_of_two[TWICE_THE_SAME] += memcmp(r, s, JAXHOPHASI_AUTOMATON_SIZE) == 0;
         met_of_two[r[2] < s[2] ? FIRST_SMALLER : s[2] < r[2] ? SECOND_SMALLER : SAME_HOLD]++;
     }
+}
+
+/* Prints the counts; from 20,000 rounds on there must be some of each. */
+static int met_all_of_two(unsigned long count)
+{
+    int all = 1;
+    unsigned what = 0;
+    for (unsigned line = 0; line < sizeof lines_of_two / sizeof *lines_of_two; line++) {
+        printf("two sheets, %s:", lines_of_two[line].names);
+        for (; what <= lines_of_two[line].last; what++) {
+            printf(" %lu", met_of_two[what]);
+            all &= met_of_two[what] > 0;
+        }
+        puts("");
+    }
+    if (!all && count >= 20000)
+        puts("NOT MET: some of these");
+    return all || count < 20000;
+}
+
+static void same_number(const char *what, unsigned ours, unsigned theirs)
+{
+    uint8_t one = (uint8_t)ours, other = (uint8_t)theirs;
+    same(what, &one, &other, 1);
 }
 
 /* Where a list of kinds leads in a sheet from its start. */
@@ -1044,7 +924,7 @@ static void compare_round(uint32_t most)
 {
     uint8_t r[JAXHOPHASI_AUTOMATON_SIZE], bytes[3 * JAXHOPHASI_MAX_SHEET + 8] = { 0 }, count[8];
     make_any_record(r, most);
-    size_t used = make_bytes(r, bytes);
+    size_t used = make_bytes(r, bytes, (int)below(2));
     compare_read(bytes, used);
     for (unsigned i = below(4); i > 0; i--)
         used = damage_bytes(bytes, used);
@@ -1053,7 +933,7 @@ static void compare_round(uint32_t most)
     twin record = twins(JAXHOPHASI_AUTOMATON_SIZE, 0), state = twins(JAXHOPHASI_CONFIGURATION_SIZE, 0);
     if (below(4) == 0) {
         damage_record(r);
-        compare_read(bytes, make_bytes(r, bytes));
+        compare_read(bytes, make_bytes(r, bytes, (int)below(2)));
     }
     set_twins(record, r, JAXHOPHASI_AUTOMATON_SIZE);
     size_t shortest = 4u + r[0] + r[1] + r[0] * r[1];
@@ -1087,10 +967,8 @@ static int compare(unsigned long count)
         compare_round(round_now % 997 == 996 ? 299593 : round_now % 97 == 96 ? 20000 : 400);
     }
     printf("the same: %lu rounds, %lu comparisons\n", count, calls);
-    int all = met_all_holds(count);
-    all &= MET_ALL("reading", lines_of_reads, met_of_reads, count);
-    all &= MET_ALL("two sheets", lines_of_two, met_of_two, count);
-    return !all;
+    int all = met_all(count), all_of_two = met_all_of_two(count);
+    return all && all_of_two ? 0 : 1;
 }
 
 /* ---- measuring ---- */
@@ -1508,56 +1386,6 @@ static void measure_random_product(unsigned n, unsigned other_n)
     measure_product(name);
 }
 
-/* ---- measuring reads ---- */
-
-static uint8_t sheet[3 * JAXHOPHASI_MAX_SHEET];
-static size_t sheet_length;
-
-enum { READS = 2000 };
-
-/* What reads one after the other came to, summed. */
-static uint64_t read_again(read_call call, uint8_t *to)
-{
-    uint8_t place[8];
-    uint64_t sum = 0;
-    for (unsigned i = 0; i < READS; i++)
-        sum += call(sheet, sheet_length, to, place) + (uint64_t)to[0] + place[0];
-    return sum;
-}
-
-static void reads_ours(void) { emitted = read_again(jaxhophasi_read, record); }
-static void reads_by_c(void) { emitted_by_c = read_again(ref_read, other_record); }
-static void padded_ours(void) { emitted = read_again(jaxhophasi_read_padded, record); }
-static void padded_by_c(void) { emitted_by_c = read_again(ref_read_padded, other_record); }
-
-static void measure_read(const char *name, work ours, work by_c)
-{
-    const work pieces[] = { ours, by_c };
-    double r[2];
-    best_of(9, 2, pieces, r);
-    equal("record that was read", record, other_record, sizeof record);
-    equal("what reads came to", &emitted, &emitted_by_c, 8);
-    printf("%-12s | %5lu  %7.1f  %4.2f\n", name, (unsigned long)sheet_length, r[0] / READS, r[0] / r[1]);
-    fflush(stdout);
-}
-
-/* A sheet by the rule in force, by the old one, and by that with each number in two bytes. */
-static void measure_reads(const char *name, const uint8_t *bytes, size_t length)
-{
-    char padded[32];
-    memcpy(sheet, bytes, sheet_length = length);
-    measure_read(name, reads_ours, reads_by_c);
-    snprintf(padded, sizeof padded, "%s, old", name);
-    measure_read(padded, padded_ours, padded_by_c);
-    for (size_t i = length; i-- > 0;) {
-        sheet[2 * i] = sheet[i] | 128;
-        sheet[2 * i + 1] = 0;
-    }
-    sheet_length = 2 * length;
-    snprintf(padded, sizeof padded, "%s, padded", name);
-    measure_read(padded, padded_ours, padded_by_c);
-}
-
 /* Sheet W of document 01, and the seeds of the random sheets. */
 static const uint8_t w[] = { 4, 4, 2, 0, 0, 0, 1, 1, 1, 1, 0, 0, 1, 0, 3, 0, 1, 0, 2, 1, 2, 3, 3, 1, 3, 3, 3, 3 };
 static const unsigned seeds[] = { 4, 18, 54, 8, 39 };
@@ -1606,17 +1434,6 @@ static void time_products(void)
     measure_random_product(1, 32);
 }
 
-static void time_reads(void)
-{
-    uint8_t largest[JAXHOPHASI_MAX_SHEET], length[8];
-    puts("\nread         | bytes       ns    /C");
-    measure_reads("W", w, sizeof w);
-    seed = 1;
-    make_record(record, 32, 16, 6, 8, 1);
-    jaxhophasi_write(record, largest, sizeof largest, length);
-    measure_reads("largest", largest, sizeof largest);
-}
-
 static int time_all(void)
 {
     uint8_t place[8];
@@ -1642,7 +1459,6 @@ static int time_all(void)
     time_clients();
     time_singles();
     time_products();
-    time_reads();
     return 0;
 }
 

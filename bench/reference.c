@@ -1,6 +1,6 @@
 /* The rules of document 01, and of document 02's lists of growers, its feed, its places in the
- * input, its full hold, its two sheets merged and its strict numbers, in plain C, to compare with
- * and to measure against. */
+ * input, its full hold and its two sheets merged, in plain C, to compare with and to measure
+ * against. */
 #include <string.h>
 
 #include "reference.h"
@@ -128,27 +128,17 @@ static int automaton_of(const uint8_t *record, struct automaton *s)
     return 1;
 }
 
-/* Bytes to be read: by the rule in force (strict), or by the old one, which takes padded
- * numbers. */
-struct source {
-    const uint8_t *bytes;
-    size_t length;
-    int strict;
-};
-
-/* A number of one to three bytes of seven bits, low group first: row 1, 2 or 26, or 0 with the
- * place after it. */
-static uint8_t number(const struct source *from, size_t *at, uint32_t *value)
+/* A number of one to three bytes of seven bits, low group first: row 1 or 2, or 0 with the place
+ * after it. */
+static uint8_t number(const uint8_t *bytes, size_t length, size_t *at, uint32_t *value)
 {
     *value = 0;
     for (unsigned i = 0; i < 3; i++) {
-        if (*at + i >= from->length)
+        if (*at + i >= length)
             return 1;
-        uint8_t byte = from->bytes[*at + i];
+        uint8_t byte = bytes[*at + i];
         *value |= (uint32_t)(byte & 127) << 7 * i;
         if (byte < 128) {
-            if (from->strict && byte == 0 && i > 0)
-                return 26;
             *at += i + 1;
             return 0;
         }
@@ -157,11 +147,11 @@ static uint8_t number(const struct source *from, size_t *at, uint32_t *value)
 }
 
 /* The next number, which lies from low to high; a fault is its row at the place where it began. */
-static uint8_t within(const struct source *from, size_t *at, uint32_t low, uint32_t high, uint8_t row, uint8_t *out)
+static uint8_t within(const uint8_t *bytes, size_t length, size_t *at, uint32_t low, uint32_t high, uint8_t row, uint8_t *out)
 {
     size_t after = *at;
     uint32_t value;
-    uint8_t fault = number(from, &after, &value);
+    uint8_t fault = number(bytes, length, &after, &value);
     if (fault)
         return fault;
     if (value < low || value > high)
@@ -171,16 +161,16 @@ static uint8_t within(const struct source *from, size_t *at, uint32_t low, uint3
     return 0;
 }
 
-static uint8_t read_numbers(const struct source *from, uint8_t *r, size_t *at)
+static uint8_t read_numbers(const uint8_t *bytes, size_t length, uint8_t *r, size_t *at)
 {
     uint8_t fault;
-    if ((fault = within(from, at, 1, STATES, 3, r)) || (fault = within(from, at, 1, SYMBOLS, 4, r + 1)) ||
-        (fault = within(from, at, 1, CAPACITY, 5, r + 2)) || (fault = within(from, at, 0, r[0] - 1u, 6, r + 3)))
+    if ((fault = within(bytes, length, at, 1, STATES, 3, r)) || (fault = within(bytes, length, at, 1, SYMBOLS, 4, r + 1)) ||
+        (fault = within(bytes, length, at, 1, CAPACITY, 5, r + 2)) || (fault = within(bytes, length, at, 0, r[0] - 1u, 6, r + 3)))
         return fault;
     unsigned ones = 0;
     for (unsigned e = 0; e < r[1]; e++) {
         size_t before = *at;
-        if ((fault = within(from, at, 0, 1, 7, r + 4 + e)))
+        if ((fault = within(bytes, length, at, 0, 1, 7, r + 4 + e)))
             return fault;
         ones += r[4 + e];
         if (ones > CONTROLLABLE) {
@@ -189,34 +179,24 @@ static uint8_t read_numbers(const struct source *from, uint8_t *r, size_t *at)
         }
     }
     for (unsigned q = 0; q < r[0]; q++)
-        if ((fault = within(from, at, 0, 1, 7, r + 20 + q)))
+        if ((fault = within(bytes, length, at, 0, 1, 7, r + 20 + q)))
             return fault;
     for (unsigned q = 0; q < r[0]; q++)
         for (unsigned e = 0; e < r[1]; e++)
-            if ((fault = within(from, at, 0, r[0] - 1u, 9, r + 52 + q * SYMBOLS + e)))
+            if ((fault = within(bytes, length, at, 0, r[0] - 1u, 9, r + 52 + q * SYMBOLS + e)))
                 return fault;
-    return *at < from->length ? 10 : 0;
-}
-
-static uint8_t read_record(struct source from, uint8_t *automaton, uint8_t *place)
-{
-    size_t at = 0;
-    memset(automaton, 0, 564);
-    uint8_t row = read_numbers(&from, automaton, &at);
-    if (row)
-        memset(automaton, 0, 564);
-    put(place, row ? at : 0);
-    return row;
+    return *at < length ? 10 : 0;
 }
 
 uint8_t ref_read(const uint8_t *bytes, size_t bytes_length, uint8_t *automaton, uint8_t *place)
 {
-    return read_record((struct source){ bytes, bytes_length, 1 }, automaton, place);
-}
-
-uint8_t ref_read_padded(const uint8_t *bytes, size_t bytes_length, uint8_t *automaton, uint8_t *place)
-{
-    return read_record((struct source){ bytes, bytes_length, 0 }, automaton, place);
+    size_t at = 0;
+    memset(automaton, 0, 564);
+    uint8_t row = read_numbers(bytes, bytes_length, automaton, &at);
+    if (row)
+        memset(automaton, 0, 564);
+    put(place, row ? at : 0);
+    return row;
 }
 
 /* A number in the fewest bytes. */
@@ -680,14 +660,13 @@ uint8_t ref_run_for(const uint8_t *automaton, const uint32_t *table, size_t tabl
     return 0;
 }
 
-/* Serial, client and kind of a feed's record: rows 1, 2 and 26 left to right, 10, or 0; `at` is
- * where the fault is. */
+/* Serial, client and kind of a feed's record: rows 1 and 2 left to right, 10, or 0; `at` is where
+ * the fault is. */
 static uint8_t record_of(const uint8_t *bytes, size_t length, uint32_t numbers[3], size_t *at)
 {
-    struct source from = { bytes, length, 1 };
     *at = 0;
     for (unsigned i = 0; i < 3; i++) {
-        uint8_t row = number(&from, at, &numbers[i]);
+        uint8_t row = number(bytes, length, at, &numbers[i]);
         if (row)
             return row;
     }

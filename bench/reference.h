@@ -15,7 +15,6 @@ extern int ref_flat_check;
 extern int ref_remember;
 
 uint8_t ref_read(const uint8_t *bytes, size_t bytes_length, uint8_t *automaton, uint8_t *place);
-uint8_t ref_read_padded(const uint8_t *bytes, size_t bytes_length, uint8_t *automaton, uint8_t *place);
 uint8_t ref_write(const uint8_t *automaton, uint8_t *out, size_t out_length, uint8_t *length);
 uint8_t ref_buffers_count(const uint8_t *automaton, uint8_t *count);
 uint8_t ref_solve(const uint8_t *automaton, uint32_t *table, size_t table_length, uint8_t *rounds);

@@ -5,7 +5,7 @@
  *                               are, DAY a text with an event on each line: grower and kind
  *
  * White space or commas part the two numbers, each 0 to 65535; comments go from # to the line's
- * end. The status is explained in sheet.h.
+ * end. The status is explained in example.h.
  */
 #define PROGRAM "clients"
 #include "growers.h"

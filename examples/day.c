@@ -3,7 +3,7 @@
  *
  *   day SHEET EVENT ..     SHEET is a file with a sheet's bytes, each EVENT a number
  *
- * The status is explained in sheet.h.
+ * The status is explained in example.h.
  */
 #define PROGRAM "day"
 #include "events.h"

@@ -17,7 +17,7 @@ import sys
 AUTOMATON_SIZE, NUMBER_SIZE, PLACE_SIZE, STATUS_SIZE, RECEIVED_SIZE, RAN_SIZE, VERDICT_SIZE = 564, 8, 4, 1, 37, 16, 2
 EXPECTED_SIZE, FED_SIZE = 3, 53
 RECEIVED_PLACES = 9  # where the places begin in the answer to an event
-BYTES_READ = 3 * 564 + 1  # one byte more than a sheet can have, padded or not
+BYTES_READ = 3 * 564 + 1  # one byte more than a sheet can have
 
 
 class Configuration(ctypes.LittleEndianStructure):
@@ -76,7 +76,6 @@ def library_at(path):
     carried = ctypes.POINTER(Configuration)  # one or a list
     for name, types in {
         "read": [byte, size, byte, byte],
-        "read_padded": [byte, size, byte, byte],
         "write": [byte, byte, size, byte],
         "buffers_count": [byte, byte],
         "solve": [byte, word, size, byte],
@@ -124,23 +123,16 @@ def read_file(path, most=-1):
         stop(2, path, error.strerror)
 
 
-def read_by(call, path, front=""):
-    """The refusal and the record of a sheet, by jaxhophasi_read, or by jaxhophasi_read_padded for
-    sheets that were stored by the old rule. A refusal is printed with its place, behind what is to
-    stand there."""
+def read(library, path, which=""):
+    """The record of a sheet; the number of refusal and its place are printed, behind which sheet
+    it is where there are two, and nothing is handed back."""
     data = read_file(path, BYTES_READ)
     automaton, place = lent(AUTOMATON_SIZE), lent(NUMBER_SIZE)
-    row = call(filled(data), len(data), automaton, place)
-    if row:
-        print("{}refused {} at {}".format(front, row, number_at(place)))
-    return row, automaton
-
-
-def read(library, path, which=""):
-    """The record of a sheet; a refusal is printed, behind which sheet it is where there are two,
-    and nothing is handed back."""
-    row, automaton = read_by(library.jaxhophasi_read, path, which)
-    return None if row else automaton
+    row = library.jaxhophasi_read(filled(data), len(data), automaton, place)
+    if row == 0:
+        return automaton
+    print("{}refused {} at {}".format(which, row, number_at(place)))
+    return None
 
 
 def solve(library, automaton):

@@ -1,10 +1,28 @@
 /*
- * What the examples in C that run events share.
+ * What the examples in C share. A program defines PROGRAM, its name, before it includes this.
+ *
+ * Status 0: all was printed. 1: the sheet is refused, or the output could not be written. 2: a
+ * fault in what is given.
  */
 #ifndef EXAMPLE_H
 #define EXAMPLE_H
 
-#include "sheet.h"
+#include <errno.h>
+#include <stdio.h>
+#include <stdlib.h>
+#include <string.h>
+
+#include "jaxhophasi.h"
+
+/* One byte more than a sheet can have. */
+#define BYTES_READ (3 * JAXHOPHASI_MAX_SHEET + 1)
+
+/* Says what is wrong, of a name where there is one, and ends. */
+static void stop(int status, const char *name, const char *fault)
+{
+    fprintf(stderr, PROGRAM ": %s%s%s\n", name, *name ? ": " : "", fault);
+    exit(status);
+}
 
 /* Room to lend, all zero; one place more, so that it is nowhere empty. */
 static void *room(size_t count, size_t size)
@@ -70,6 +88,29 @@ static void print_carried(const uint8_t *configuration)
         jaxhophasi_place_at(configuration + JAXHOPHASI_CONFIGURATION_EMITTED));
 }
 
+/* As many of a file's bytes as a sheet can have, and one more. */
+static size_t read_file(const char *name, uint8_t bytes[BYTES_READ])
+{
+    FILE *file = fopen(name, "rb");
+    size_t length = file ? fread(bytes, 1, BYTES_READ, file) : 0;
+    if (!file || ferror(file))
+        stop(2, name, strerror(errno));
+    fclose(file);
+    return length;
+}
+
+/* Reads the sheet of a file into a record; prints its refusal, behind which sheet it is where
+ * there are two, and hands it back. */
+static uint8_t read_sheet(const char *which, const char *name, uint8_t automaton[JAXHOPHASI_AUTOMATON_SIZE])
+{
+    uint8_t bytes[BYTES_READ], place[JAXHOPHASI_NUMBER_SIZE];
+    size_t length = read_file(name, bytes);
+    uint8_t row = jaxhophasi_read(bytes, length, automaton, place);
+    if (row)
+        printf("%srefused %u at %u\n", which, row, (unsigned)jaxhophasi_number_at(place));
+    return row;
+}
+
 /* Solves a sheet and prints its lines; the table, and how many places it has. A record that was
  * read is refused by none of the calls. */
 static uint32_t *solve(const uint8_t *automaton, size_t *places)
@@ -85,6 +126,14 @@ static uint32_t *solve(const uint8_t *automaton, size_t *places)
     printf("sheet %u %u %u start %u guarded %s\n", automaton[JAXHOPHASI_AUTOMATON_STATES], automaton[JAXHOPHASI_AUTOMATON_SYMBOLS],
         automaton[JAXHOPHASI_AUTOMATON_CAPACITY], automaton[JAXHOPHASI_AUTOMATON_INITIAL], winning[0] ? "yes" : "no");
     return table;
+}
+
+/* The status, once all that was printed is written. */
+static int finished(int status)
+{
+    if (fflush(stdout) || ferror(stdout))
+        stop(1, "", "cannot write");
+    return status;
 }
 
 #endif

@@ -6,7 +6,7 @@
  *
  * White space or commas part the numbers, each 0 to 2097151; comments go from # to the line's end.
  * A line with one or two numbers, or with a fourth, is a record cut short, or one with bytes left:
- * the call refuses it. The status is explained in sheet.h.
+ * the call refuses it. The status is explained in example.h.
  *
  * Printed, after the sheet's two lines, a line for each record, by its serial:
  *
@@ -49,8 +49,7 @@ static int let_in(uint8_t row)
 static void print_refusal(uint8_t row, const uint8_t *answer)
 {
     printf("refused %u", row);
-    if (row == JAXHOPHASI_ENDS_EARLY || row == JAXHOPHASI_LONG_NUMBER || row == JAXHOPHASI_PADDED_NUMBER ||
-        row == JAXHOPHASI_BYTES_LEFT)
+    if (row == JAXHOPHASI_ENDS_EARLY || row == JAXHOPHASI_LONG_NUMBER || row == JAXHOPHASI_BYTES_LEFT)
         printf(" at %u", (unsigned)jaxhophasi_number_at(answer + JAXHOPHASI_FED_PLACE));
     printf("\n");
 }

@@ -27,7 +27,7 @@ from clients import over_growers
 from day import EXPECTED_SIZE, FED_SIZE, filled, lent, number_at
 
 LET_IN = 0, 19, 13, 14, 15, 23  # nothing is refused, or only the record's event is
-PLACED = 1, 2, 26, 10  # rows that have a place
+PLACED = 1, 2, 10  # rows that have a place
 
 
 def pack(values):

@@ -11,7 +11,7 @@
  *   refused 24                  their kinds differ in number or class
  *   refused 25                  there are more than 32 pairs of their states
  *
- * The status is explained in sheet.h; two sheets that cannot be merged are refused too.
+ * The status is explained in example.h; two sheets that cannot be merged are refused too.
  */
 #define PROGRAM "product"
 #include "events.h"

@@ -6,11 +6,10 @@
  * Every function returns the number of refusal, 0 where nothing is refused. In a refused call's
  * answer every count, length, place in the input and yes-or-no is 0; the lent carried state or
  * list of them, expected serial, table and output keep their contents (the same bytes may be
- * stored again). A refused call that answers with a sheet's record (jaxhophasi_read,
- * jaxhophasi_read_padded, jaxhophasi_product) leaves an all-zero record there, and a read the
- * place of the fault. One exception: where 19, 13, 14, 15 or 23 refuses the event of a feed's
- * record, that record was let in, so the answer has its loss and the lent expected serial moves
- * on.
+ * stored again). A refused call that answers with a sheet's record, jaxhophasi_read or
+ * jaxhophasi_product, leaves an all-zero record there, and the read the place of the fault. One
+ * exception: where 19, 13, 14, 15 or 23 refuses the event of a feed's record, that record was let
+ * in, so the answer has its loss and the lent expected serial moves on.
  *
  * What is lent: a fixed array is a plain pointer to as many bytes as its constant says; a list is
  * a pointer and then the number of its elements. A list may be of any length and all of it may
@@ -35,8 +34,8 @@ extern "C" {
 /* The version of this interface: the first number is raised where a caller must change something
  * or may see another answer, the second where calls are added, the third at every other change.
  * The three are also one number, 10000 for 1.0.0 and 10203 for 1.2.3. */
-#define JAXHOPHASI_VERSION_MAJOR 4
-#define JAXHOPHASI_VERSION_MINOR 0
+#define JAXHOPHASI_VERSION_MAJOR 3
+#define JAXHOPHASI_VERSION_MINOR 1
 #define JAXHOPHASI_VERSION_PATCH 0
 #define JAXHOPHASI_VERSION \
     (JAXHOPHASI_VERSION_MAJOR * 10000 + JAXHOPHASI_VERSION_MINOR * 100 + JAXHOPHASI_VERSION_PATCH)
@@ -145,8 +144,7 @@ static inline uint64_t jaxhophasi_number_at(const uint8_t *bytes)
  * then two numbers (FED_PLACE is a place in the record's bytes, none in the input). */
 #define JAXHOPHASI_FED_SIZE 53
 #define JAXHOPHASI_FED_LOSS 37  /* how many records were lost before this one */
-#define JAXHOPHASI_FED_PLACE 45 /* where in the bytes the fault of row 1, 2, 26 or 10 is; 0
-                                 * else */
+#define JAXHOPHASI_FED_PLACE 45 /* where in the bytes the fault of row 1, 2 or 10 is; 0 else */
 
 /* What jaxhophasi_judge answers: 1 yes, 0 no. */
 #define JAXHOPHASI_VERDICT_SIZE 2
@@ -157,8 +155,7 @@ static inline uint64_t jaxhophasi_number_at(const uint8_t *bytes)
 #define JAXHOPHASI_TABLE_LENGTH(T) (2 * (T))
 #define JAXHOPHASI_MAX_TABLE 599186
 
-/* The longest sheet that jaxhophasi_write writes and jaxhophasi_read takes: 4 + 16 + 32 + 32 * 16.
- * (Padded, one may be three times as long.) */
+/* The longest sheet that jaxhophasi_write writes: 4 + 16 + 32 + 32 * 16. */
 #define JAXHOPHASI_MAX_SHEET 564
 
 /* The same four limits by their older names. */
@@ -167,12 +164,11 @@ static inline uint64_t jaxhophasi_number_at(const uint8_t *bytes)
 #define JAXHOPHASI_TABLE_MOST JAXHOPHASI_MAX_TABLE
 #define JAXHOPHASI_SHEET_MOST JAXHOPHASI_MAX_SHEET
 
-/* Numbers of refusal. A read goes left to right, and checks of each number 1, 2, 26 and then its
- * range (read_padded not 26); every other call checks its own in this order (product 11 of the
- * first record and of the second, 24, 25), but that receive_for and run_for check 20 and 19 after
- * 12, and feed 11, 12, 20, then its record (1, 2 and 26 of each number, left to right, then 10,
- * 21, 22), then the event (19, 13, 14, 15, 23); the first that holds is given. (18 is the
- * programs' own.) */
+/* Numbers of refusal. A read goes left to right, every other call checks its own in this order
+ * (product 11 of the first record and of the second, 24, 25), but that receive_for and run_for
+ * check 20 and 19 after 12, and feed 11, 12, 20, then its record (1 and 2 left to right, 10, 21,
+ * 22), then the event (19, 13, 14, 15, 23); the first that holds is given. (18 is the programs'
+ * own.) */
 enum {
     JAXHOPHASI_FINE = 0,
     JAXHOPHASI_ENDS_EARLY = 1,         /* read, feed: the bytes end before the sheet or the feed's
@@ -223,22 +219,13 @@ enum {
                                         * 4,294,967,295 (a day passes over it and counts it) */
     JAXHOPHASI_SYMBOLS_DIFFER = 24,    /* product: the kinds of the two records differ in number,
                                         * or one of them in its class */
-    JAXHOPHASI_MANY_PAIRS = 25,        /* product: more than 32 pairs of states (n of the first
+    JAXHOPHASI_MANY_PAIRS = 25         /* product: more than 32 pairs of states (n of the first
                                         * times n of the second) */
-    JAXHOPHASI_PADDED_NUMBER = 26      /* read, feed: a number in more groups than it needs: it
-                                        * has more than one byte, and the last is 0 */
 };
 
-/* Reads and checks a sheet. Rows 1 to 10 and 26, left to right; place is where the faulty number
- * begins, 0 where there is none. So two sheets that it takes have the same bytes exactly when they
- * give the same record. */
+/* Reads and checks a sheet. Rows 1 to 10, left to right; place is where the faulty number begins,
+ * 0 where there is none. */
 uint8_t jaxhophasi_read(const uint8_t *bytes, size_t bytes_length, uint8_t automaton[JAXHOPHASI_AUTOMATON_SIZE],
-    uint8_t place[JAXHOPHASI_NUMBER_SIZE]);
-
-/* The same by the rule before 4.0.0, which took padded numbers: for sheets that were stored by it.
- * Rows 1 to 10. What jaxhophasi_write then writes is the sheet as jaxhophasi_read takes it, with
- * the same record. */
-uint8_t jaxhophasi_read_padded(const uint8_t *bytes, size_t bytes_length, uint8_t automaton[JAXHOPHASI_AUTOMATON_SIZE],
     uint8_t place[JAXHOPHASI_NUMBER_SIZE]);
 
 /* Writes a sheet at the front of out, in the fewest bytes; length is how many. Rows 11, 16. */
@@ -305,10 +292,10 @@ uint8_t jaxhophasi_run_for(const uint8_t automaton[JAXHOPHASI_AUTOMATON_SIZE], c
  * seven bits as a sheet's numbers, and nothing behind them. If the expected serial lets it in, it
  * is an event for its client, as by jaxhophasi_receive_for; expected becomes the serial after its
  * own, and the answer has how many records were lost before it (0 where none was expected). Rows
- * 11, 12, 20; of the record 1, 2 and 26, left to right, at the place where the number begins, 10
- * at the first byte left, 21, 22; of the event 19, then 13 of that client's carried state alone,
- * 14, 15, 23. Where one of the last five refuses the event, loss and expected are as if it had
- * been accepted; where any other row refuses, the loss is 0 and expected stays, byte for byte. */
+ * 11, 12, 20; of the record 1 and 2, left to right, at the place where the number begins, 10 at
+ * the first byte left, 21, 22; of the event 19, then 13 of that client's carried state alone, 14,
+ * 15, 23. Where one of the last five refuses the event, loss and expected are as if it had been
+ * accepted; where any other row refuses, the loss is 0 and expected stays, byte for byte. */
 uint8_t jaxhophasi_feed(const uint8_t automaton[JAXHOPHASI_AUTOMATON_SIZE], const uint32_t *table, size_t table_length,
     uint8_t configurations[][JAXHOPHASI_CONFIGURATION_SIZE], size_t configurations_length, const uint8_t *bytes,
     size_t bytes_length, uint8_t expected[JAXHOPHASI_EXPECTED_SIZE], uint8_t answer[JAXHOPHASI_FED_SIZE]);

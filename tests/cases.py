@@ -11,7 +11,6 @@ and how many went out.
 
     sheet BYTES             reads a sheet:
                             = refusal, place, n, m, B, start, the sum of all bytes of the record
-    stored BYTES            the same by the old rule, which takes padded numbers
     overwrite PLACE VALUE   changes one byte of the record
     first, second           the record, as it is, becomes the first or the second to be merged
     product                 merges these two into the record, whose bytes were 9:
@@ -105,16 +104,10 @@ class Cases:
         self.table_words = numbers([0] * TABLE_PLACES)
         self.list = []  # the clients' carried states
 
-    def read_by(self, call, data):
-        place = answer(NUMBER_SIZE)
-        row = call(filled(data), len(data), self.automaton, place)
-        return [row, number_at(place)] + self.automaton[:4] + [sum(self.automaton)]
-
     def sheet(self, *data):
-        return self.read_by(self.library.jaxhophasi_read, data)
-
-    def stored(self, *data):
-        return self.read_by(self.library.jaxhophasi_read_padded, data)
+        place = answer(NUMBER_SIZE)
+        row = self.library.jaxhophasi_read(filled(data), len(data), self.automaton, place)
+        return [row, number_at(place)] + self.automaton[:4] + [sum(self.automaton)]
 
     def overwrite(self, place, value):
         self.automaton[place] = value

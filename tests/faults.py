@@ -1,5 +1,6 @@
-"""Real faults of input and output, each tried on every program: nothing is lost without a word. A
-program has no status of its own: it says what failed on standard error, or a signal kills it.
+"""Real faults of input and output, each tried on the programs day, pack, unpack and merge: nothing
+is lost without a word. A program has no status of its own: it says what failed on standard error,
+or a signal kills it.
 """
 import contextlib
 import fcntl
@@ -174,8 +175,8 @@ def asleep(process):
 
 def try_faults(program, given, whole):
     """All faults on one program, on an input whose output is longer than a pipe holds; gives their
-    number. Where every output is short, as of merge and of canonical, those are left out in which
-    the program waits for room."""
+    number. Where every output is short, as of merge, those are left out in which the program waits
+    for room."""
     tried, waits = [], len(whole) > PAGE
 
     def check(what, got, stdout=b"", says=None, status=0):

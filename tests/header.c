@@ -57,12 +57,6 @@ static uint8_t read_sheet(const uint8_t *bytes, size_t length)
     return jaxhophasi_read(bytes, length, automaton, number);
 }
 
-/* A stored sheet, by the old rule. */
-static uint8_t read_stored(const uint8_t *bytes, size_t length)
-{
-    return jaxhophasi_read_padded(bytes, length, automaton, number);
-}
-
 /* The end of a count. */
 static const uint32_t end = 4294967295;
 
@@ -155,26 +149,6 @@ static void check_automaton(void)
     same("MAX_SHEET", jaxhophasi_write(automaton, out, JAXHOPHASI_MAX_SHEET, number), 0);
     same("bytes of the largest sheet", jaxhophasi_number_at(number), JAXHOPHASI_MAX_SHEET);
     same("a byte under MAX_SHEET", jaxhophasi_write(automaton, out, JAXHOPHASI_MAX_SHEET - 1, number), 16);
-}
-
-/* W with its second and last number padded: refused by the rule in force with an all-zero record;
- * by the old one the record of W, which is then written as W. */
-static void check_padded(void)
-{
-    static const uint8_t zeros[564], padded[] = { 4, 132, 0, 2, 0, 0, 0, 1, 1, 1, 1, 0, 0, 1, 0, 3, 0, 1, 0, 2, 1, 2, 3, 3, 1,
-        3, 3, 3, 131, 128, 0 };
-    same("W padded", read_sheet(padded, sizeof padded), 26);
-    same("the place of a padded number", jaxhophasi_number_at(number), 1);
-    same_bytes("the record of W padded", automaton, zeros, 564);
-    same("AUTOMATON_SIZE of a stored sheet", JAXHOPHASI_AUTOMATON_SIZE,
-        WRITTEN(jaxhophasi_read_padded(padded, sizeof padded, lent, number)));
-    same("W padded, by the old rule", read_stored(padded, sizeof padded), 0);
-    same("W written", jaxhophasi_write(automaton, out, sizeof w, number), 0);
-    same("bytes of W", jaxhophasi_number_at(number), sizeof w);
-    same_bytes("W written", out, w, sizeof w);
-    same("W padded and cut short, by the old rule", read_stored(padded, sizeof padded - 1), 1);
-    same("its place", jaxhophasi_number_at(number), 28);
-    same_bytes("its record", automaton, zeros, 564);
 }
 
 /* ---- the version, and limits by their older names ---- */
@@ -517,9 +491,6 @@ static void check_rows_of_reading(void)
     row(8, JAXHOPHASI_MANY_CONTROLLABLE, READ(1, 9, 1, 0, 1, 1, 1, 1, 1, 1, 1, 1, 1));
     row(9, JAXHOPHASI_BAD_NEXT, READ(3, 2, 1, 0, 0, 1, 1, 0, 1, 1, 0, 1, 2, 2, 3));
     row(10, JAXHOPHASI_BYTES_LEFT, READ(3, 2, 1, 0, 0, 1, 1, 0, 1, 1, 0, 1, 2, 2, 2, 0));
-    row(26, JAXHOPHASI_PADDED_NUMBER, READ(128, 0));
-    row(26, JAXHOPHASI_PADDED_NUMBER, READ(161, 0)); /* 26 before 3 */
-    row(4, JAXHOPHASI_BAD_SYMBOLS, READ(3, 0, 129, 0)); /* the first fault from the left */
 }
 
 static void check_rows_of_calls(void)
@@ -574,9 +545,6 @@ static void check_rows_of_feeds(void)
     row(1, JAXHOPHASI_ENDS_EARLY, FEED(3, 5, 0));
     row(2, JAXHOPHASI_LONG_NUMBER, FEED(3, 133, 128, 128, 0, 0));
     row(10, JAXHOPHASI_BYTES_LEFT, FEED(3, 5, 0, 0, 0));
-    row(26, JAXHOPHASI_PADDED_NUMBER, FEED(3, 5, 128, 0, 0));
-    same("the place of a padded client", jaxhophasi_number_at(answer + JAXHOPHASI_FED_PLACE), 1);
-    same_expected("after a padded client", 1, 5, 0);
     row(21, JAXHOPHASI_BAD_SERIAL, FEED(3, 128, 128, 4, 0, 0));
     row(22, JAXHOPHASI_LATE_SERIAL, FEED(3, 4, 0, 0));
     row(0, JAXHOPHASI_FINE, FEED(3, 5, 0, 2));
@@ -747,7 +715,6 @@ int main(void)
         return 1;
     }
     check_automaton();
-    check_padded();
     check_names();
     check_numbers();
     check_table();

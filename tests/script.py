@@ -26,9 +26,8 @@ pack: text io
 day: text base libc
 merge: text
 unpack: text
-canonical: text
 """
-NAMES = "day", "pack", "unpack", "merge", "canonical"  # the programs
+NAMES = "day", "pack", "unpack", "merge"  # the programs
 
 RT = """#!/bin/sh
 echo "$*" >>"$CALLS"
@@ -59,31 +58,6 @@ TEXT = "day: {} is text, not bytes: give a sheet and its events, ./day SHEET EVE
 UNREAD = "\nday: standard input could not be read\n"
 
 V = [3, 2, 1, 0, 0, 1, 1, 0, 1, 1, 0, 1, 2, 2, 2]
-PADDED_V = [131, 0, 2, 1, 128, 128, 0, *V[4:14], 130, 0]
-
-LIKE_TEXT = " (it looks like text; a text needs no change)"
-
-# Stored sheets, in the order of their names' bytes: what is said of each.
-STORED = [
-    ("-n", PADDED_V, "4 bytes shorter"),
-    ("A sheet", V, "unchanged"),
-    ("[*]", V[:13] + [130, 0, 2], "1 byte shorter"),
-    ("a", V + [7], "refused 10 at 15"),
-    ("comment", "# \u00e4\n3 2 1 0".encode(), "refused 3 at 0" + LIKE_TEXT),
-    ("cut", [131], "refused 1 at 0"),
-    ("cut later", [131, 130], "refused 1 at 0"),
-    ("early", PADDED_V[:-1], "refused 1 at 17"),
-    ("empty", [], "refused 1 at 0"),
-    ("long", V + [0] * 59986, "refused 18"),
-    ("long text", [48] * 70000, "refused 18" + LIKE_TEXT),
-    ("longest", V + [0] * 59985, "refused 10 at 15"),
-    ("states", [161, 0], "refused 3 at 0"),
-    ("text", b"3 2 1 0", "refused 3 at 0" + LIKE_TEXT),
-    ("\u00e4", V[:14] + [130, 128, 0], "2 bytes shorter"),
-]
-STORED_LINES = "".join("{}: {}\n".format(name, said) for name, _, said in STORED)
-REWRITTEN = {name: bytes(V) for name, _, said in STORED if not said.startswith("refused")}
-BOTH, BOTH_LINES = {"v": bytes(V), "w": bytes(V)}, "v: unchanged\nw: 4 bytes shorter\n"
 
 FILES = {
     "v.bytes": bytes([15, *V, 1, 0]),
@@ -109,14 +83,6 @@ FILES = {
     "longer": b"0 " * 60000,
     "longest": b"0 " * 59984,
     "text": b"1 " * 131072 + b"1",
-    "old/.hidden": bytes(V),
-    "old/folder/v": bytes(V),
-    "-fine/v": bytes(V),
-    "-fine/w": bytes(PADDED_V),
-    "other/early": b"kept",
-    "bare/.hidden": bytes(V),
-    "bare/folder/v": bytes(V),
-    **{"old/" + name: bytes(data) for name, data, _ in STORED},
 }
 
 # What is refused of a sheet in a text: the row, the place in its bytes, and what is said of it.
@@ -210,14 +176,6 @@ CASES = [
     ("no file to merge", ["--product", "a sheet", "neither"], 2, "", "day: neither: no such file\n"),
     ("two names that are options", ["--product", "--", "--help", "silent"], 0, MERGED, ""),
     ("a file --product", ["--", "--product", "-events"], 2, "", "day: --product: no such file\n"),
-    ("no stored sheets", ["--canonical", "neither", "new"], 2, "", "day: neither: no such folder\n"),
-    ("a file for stored sheets", ["--canonical", "v.bytes", "new"], 2, "", "day: v.bytes: is no folder\n"),
-    ("stored sheets into a file", ["--canonical", "old", "v.bytes"], 2, "", "day: v.bytes: is no folder\n"),
-    ("stored sheets into their folder", ["--canonical", "old", "old"], 2, "", "day: old and old are one folder\n"),
-    ("the same by other names", ["--canonical", "old/folder/..", "./old/"], 2, "",
-     "day: old/folder/.. and ./old/ are one folder\n"),
-    ("a stored sheet's name that is there", ["--canonical", "old", "other"], 2, "", "day: other/early: is there already\n"),
-    ("a folder without files", ["--canonical", "bare", "new"], 2, "", "day: bare: has no files\n"),
 ]
 
 # The samples of a run, and where its output stands.
@@ -253,9 +211,8 @@ for what, first, second, stdout, stderr in TWO:
     CASES.append((what + ", --product", ["--product", first, second], 1, "", stderr))
 CASES.append(("two sheets, --product", ["--product", "a sheet", "silent"], 0, MERGED, ""))
 for words in [], ["a sheet"], ["a sheet", "silent", "-events"], ["--"], ["--", "a sheet"]:
-    for option, two in ("--product", "sheets"), ("--canonical", "folders"):
-        what = "{} and {} words".format(option, len(words))
-        CASES.append((what, [option, *words], 2, "", "day: {} takes two {} (./day --help)\n".format(option, two)))
+    what = "--product and {} words".format(len(words))
+    CASES.append((what, ["--product", *words], 2, "", "day: --product takes two sheets (./day --help)\n"))
 
 
 class House:
@@ -272,7 +229,6 @@ class House:
         shutil.copy(root / "crates" / "day" / "stdin", self.script.parent / "crates" / "day")
         (self.script.parent / "crates.txt").write_text(CRATES)
         for name, data in FILES.items():
-            (self.start / name).parent.mkdir(parents=True, exist_ok=True)
             (self.start / name).write_bytes(data)
         for name in NAMES:
             shutil.copy(root / "target" / "bin" / name, self.programs)
@@ -331,14 +287,6 @@ class House:
             fail(name, "left behind: " + " ".join(left))
         self.count += 1
 
-    def holds(self, what, folder, expected):
-        """Compares a folder, hidden files too, with names and contents, and removes it."""
-        path = self.start / folder
-        got = {name: (path / name).is_file() and (path / name).read_bytes() for name in os.listdir(path)}
-        if got != expected:
-            fail("./day by {}, {}".format(self.shell, what), "{} holds {}".format(folder, sorted(got.items())))
-        shutil.rmtree(path)
-
     def called(self, what, expected):
         """How rt was called since the programs were put there or removed."""
         calls = self.calls.read_text().splitlines() if self.calls.exists() else []
@@ -348,11 +296,6 @@ class House:
 
 def encoded(text, printed):
     return text if isinstance(text, bytes) else printed if text == "PRINTED" else text.encode()
-
-
-def nobody():
-    """How to run without root's right to read and write everything."""
-    return dict(user=65534, group=65534, extra_groups=[]) if os.getuid() == 0 else {}
 
 
 def try_cases(house):
@@ -383,12 +326,13 @@ def try_arguments_first(house):
 
 
 def try_unreadable(house):
-    """A file that may not be read."""
+    """A file that may not be read; root may read any, so root becomes nobody for it."""
     house.put_programs()
     (house.start / "hidden").write_bytes(b"")
     (house.start / "hidden").chmod(0)
-    house.check("a hidden file", house.run(["hidden"], **nobody()), 2, "", "day: hidden: cannot be read\n")
-    house.check("a hidden sheet", house.run(["hidden", "-events"], **nobody()), 2, "", "day: hidden: cannot be read\n")
+    user = dict(user=65534, group=65534, extra_groups=[]) if os.getuid() == 0 else {}
+    house.check("a hidden file", house.run(["hidden"], **user), 2, "", "day: hidden: cannot be read\n")
+    house.check("a hidden sheet", house.run(["hidden", "-events"], **user), 2, "", "day: hidden: cannot be read\n")
 
 
 def try_inputs(house):
@@ -475,109 +419,6 @@ def try_outputs(house):
             house.check(name + " says a refusal", house.run(words), 1, out, front + "refused 1 at 0\n")
 
 
-def try_stored(house):
-    """Folders of stored sheets."""
-    house.put_programs()
-    old, samples = house.start / "old", house.root / "samples"
-    for folder in old, house.start / "bare":
-        os.mkfifo(folder / "pipe")
-        (folder / "gone").symlink_to("nowhere")
-    (house.start / "nothing").mkdir()
-    (house.start / "linked").symlink_to("old")
-    before = sorted(os.listdir(old))
-    rewrite(house, "stored sheets", "old", REWRITTEN, 1, STORED_LINES)
-    if sorted(os.listdir(old)) != before or any((old / name).read_bytes() != bytes(data) for name, data, _ in STORED):
-        fail("./day by {}, stored sheets".format(house.shell), "the old ones are changed")
-    w, season = (bytes(map(int, re.findall("[0-9]+", re.sub("#.*", "", (samples / name).read_text()))))
-                 for name in ("W.txt", "season.txt"))
-    rewrite(house, "the stored samples", samples / "stored", {"W.bytes": w, "W-padded.bytes": w, "season.bytes": season}, 1,
-        (samples / "stored.out").read_bytes())
-    rewrite(house, "stored sheets without a fault", "-fine", BOTH, 0, BOTH_LINES)
-    for what, folder in ("an empty folder", "nothing"), ("a folder without files", "bare"):
-        said = "day: {}: has no files\n".format(folder)
-        house.check(what, house.run(["--canonical", folder, "new"]), 2, "", said)
-    if (house.start / "new").exists():
-        fail("./day by {}, a folder without files".format(house.shell), "the other one is made")
-    same = house.run(["--canonical", "linked", "old"])
-    house.check("stored sheets and a link", same, 2, "", "day: linked and old are one folder\n")
-    house.holds("a stored sheet's name that is there", "other", {"early": b"kept"})
-    try_stored_beside(house)
-
-
-def try_stored_beside(house):
-    """A folder below one that is missing; the same once more; where a name is a link to nowhere;
-    beside another file."""
-    words, new = ["--canonical", "--", "-fine", "new/deep"], house.start / "new" / "deep"
-    house.check("stored sheets into a new folder", house.run(words), 0, BOTH_LINES)
-    house.check("stored sheets once more", house.run(words), 2, "", "day: new/deep/v: is there already\n")
-    if (new / "w").stat().st_mode != (house.start / "-fine" / "w").stat().st_mode:
-        fail("./day by {}, stored sheets".format(house.shell), "the new ones have another mode")
-    (new / "v").rename(new / "u")
-    (new / "w").unlink()
-    (new / "w").symlink_to("nowhere")
-    house.check("a stored sheet's name that is a link", house.run(words), 2, "", "day: new/deep/w: is there already\n")
-    (new / "w").unlink()
-    house.check("stored sheets beside others", house.run(words), 0, BOTH_LINES)
-    house.holds("stored sheets beside others", "new/deep", {**BOTH, "u": bytes(V)})
-
-
-def rewrite(house, what, old, left, *ended_so, **how):
-    """Takes a folder over; then this is in the new one, and nothing else."""
-    house.check(what, house.run(["--canonical", "--", old, "-new"], **how), *ended_so)
-    house.holds(what, "-new", left)
-
-
-def try_stored_faults(house):
-    """Where a stored sheet cannot be read or written: what is there is whole, and nothing is left
-    beside it."""
-    house.put_programs()
-    one, words = {"v": bytes(V)}, ["--canonical", "--", "-fine", "-new"]
-    rewrite(house, "stored sheets, a full device", "-fine", one, 1, "", "day: cannot write\n", stdout=open("/dev/full", "wb"))
-    closed = ended(["sh", "-c", 'exec "$@" >&-', "sh", *house.command(words)], **house.how())
-    house.check("stored sheets, a closed output", closed, 1, "", "day: cannot write\n")
-    house.holds("stored sheets, a closed output", "-new", one)
-    process = house.begin(words, stdout=subprocess.PIPE, stderr=subprocess.PIPE)
-    process.stdout.close()
-    process.stdout = None
-    house.check("stored sheets, a reader that goes away", finished(process), 128 + signal.SIGPIPE)
-    house.holds("stored sheets, a reader that goes away", "-new", one)
-    copier = house.rt.parent / "cp"
-    house.write(copier, '#!/bin/sh\nprintf half >"$3"\necho cp: no space >&2\nexit 1\n')
-    rewrite(house, "stored sheets, a full disk", "-fine", {}, 1, "", "cp: no space\nday: -new/v: cannot be written\n")
-    for text, left in ("printf kept >", b"kept"), ("ln -s -- nowhere ", False):
-        house.write(copier, '#!/bin/sh\ncat "$2" >"$3"\n{}"${{3%/*}}/../v"\n'.format(text))
-        what, said = "a name that comes to be there, " + text, "day: -new/v: is there already\n"
-        rewrite(house, what, "-fine", {"v": left}, 1, "", said)
-    copier.unlink()
-    for text, status, said in [
-            ("printf front; kill -9 $$", 128 + signal.SIGKILL, "day: canonical was killed by signal 9\n"),
-            ("printf front; echo one >&2; printf two >&2", 1, "day: -fine/v: one\nday: -fine/v: two\n"),
-            ("printf front; exit 3", 3, "")]:
-        house.put_programs(canonical=text)
-        got = house.run(words)
-        lines = re.sub(b".*Killed.*\n", b"", got.stderr)  # the shell says it too
-        house.check("stored sheets, " + text, got._replace(stderr=lines), status, "", said)
-        house.holds("stored sheets, " + text, "-new", {})
-
-
-def try_stored_locked(house):
-    """Folders and files that may not be read or written to."""
-    house.put_programs()
-    locked, hidden = house.start / "locked", house.start / "-fine" / "x"
-    locked.mkdir(mode=0)
-    got = house.run(["--canonical", "locked", "-new"], **nobody())
-    house.check("a locked folder of stored sheets", got, 2, "", "day: locked: cannot be read\n")
-    got = house.run(["--canonical", "--", "-fine", "locked"], **nobody())
-    got = got._replace(stderr=got.stderr[got.stderr.rfind(b"day: "):])  # mktemp says it too
-    house.check("stored sheets into a locked folder", got, 1, "", "day: locked: cannot be written to\n")
-    locked.rmdir()
-    hidden.write_bytes(bytes(V))
-    hidden.chmod(0)
-    got = house.run(["--canonical", "--", "-fine", "-new"], **nobody())
-    house.check("a hidden stored sheet", got, 2, "", "day: -fine/x: cannot be read\n")
-    hidden.unlink()
-
-
 def try_places(house):
     """Where the script stands and is started; CDPATH leads to folders of the same names."""
     house.put_programs()
@@ -633,9 +474,6 @@ def try_builds(house):
     house.check("unpack is missing", house.run(["--product", "a sheet", "silent"]), 0, MERGED,
         built(["pack", "merge", "unpack"], 5))
     house.called("two sheets", ["check day pack merge", "check pack merge unpack"])
-    house.remove_programs()
-    rewrite(house, "the first build, stored sheets", "-fine", BOTH, 0, BOTH_LINES, built(["canonical"], 3))
-    house.called("stored sheets", ["check canonical"])
     try_lines_as_they_come(house, two)
     try_build_on_terminal(house)
     try_failed_builds(house)
@@ -704,11 +542,6 @@ def try_signals(house):
         process = house.begin(["v.bytes"], stdout=subprocess.PIPE, stderr=subprocess.PIPE)
         child = int(process.stderr.readline())
         end_while(house, process, number, "the program runs", child)
-        house.put_programs(canonical="echo $$ >&2; exec sleep 100")
-        process = house.begin(["--canonical", "--", "-fine", "-new"], stdout=subprocess.PIPE, stderr=subprocess.PIPE)
-        child = int(process.stderr.readline().rpartition(b" ")[2])
-        end_while(house, process, number, "a stored sheet is rewritten", child)
-        house.holds("signal {}".format(number), "-new", {})
         house.remove_programs()
         house.write(house.rt, "#!/bin/sh\nsleep 100 &\necho $!\necho 'rt: base proved (1 s)'\nwait\n")
         process = house.begin(["v.bytes"], stdout=subprocess.PIPE, stderr=subprocess.PIPE)
@@ -738,8 +571,8 @@ def try_script(root):
             house = House(pathlib.Path(folder), shell, root)
             house.temporary.chmod(0o777)
             for part in (
-                    try_cases, try_arguments_first, try_unreadable, try_inputs, try_texts, try_outputs, try_stored,
-                    try_stored_faults, try_stored_locked, try_places, try_builds, try_signals):
+                    try_cases, try_arguments_first, try_unreadable, try_inputs, try_texts, try_outputs, try_places, try_builds,
+                    try_signals):
                 part(house)
             count += house.count
     return count

@@ -1,14 +1,13 @@
--- Numbers as bytes: they are read back one after the other, by the rule in force from these bytes
--- only, and no bytes that the old rule reads so are fewer.
-use Prim.Native.Nat.{ℕ, suc, ◌+◌, ◌*◌, ◌<◌, ◌≤◌}
-use mathlib.Core.Path.{◌≡◌, refl, ◌∙◌, ap}
+-- Numbers as bytes: they are read back one after the other, and no bytes that read so are fewer.
+use Prim.Native.Nat.{ℕ, suc, ◌+◌, ◌<◌, ◌≤◌}
+use mathlib.Core.Path.{◌≡◌, refl}
 use mathlib.Core.List.{List, [], ◌∷◌, ◌++◌, append_assoc, append-nil}
-use lib.ListN.{length, drop, length-append}
+use lib.ListN.{length, length-append}
 use native.Mathlib.Omega.{arith}
 use Rattle.base.proofs.Every.{Every}
-use Rattle.varint.specs.Varint.{read_padded, read, bytes}
+use Rattle.varint.specs.Varint.{read, bytes}
 use Rattle.varint.proofs.Laws.{bytes_one}
-use Rattle.varint.proofs.Trips.{reads_back, padded-after, padded-inside, padded_near, read-alone}
+use Rattle.varint.proofs.Trips.{reads_back, read-after, read-inside}
 use Rattle.automaton_format.specs.Writing.{encoded}
 use Rattle.automaton_format.proofs.Follows.{Follows}
 
@@ -21,29 +20,17 @@ encoded_follows (v ∷ vs) p h = (
   rw (append_assoc p (bytes v) (encoded vs), length-append p (bytes v)) at (encoded_follows vs (p ++ bytes v) (λ i l. h (suc i) (omega arith))),
 )
 
--- by the old rule they take no fewer bytes, and each takes three at most
 module _ (s : List ℕ) where
-  pub follows_fewest : (vs : List ℕ) (at stop : ℕ) → Follows (read_padded s) vs at stop → Every (λ v. v < 128) vs → at + length (encoded vs) ≤ stop
+  pub follows_fewest : (vs : List ℕ) (at stop : ℕ) → Follows (read s) vs at stop → Every (λ v. v < 128) vs → at + length (encoded vs) ≤ stop
   unfolding encoded
   follows_fewest [] at stop f h = omega (arith, f)
   follows_fewest (v ∷ vs) at stop f h =
       rw (bytes_one v (h 0 (omega arith)))
-      (omega (arith, padded-after s at v f.0 f.1, follows_fewest vs f.0 stop f.2 (λ i l. h (suc i) (omega arith))))
+      (omega (arith, read-after s at v f.0 f.1, follows_fewest vs f.0 stop f.2 (λ i l. h (suc i) (omega arith))))
 
-  pub follows_inside : (vs : List ℕ) (at stop : ℕ) → at ≤ length s → Follows (read_padded s) vs at stop → stop ≤ length s
+  pub follows_inside : (vs : List ℕ) (at stop : ℕ) → at ≤ length s → Follows (read s) vs at stop → stop ≤ length s
   follows_inside [] at stop h f = omega (arith, f)
-  follows_inside (v ∷ vs) at stop h f = follows_inside vs f.0 stop (padded-inside s at v f.0 f.1) f.2
-
-  pub follows_near : (vs : List ℕ) (at stop : ℕ) → Follows (read_padded s) vs at stop → stop ≤ at + 3 * length vs
-  follows_near [] at stop f = omega (arith, f)
-  follows_near (v ∷ vs) at stop f = omega (arith, padded_near s at v f.0 f.1, follows_near vs f.0 stop f.2)
-
-  -- by the rule in force they are the very bytes
-  pub follows_exact : (vs : List ℕ) (at stop : ℕ) → Follows (read s) vs at stop → Every (λ v. v < 128) vs → drop at s ≡ vs ++ drop stop s
-  follows_exact [] at stop f h = ap (λ i. drop i s) f
-  follows_exact (v ∷ vs) at stop f h =
-      (read-alone s at v f.0 f.1 (h 0 (omega arith))).1 ∙
-      ap (λ l. v ∷ l) (follows_exact vs f.0 stop f.2 (λ i l. h (suc i) (omega arith)))
+  follows_inside (v ∷ vs) at stop h f = follows_inside vs f.0 stop (read-inside s at v f.0 f.1) f.2
 
 -- numbers below 128 are their own bytes
 pub encoded-small : (vs : List ℕ) → Every (λ v. v < 128) vs → encoded vs ≡ vs

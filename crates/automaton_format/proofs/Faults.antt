@@ -1,111 +1,137 @@
--- Where reading a sheet ends: a fault has a row of 1 to 10, or 26 by the rule in force, and a
--- place within the bytes; a record that was read comes with place 0.
-use Prim.Native.Nat.{ℕ, ◌≤◌}
+-- Where reading a sheet ends: a fault has a row of 1 to 10 and a place within the bytes; a record
+-- that was read comes with place 0.
+use Prim.Native.Nat.{ℕ, zero, suc, ◌+◌, ◌*◌, ◌-◌, ◌<◌, ◌≤◌}
 use mathlib.Core.Path.{◌≡◌, refl}
-use mathlib.Core.Bool.{Bool, true, false, cond}
-use mathlib.Core.Logic.{◌⊎◌, inl, inr}
-use mathlib.Core.List.{List}
+use mathlib.Core.Bool.{◌&&◌}
+use mathlib.Core.List.{List, [], ◌∷◌, ◌++◌}
 use native.Mathlib.Omega.{arith}
-use lib.ListN.{length}
-use lib.Dec.{eqb, ltb}
-use borrow.Author.Tests.{eqb-false}
-use Rattle.base.proofs.Bools.{by, either}
+use lib.ListN.{length, get_or}
+use lib.Dec.{eqb, leb, ltb}
+use borrow.Author.Tests.{ltb-true, eqb-false}
+use Rattle.base.specs.Rows.{first}
+use Rattle.base.specs.Pad.{pad}
+use Rattle.base.proofs.Bools.{by}
 use Rattle.varint.specs.declared.Number.{Number}
-use Rattle.varint.specs.Varint.{read, read_by}
-use Rattle.varint.proofs.Shapes.{read-padded-cases}
-use Rattle.varint.proofs.Strict.{read-cases}
-use Rattle.varint.proofs.Trips.{read-inside, padded-inside}
-use Rattle.automaton.specs.declared.Automaton.{Automaton}
+use Rattle.varint.specs.Varint.{groups, read}
 use Rattle.automaton.specs.Automaton.{max_class, blank}
 use Rattle.automaton_format.specs.declared.Parsed.{Parsed}
 use Rattle.automaton_format.specs.Claims.{RefusedInside, RefusedBlank}
-use Rattle.automaton_format.specs.Reading.{checked, parsed, refused, after_number, automaton_from, parse_by, parse}
-use Rattle.automaton_format.proofs.Walk.{Checks, walk}
+use Rattle.automaton_format.specs.Reading.{checked, between, tally, item_row, class_row, Numbers, numbers, next_states, parsed, refused, after_number, after_numbers, tables, automaton_from, parse}
 
--- the rows that reading knows
-abbrev pub Known : Bool → ℕ → Type 0
-Known strict row = (row ≤ 10) ⊎ ((strict ≡ true) × (row ≡ 26))
+-- a number of seven-bit groups
+groups-inside : (s : List ℕ) (start k unit low at : ℕ) → start ≤ length s
+    → ((groups s start k unit low at).refusal ≤ 10) × ((groups s start k unit low at).place ≤ length s)
+unfolding groups
+groups-inside s start zero unit low at h = (omega arith, h)
+groups-inside s start (suc k) unit low at h =
+    by (ltb at (length s))
+    (λ e. by (ltb (get_or s at 0) 128)
+    (λ f. rw (e, f) (omega arith, omega (arith, ltb-true at (length s) e)))
+    (λ f. rw (e, f) (groups-inside s start k (unit * 128) (low + (get_or s at 0 - 128) * unit) (at + 1) h)))
+    (λ e. rw e (omega arith, h))
 
-pub known_most : {strict : Bool} {row : ℕ} → Known strict row → row ≤ 26
-known_most k = either k (λ l. omega arith) (λ (_, e). omega arith)
+-- the rows
+between-row : (low limit row v : ℕ) → row ≤ 10 → between low limit row v ≤ 10
+unfolding between
+between-row low limit row v h = by (leb low v && ltb v limit) (λ e. rw e (omega arith)) (λ e. rw e h)
 
--- a number, by either rule
-pub read_known : (strict : Bool) (s : List ℕ) (at : ℕ) → at ≤ length s
-    → Known strict (read_by strict s at).refusal × ((read_by strict s at).place ≤ length s)
-unfolding read_by
-read_known true s at h =
-    read-cases s at
-    (λ row r e. rw e (either r (λ o. inl (omega arith)) (λ o. either o (λ t. inl (omega arith)) (λ t. inr (refl, t))), h))
-    (λ v next e. rw e (inl (omega arith), read-inside s at v next e))
-read_known false s at h =
-    read-padded-cases s at
-    (λ row r e. rw e (inl (either r (λ o. omega arith) (λ o. omega arith)), h))
-    (λ v next _ e. rw e (inl (omega arith), padded-inside s at v next e))
+class-row : (before : List ℕ) (v : ℕ) → class_row max_class before v ≤ 10
+unfolding item_row first
+class-row before v =
+    by (ltb v (max_class + 1))
+    (λ e. by (ltb 8 (tally (before ++ v ∷ []))) (λ f. rw (e, f) (omega arith)) (λ f. rw (e, f) (omega arith)))
+    (λ e. rw e (omega arith))
 
 -- what a sheet's reading gives
-pub record Sound (strict : Bool) (end : ℕ) (p : Parsed) : Type 0 where
-  pub row : Known strict p.refusal
+pub record Sound (end : ℕ) (p : Parsed) : Type 0 where
+  pub row : p.refusal ≤ 10
   pub within : p.place ≤ end
   pub whole : p.refusal ≡ 0 → p ≡ parsed p.automaton
   pub zeros : (p.refusal ≡ 0 → ⊥) → p.automaton ≡ blank
 
--- a sheet by a reader that stays inside
-module _ (strict : Bool) (from : ℕ → Number) (end : ℕ) where
+-- numbers by a reader that stays inside
+module _ (from : ℕ → Number) (end : ℕ) where
   abbrev Inside : ℕ → ℕ → Type 0
-  Inside row place = Known strict row × (place ≤ end)
-
-  faulty : (row at : ℕ) → (row ≡ 0 → ⊥) → Inside row at → Sound strict end (refused row at)
-  faulty row at z i = record { row = i.0; within = i.1; whole = λ e. absurd (z e); zeros = λ _. refl }
-
-  abbrev SoundFrom : ℕ → Parsed → Parsed → Type 0
-  SoundFrom at p _ = at ≤ end → Sound strict end p
-
-  sound-last : (at : ℕ) (a : Automaton) → at ≤ end → Sound strict end (cond (ltb at end) (refused 10 at) (parsed a))
-  sound-last at a h =
-      by (ltb at end)
-      (λ e. rw e (faulty 10 at (λ z. omega arith) (inl (omega arith), h)))
-      (λ e. rw e (record { row = inl (omega arith); within = omega arith; whole = λ _. refl; zeros = λ z. absurd (z refl) }))
+  Inside row place = (row ≤ 10) × (place ≤ end)
 
   module _ (reads : (at : ℕ) → at ≤ end → Inside (from at).refusal (from at).place) where
-    checked-inside : (check : ℕ → ℕ) → Checks check → (at : ℕ) → at ≤ end
+    checked-inside : (check : ℕ → ℕ) → ((v : ℕ) → check v ≤ 10) → (at : ℕ) → at ≤ end
         → Inside (checked check at (from at)).refusal (checked check at (from at)).place
     unfolding checked
     checked-inside check c at h =
         by (eqb (from at).refusal 0)
-        (λ e. by (eqb (check (from at).value) 0)
-        (λ f. rw (e, f) (reads at h))
-        (λ f. rw (e, f) (inl (either (c (from at).value) (λ z. omega arith) (λ (_, l). l)), h)))
+        (λ e. by (eqb (check (from at).value) 0) (λ f. rw (e, f) (reads at h)) (λ f. rw (e, f) (c (from at).value, h)))
         (λ e. rw e (reads at h))
 
-    sound-step : (check : ℕ → ℕ) → Checks check → (at : ℕ) (go go' : ℕ → ℕ → Parsed) → ((v next : ℕ) → SoundFrom next (go v next) (go' v next))
-        → at ≤ end → Sound strict end (after_number (checked check at (from at)) go)
+    numbers-inside : (check : List ℕ → ℕ → ℕ) → ((before : List ℕ) (v : ℕ) → check before v ≤ 10) → (k : ℕ) (before : List ℕ) (at : ℕ) → at ≤ end
+        → Inside (numbers from check k before at).refusal (numbers from check k before at).place
+    unfolding numbers
+    numbers-inside check c zero before at h = (omega arith, h)
+    numbers-inside check c (suc k) before at h =
+        let n = checked (check before) at (from at) in
+        let i = checked-inside (check before) (c before) at h in
+        by (eqb n.refusal 0) (λ e. rw e (numbers-inside check c k (before ++ n.value ∷ []) n.place i.1)) (λ e. rw e i)
+
+    next-states-inside : (check : ℕ → ℕ) → ((v : ℕ) → check v ≤ 10) → (m k : ℕ) (before : List ℕ) (at : ℕ) → at ≤ end
+        → Inside (next_states from check m k before at).refusal (next_states from check m k before at).place
+    unfolding next_states
+    next-states-inside check c m zero before at h = (omega arith, h)
+    next-states-inside check c m (suc k) before at h =
+        let block = numbers from (λ _. check) m [] at in
+        let i = numbers-inside (λ _. check) (λ _. c) m [] at h in
+        by (eqb block.refusal 0) (λ e. rw e (next-states-inside check c m k (before ++ pad 16 block.values) block.place i.1)) (λ e. rw e i)
+
+    -- and on after them
+    abbrev Fine : Parsed → Type 0
+    Fine p = Sound end p
+
+    faulty : (row at : ℕ) → (row ≡ 0 → ⊥) → Inside row at → Fine (refused row at)
+    faulty row at z i = record { row = i.0; within = i.1; whole = λ e. absurd (z e); zeros = λ _. refl }
+
+    after-number-sound : (n : Number) (go : ℕ → ℕ → Parsed) → Inside n.refusal n.place → ((v at : ℕ) → at ≤ end → Fine (go v at)) → Fine (after_number n go)
     unfolding after_number
-    sound-step check c at go _ on h =
-        let n = checked check at (from at) in
-        let i = checked-inside check c at h in
-        by (eqb n.refusal 0) (λ e. rw e (on n.value n.place i.1)) (λ e. rw e (faulty n.refusal n.place (eqb-false _ 0 e) i))
+    after-number-sound n go i f =
+        by (eqb n.refusal 0) (λ e. rw e (f n.value n.place i.1)) (λ e. rw e (faulty n.refusal n.place (eqb-false _ 0 e) i))
 
-    from_sound : Sound strict end (automaton_from from max_class end)
-    from_sound = walk from from end end SoundFrom sound-step sound-last (omega arith)
+    after-numbers-sound : (ns : Numbers) (go : List ℕ → ℕ → Parsed) → Inside ns.refusal ns.place → ((vs : List ℕ) (at : ℕ) → at ≤ end → Fine (go vs at))
+        → Fine (after_numbers ns go)
+    unfolding after_numbers
+    after-numbers-sound ns go i f =
+        by (eqb ns.refusal 0) (λ e. rw e (f ns.values ns.place i.1)) (λ e. rw e (faulty ns.refusal ns.place (eqb-false _ 0 e) i))
 
-pub parsed-sound : (strict : Bool) (s : List ℕ) → Sound strict (length s) (parse_by strict s)
-unfolding parse_by
-parsed-sound strict s = from_sound strict (read_by strict s) (length s) (read_known strict s)
+    header : (low limit row : ℕ) → row ≤ 10 → (at : ℕ) → at ≤ end → (go : ℕ → ℕ → Parsed) → ((v next : ℕ) → next ≤ end → Fine (go v next))
+        → Fine (after_number (checked (between low limit row) at (from at)) go)
+    header low limit row r at h go f = after-number-sound _ go (checked-inside (between low limit row) (λ v. between-row low limit row v r) at h) f
 
--- .. by the rule in force
-pub read-ends : (s : List ℕ) (at : ℕ) → at ≤ length s → ((read s at).refusal ≤ 26) × ((read s at).place ≤ length s)
-unfolding read_by
-read-ends s at h = let k = read_known true s at h in (known_most k.0, k.1)
+    tables-sound : (n m b q at : ℕ) → at ≤ end → Fine (tables from max_class end n m b q at)
+    unfolding tables
+    tables-sound n m b q at h =
+        after-numbers-sound _ _ (numbers-inside (class_row max_class) class-row m [] at h) λ classes at1 h1.
+        after-numbers-sound _ _ (numbers-inside (λ _. between 0 2 7) (λ _ v. between-row 0 2 7 v (omega arith)) n [] at1 h1) λ flags at2 h2.
+        after-numbers-sound _ _ (next-states-inside (between 0 n 9) (λ v. between-row 0 n 9 v (omega arith)) m n [] at2 h2) λ next at3 h3.
+        by (ltb at3 end)
+        (λ e. rw e (faulty 10 at3 (λ z. omega arith) (omega arith, h3)))
+        (λ e. rw e (record { row = omega arith; within = omega arith; whole = λ _. refl; zeros = λ z. absurd (z refl) }))
 
-pub parse-sound : (s : List ℕ) → Sound true (length s) (parse s)
+    from_sound : Fine (automaton_from from max_class end)
+    unfolding automaton_from
+    from_sound =
+        header 1 33 3 (omega arith) 0 (omega arith) _ λ n at1 h1.
+        header 1 17 4 (omega arith) at1 h1 _ λ m at2 h2.
+        header 1 7 5 (omega arith) at2 h2 _ λ b at3 h3.
+        header 0 n 6 (omega arith) at3 h3 _ λ q at4 h4.
+        tables-sound n m b q at4 h4
+
+pub read-inside : (s : List ℕ) (at : ℕ) → at ≤ length s → ((read s at).refusal ≤ 10) × ((read s at).place ≤ length s)
+unfolding read
+read-inside s at h = groups-inside s at 3 1 0 at h
+
+pub parse-sound : (s : List ℕ) → Sound (length s) (parse s)
 unfolding parse
-parse-sound s = parsed-sound true s
-
-pub parse_most : (s : List ℕ) → (parse s).refusal ≤ 26
-parse_most s = known_most (parse-sound s).row
+parse-sound s = from_sound (read s) (length s) (read-inside s)
 
 pub refused-inside : RefusedInside
-refused-inside strict s = ((parsed-sound strict s).row, (parsed-sound strict s).within)
+refused-inside s = ((parse-sound s).row, (parse-sound s).within)
 
 pub refused-blank : RefusedBlank
-refused-blank strict s = (parsed-sound strict s).zeros
+refused-blank s = (parse-sound s).zeros

@@ -11,11 +11,10 @@ use native.Mathlib.Omega.{arith}
 use borrow.Author.Tests.{eqb-true, eqb-false}
 use Rattle.base.proofs.Bools.{by}
 use Rattle.varint.specs.declared.Number.{Number}
-use Rattle.varint.specs.Varint.{value, fault}
+use Rattle.varint.specs.Varint.{value}
 use Rattle.automaton.specs.declared.Automaton.{Automaton}
-use Rattle.automaton_format.specs.Reading.{Parsed, Numbers, checked, numbers, after_number, after_numbers, parsed, refused}
-use Rattle.automaton_format.proofs.Items.{checked-unread, checked-fits, checked_faults, passed}
-use Rattle.automaton_format.proofs.Sections.{after-number-refused}
+use Rattle.automaton_format.specs.Reading.{Parsed, Numbers, checked, numbers, after_number, after_numbers, parsed}
+use Rattle.automaton_format.proofs.Items.{checked-fits, passed}
 
 -- numbers that were read without a fault
 abbrev pub done : List ℕ → ℕ → Numbers
@@ -54,14 +53,6 @@ module _ (check : ℕ → ℕ) (at : ℕ) (n : Number) (go : ℕ → ℕ → Par
   pub after-number-done : (v next : ℕ) → n ≡ value v next → check v ≡ 0 → after_number (checked check at n) go ≡ go v next
   unfolding after_number
   after-number-done v next e c = rw (checked-done check at n v next e c)
-
-  -- .. refused as it is read, or by its check
-  pub after-number-unread : (n.refusal ≡ 0 → ⊥) → after_number (checked check at n) go ≡ refused n.refusal n.place
-  after-number-unread z = ap (λ m. after_number m go) (checked-unread check at n z) ∙ sym (after-number-refused n go z)
-
-  pub after-number-outside : (v next : ℕ) → n ≡ value v next → (check v ≡ 0 → ⊥) → after_number (checked check at n) go ≡ refused (check v) at
-  after-number-outside v next e z =
-      rw e (ap (λ m. after_number m go) (checked_faults check at (value v next) refl z) ∙ sym (after-number-refused (fault (check v) at) go z))
 
   pub after-number-read : {C : Type 0} (a : Automaton) → after_number (checked check at n) go ≡ parsed a
       → ((v next : ℕ) → n ≡ value v next → check v ≡ 0 → go v next ≡ parsed a → C) → C

@@ -13,7 +13,7 @@ use Rattle.base.specs.Rows.{first}
 use Rattle.base.proofs.Bools.{by}
 use Rattle.base.proofs.Stores.{sets_more}
 use Rattle.varint.specs.declared.Number.{Number}
-use Rattle.varint.specs.Varint.{fault}
+use Rattle.varint.specs.Varint.{fault, read}
 use Rattle.automaton.specs.Arrays.{controllable_in}
 use Rattle.automaton_format.specs.Reading.{checked, between, tally, item_row, Numbers, numbers}
 use Rattle.automaton_format.specs.Outcomes.{outcome, one_more}
@@ -132,7 +132,7 @@ module _ (from : ℕ → Number) (check : List ℕ → ℕ → ℕ) (k : ℕ) (b
   number-passes n e z = rw (e, eq-eqb n.refusal 0 z)
 
 -- the loop over a list of numbers
-pub record Filling (reads : ℕ → Number) (out₀ : List ℕ) (at from count limit row most : ℕ) (out : List ℕ) (place ones i : ℕ) : Type 0 where
+pub record Filling (s out₀ : List ℕ) (at from count limit row most : ℕ) (out : List ℕ) (place ones i : ℕ) : Type 0 where
   pub before : List ℕ
   pub long : length before ≡ i
   pub within : i ≤ count
@@ -140,11 +140,11 @@ pub record Filling (reads : ℕ → Number) (out₀ : List ℕ) (at from count l
   pub few : ones ≤ i
   pub stored : out ≡ sets out₀ from before
   pub kept : length out ≡ length out₀
-  pub whole : numbers reads (item_row limit row most) count [] at ≡ numbers reads (item_row limit row most) (count - i) before place
+  pub whole : numbers (read s) (item_row limit row most) count [] at ≡ numbers (read s) (item_row limit row most) (count - i) before place
 
-pub filling_begins : (reads : ℕ → Number) (out : List ℕ) (at from count limit row most : ℕ) → Filling reads out at from count limit row most out at 0 0
+pub filling_begins : (s out : List ℕ) (at from count limit row most : ℕ) → Filling s out at from count limit row most out at 0 0
 unfolding controllable_in count
-filling_begins reads out at from count limit row most =
+filling_begins s out at from count limit row most =
     let e : count ≡ count - 0 = omega arith in
     record {
       before = [];
@@ -154,44 +154,44 @@ filling_begins reads out at from count limit row most =
       few = omega arith;
       stored = refl;
       kept = refl;
-      whole = ap (λ k. numbers reads (item_row limit row most) k [] at) e;
+      whole = ap (λ k. numbers (read s) (item_row limit row most) k [] at) e;
     }
 
-module _ {reads : ℕ → Number} {out₀ : List ℕ} {at from count limit row most : ℕ} {out : List ℕ} {place ones i : ℕ}
-    (g : Filling reads out₀ at from count limit row most out place ones i) (pos : 0 < row) where
+module _ {s out₀ : List ℕ} {at from count limit row most : ℕ} {out : List ℕ} {place ones i : ℕ}
+    (g : Filling s out₀ at from count limit row most out place ones i) (pos : 0 < row) where
   all : Numbers
-  all = numbers reads (item_row limit row most) count [] at
+  all = numbers (read s) (item_row limit row most) count [] at
 
-  now_at : i < count → all ≡ numbers reads (item_row limit row most) (suc (count - suc i)) g.before place
+  now_at : i < count → all ≡ numbers (read s) (item_row limit row most) (suc (count - suc i)) g.before place
   unfolding all
-  now_at h = let e : count - i ≡ suc (count - suc i) = omega arith in g.whole ∙ ap (λ k. numbers reads (item_row limit row most) k g.before place) e
+  now_at h = let e : count - i ≡ suc (count - suc i) = omega arith in g.whole ∙ ap (λ k. numbers (read s) (item_row limit row most) k g.before place) e
 
   ends : (ns : Numbers) → all ≡ ns → ns.values ≡ g.before → (outcome ns ≡ outcome all) × (out ≡ sets out₀ from all.values)
   unfolding all
   ends ns e v = (ap outcome (sym e), g.stored ∙ ap (λ l. sets out₀ from l) (sym (ap (λ (m : Numbers). m.values) e ∙ v)))
 
-  module _ (n : Number) (e : n ≡ checked (between 0 limit row) place (reads place)) (h : i < count) where
+  module _ (n : Number) (e : n ≡ checked (between 0 limit row) place (read s place)) (h : i < count) where
     pub filling_refused : (n.refusal ≡ 0 → ⊥)
-        → (fault n.refusal n.place ≡ outcome (numbers reads (item_row limit row most) count [] at))
-        × (out ≡ sets out₀ from (numbers reads (item_row limit row most) count [] at).values)
+        → (fault n.refusal n.place ≡ outcome (numbers (read s) (item_row limit row most) count [] at))
+        × (out ≡ sets out₀ from (numbers (read s) (item_row limit row most) count [] at).values)
     unfolding outcome all
     filling_refused z =
-        ends _ (now_at h ∙ number-refused reads (item_row limit row most) (count - suc i) g.before place n (item_refused limit row most g.before place (reads place) n pos e z) z) refl
+        ends _ (now_at h ∙ number-refused (read s) (item_row limit row most) (count - suc i) g.before place n (item_refused limit row most g.before place (read s place) n pos e z) z) refl
 
     module _ (z : n.refusal ≡ 0) where
       pub filling_many : most < one_more ones n.value
-          → (fault 8 place ≡ outcome (numbers reads (item_row limit row most) count [] at))
-          × (out ≡ sets out₀ from (numbers reads (item_row limit row most) count [] at).values)
+          → (fault 8 place ≡ outcome (numbers (read s) (item_row limit row most) count [] at))
+          × (out ≡ sets out₀ from (numbers (read s) (item_row limit row most) count [] at).values)
       unfolding outcome all
       filling_many l =
-          ends _ (now_at h ∙ number-refused reads (item_row limit row most) (count - suc i) g.before place (fault 8 place)
-          (item_many limit row most g.before place (reads place) n pos e z (rw g.tallied at l)) (λ x. omega arith)) refl
+          ends _ (now_at h ∙ number-refused (read s) (item_row limit row most) (count - suc i) g.before place (fault 8 place)
+          (item_many limit row most g.before place (read s place) n pos e z (rw g.tallied at l)) (λ x. omega arith)) refl
 
       pub filling_goes_on : one_more ones n.value ≤ most
-          → Filling reads out₀ at from count limit row most (set out (from + i) n.value) n.place (one_more ones n.value) (i + 1)
+          → Filling s out₀ at from count limit row most (set out (from + i) n.value) n.place (one_more ones n.value) (i + 1)
       unfolding one_more all
       filling_goes_on l =
-          let p = item_passes limit row most g.before place (reads place) n pos e z (rw g.tallied at l) in
+          let p = item_passes limit row most g.before place (read s place) n pos e z (rw g.tallied at l) in
           let t : one_more ones n.value ≡ tally (g.before ++ n.value ∷ []) = ap (λ x. one_more x n.value) g.tallied ∙ sym (tally-more g.before n.value) in
           let m : length (g.before ++ n.value ∷ []) ≡ i + 1 = simp length-append (omega (arith, g.long)) in
           let st : set out (from + i) n.value ≡ sets out₀ from (g.before ++ n.value ∷ []) = ap (λ x. set x (from + i) n.value) g.stored ∙ sets_more out₀ from i n.value g.before g.long in
@@ -203,14 +203,14 @@ module _ {reads : ℕ → Number} {out₀ : List ℕ} {at from count limit row m
             few = omega (arith, t, tally-max (g.before ++ n.value ∷ []));
             stored = st;
             kept = ap length st ∙ length-sets out₀ from (g.before ++ n.value ∷ []);
-            whole = rw (add-one i) (now_at h ∙ number-passes reads (item_row limit row most) (count - suc i) g.before place n p z);
+            whole = rw (add-one i) (now_at h ∙ number-passes (read s) (item_row limit row most) (count - suc i) g.before place n p z);
           }
 
   pub filling_done : count ≤ i
-      → (record { refusal = 0; value = 0; place = place } ≡ outcome (numbers reads (item_row limit row most) count [] at))
-      × (out ≡ sets out₀ from (numbers reads (item_row limit row most) count [] at).values)
+      → (record { refusal = 0; value = 0; place = place } ≡ outcome (numbers (read s) (item_row limit row most) count [] at))
+      × (out ≡ sets out₀ from (numbers (read s) (item_row limit row most) count [] at).values)
   unfolding outcome numbers all
-  filling_done h = let e : count - i ≡ 0 = omega (arith, g.within) in ends _ (g.whole ∙ ap (λ k. numbers reads (item_row limit row most) k g.before place) e) refl
+  filling_done h = let e : count - i ≡ 0 = omega (arith, g.within) in ends _ (g.whole ∙ ap (λ k. numbers (read s) (item_row limit row most) k g.before place) e) refl
 
 -- the four ways out of reading a number in its range
 module _ (low limit row at : ℕ) (r n : Number) (pos : 0 < row) (e : n ≡ r) where

@@ -11,8 +11,5 @@ pub mod Encoded
 pub mod Parsing
 pub mod Trips
 pub mod Outcomes
-pub mod Walk
 pub mod Faults
 pub mod Openings
-pub mod Older
-pub mod InTurn

@@ -14,13 +14,13 @@ use Rattle.automaton.specs.Automaton.{valid}
 use Rattle.automaton_format.specs.declared.Parsed.{Parsed}
 use Rattle.automaton_format.specs.Reading.{refused, parse}
 use Rattle.automaton_format.specs.Opening.{automaton_at, opening}
-use Rattle.automaton_format.proofs.Trips.{parse-valid}
-use Rattle.automaton_format.proofs.Faults.{read-ends, parse-sound, parse_most}
+use Rattle.automaton_format.proofs.Trips.{read-is-valid}
+use Rattle.automaton_format.proofs.Faults.{read-inside, parse-sound}
 
 -- the number L
 module _ (s : List ℕ) (l : Number) (el : l ≡ read s 0) where
   pub length-inside : l.place ≤ length s
-  length-inside = rw el (read-ends s 0 (omega arith)).1
+  length-inside = rw el (read-inside s 0 (omega arith)).1
 
   pub opening-unread : (l.refusal ≡ 0 → ⊥) → refused l.refusal l.place ≡ opening s
   unfolding opening
@@ -62,13 +62,13 @@ module _ (s : List ℕ) (l : Number) (el : l ≡ read s 0) where
           let within : p.place ≤ length sheet = rw ep (parse-sound sheet).within in
           omega (arith, long, within, whole)
 
--- a fault's row is one of the first ten or 26; its place, and that after a sheet, is within the
--- input or at its end
-pub opening-inside : (s : List ℕ) → ((opening s).refusal ≤ 26) × ((opening s).place ≤ length s)
+-- a fault's row is one of the first ten; its place, and that after a sheet, is within the input or
+-- at its end
+pub opening-inside : (s : List ℕ) → ((opening s).refusal ≤ 10) × ((opening s).place ≤ length s)
 unfolding opening automaton_at
 opening-inside s =
     let l = read s 0 in
-    let i = read-ends s 0 (omega arith) in
+    let i = read-inside s 0 (omega arith) in
     by (eqb l.refusal 0)
     (λ e. by (ltb (length s) (l.place + l.value))
     (λ f. rw (e, f) (omega arith, i.1))
@@ -80,7 +80,7 @@ opening-inside s =
     let within : l.place + l.value ≤ length s = ltb-false (length s) (l.place + l.value) f in
     by (eqb p.refusal 0)
     (λ g. rw (e, f, g) (omega arith, within))
-    (λ g. rw (e, f, g) (parse_most sheet, omega (arith, j.within)))))
+    (λ g. rw (e, f, g) (j.row, omega (arith, j.within)))))
     (λ e. rw e i)
 
 -- a record that was read passes row 11
@@ -95,6 +95,6 @@ opening-valid s z =
     let sheet = take l.value (drop l.place s) in
     let p = parse sheet in
     by (eqb p.refusal 0)
-    (λ g. rw (e, f, g) (parse-valid sheet p.automaton ((parse-sound sheet).whole (eqb-true p.refusal 0 g))))
+    (λ g. rw (e, f, g) (read-is-valid sheet p.automaton ((parse-sound sheet).whole (eqb-true p.refusal 0 g))))
     (λ g. absurd (eqb-false p.refusal 0 g (rw (e, f, g) at z)))))
     (λ e. absurd (eqb-false l.refusal 0 e (rw e at z)))

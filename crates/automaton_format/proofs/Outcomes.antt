@@ -1,4 +1,4 @@
--- The ways out of writing, and that 564 bytes are room enough.
+-- The ways out of writing.
 use Prim.Native.Nat.{ℕ, ◌+◌, ◌*◌, ◌<◌, ◌≤◌}
 use mathlib.Core.Path.{◌≡◌, refl, sym, ◌∙◌, ap}
 use mathlib.Core.Bool.{true, false}
@@ -12,26 +12,11 @@ use borrow.Author.Tests.{lt-ltb, le-ltb}
 use Rattle.base.specs.Rows.{first}
 use Rattle.automaton.specs.declared.Automaton.{Automaton}
 use Rattle.automaton.specs.Automaton.{valid}
-use Rattle.automaton_format.specs.declared.Written.{Written}
 use Rattle.automaton_format.specs.Writing.{record_numbers, record_bytes, write_refusal, write_answer, write_buffer}
 use Rattle.automaton.proofs.Facts.{valid_facts}
 use Rattle.automaton_format.proofs.Encoded.{encoded-small}
 use Rattle.automaton_format.proofs.Trips.{numbers-small}
-use Rattle.automaton_format.proofs.Storing.{numbers-length, states-small}
-
--- the bytes of a record that passes row 11
-module _ (a : Automaton) (h : valid a ≡ true) where
-  pub record-bytes : record_bytes a ≡ record_numbers a
-  unfolding record_bytes
-  record-bytes = encoded-small (record_numbers a) (numbers-small a (valid_facts a h))
-
-  bytes-length : length (record_bytes a) ≡ 4 + a.symbols + a.states + a.states * a.symbols
-  bytes-length = ap length record-bytes ∙ numbers-length a (valid_facts a h)
-
-  pub record_fits : length (record_bytes a) ≤ 564
-  record_fits =
-      let f = valid_facts a h in
-      omega (arith, bytes-length, f.symbols-high, f.states-high, states-small a.states a.symbols f.states-high f.symbols-high)
+use Rattle.automaton_format.proofs.Storing.{numbers-length}
 
 module _ (a : Automaton) (out : List ℕ) where
   refuses : (n : ℕ) → write_refusal a out ≡ n → eqb n 0 ≡ false → (record { refusal = n; length = 0 } ≡ write_answer a out) × (out ≡ write_buffer a out)
@@ -43,37 +28,32 @@ module _ (a : Automaton) (out : List ℕ) where
   write_invalid h = refuses 11 (rw h) refl
 
   module _ (h : valid a ≡ true) where
+    pub record-bytes : record_bytes a ≡ record_numbers a
+    unfolding record_bytes
+    record-bytes = encoded-small (record_numbers a) (numbers-small a (valid_facts a h))
+
+    total : ℕ
+    total = 4 + a.symbols + a.states + a.states * a.symbols
+
+    bytes-length : length (record_bytes a) ≡ total
+    unfolding total
+    bytes-length = ap length record-bytes ∙ numbers-length a (valid_facts a h)
+
     pub write_short : length out < 4 + a.symbols + a.states + a.states * a.symbols
         → (record { refusal = 16; length = 0 } ≡ write_answer a out) × (out ≡ write_buffer a out)
-    unfolding write_refusal first
+    unfolding write_refusal first total
     write_short l =
-        let k : length out < length (record_bytes a) = rw (bytes-length a h) l in
+        let k : length out < length (record_bytes a) = rw bytes-length l in
         refuses 16 (rw (h, lt-ltb (length out) (length (record_bytes a)) k)) refl
-
-    -- there is room: stored are the bytes, and their number is answered
-    bytes-stored : length (record_bytes a) ≤ length out
-        → (write_answer a out ≡ record { refusal = 0; length = length (record_bytes a) }) × (write_buffer a out ≡ sets out 0 (record_bytes a))
-    unfolding write_refusal first write_answer write_buffer
-    bytes-stored k =
-        let e : write_refusal a out ≡ 0 = rw (h, le-ltb (length out) (length (record_bytes a)) k) in
-        let j : 0 + length (record_bytes a) ≤ length out = omega arith in (
-          rw e,
-          sym (sets-eq (record_bytes a) out 0 j ∙ rw (e, zero-add (length (record_bytes a)))),
-        )
 
     pub write_fits : 4 + a.symbols + a.states + a.states * a.symbols ≤ length out
         → (record { refusal = 0; length = 4 + a.symbols + a.states + a.states * a.symbols } ≡ write_answer a out)
         × (sets out 0 (record_numbers a) ≡ write_buffer a out)
+    unfolding write_refusal first write_answer write_buffer total
     write_fits l =
-        let (e, f) = bytes-stored (rw (bytes-length a h) l) in (
-          ap (λ n. record { refusal = 0; length = n }) (sym (bytes-length a h)) ∙ sym e,
-          ap (λ x. sets out 0 x) (sym (record-bytes a h)) ∙ sym f,
+        let k : length (record_bytes a) ≤ length out = rw bytes-length l in
+        let e : write_refusal a out ≡ 0 = rw (h, le-ltb (length out) (length (record_bytes a)) k) in
+        let j : 0 + length (record_bytes a) ≤ length out = omega arith in (
+          rw (e, bytes-length),
+          ap (λ x. sets out 0 x) (sym record-bytes) ∙ sets-eq (record_bytes a) out 0 j ∙ rw (e, zero-add (length (record_bytes a))),
         )
-
-    -- .. as there is in a buffer of 564 bytes
-    pub record_stored : length out ≡ 564 → (w : Written) → w ≡ write_answer a out → (out' : List ℕ) → out' ≡ write_buffer a out
-        → (out' ≡ sets out 0 (record_bytes a)) × (w.length ≡ length (record_bytes a)) × (w.length ≤ length out)
-    record_stored k w ew out' eo =
-        let fits = record_fits a h in
-        let (e, f) = bytes-stored (omega arith) in
-        let l : w.length ≡ length (record_bytes a) = ap (λ x. x.length) (ew ∙ e) in (eo ∙ f, l, omega arith)

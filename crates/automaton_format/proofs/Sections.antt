@@ -13,7 +13,7 @@ use Rattle.base.specs.Pad.{pad}
 use Rattle.base.proofs.Bools.{by}
 use Rattle.base.proofs.Padding.{pad-length, pad-sets, pad-more}
 use Rattle.varint.specs.declared.Number.{Number}
-use Rattle.varint.specs.Varint.{fault}
+use Rattle.varint.specs.Varint.{fault, read}
 use Rattle.automaton_format.specs.Reading.{checked, between, tally, item_row, Numbers, numbers, next_states, after_numbers, after_number, refused, Parsed}
 use Rattle.automaton_format.specs.Outcomes.{outcome}
 use Rattle.automaton_format.proofs.Tally.{tally-max}
@@ -83,7 +83,7 @@ module _ (n : Number) (go : ℕ → ℕ → Parsed) where
   after-number-passes z = rw (eq-eqb n.refusal 0 z)
 
 -- the loop over the states
-pub record StatesFilled (reads : ℕ → Number) (n m at : ℕ) (next : List ℕ) (place q : ℕ) : Type 0 where
+pub record StatesFilled (s : List ℕ) (n m at : ℕ) (next : List ℕ) (place q : ℕ) : Type 0 where
   pub narrow : m ≤ 16
   pub few : n ≤ 32
   pub before : List ℕ
@@ -91,11 +91,11 @@ pub record StatesFilled (reads : ℕ → Number) (n m at : ℕ) (next : List ℕ
   pub within : q ≤ n
   pub stored : next ≡ pad 512 before
   pub size : length next ≡ 512
-  pub whole : next_states reads (between 0 n 9) m n [] at ≡ next_states reads (between 0 n 9) m (n - q) before place
+  pub whole : next_states (read s) (between 0 n 9) m n [] at ≡ next_states (read s) (between 0 n 9) m (n - q) before place
 
-pub filled_begins : (reads : ℕ → Number) (n m at : ℕ) (next : List ℕ) → m ≤ 16 → n ≤ 32 → next ≡ replicate 512 0 → StatesFilled reads n m at next at 0
+pub filled_begins : (s : List ℕ) (n m at : ℕ) (next : List ℕ) → m ≤ 16 → n ≤ 32 → next ≡ replicate 512 0 → StatesFilled s n m at next at 0
 unfolding pad
-filled_begins reads n m at next narrow few zeros =
+filled_begins s n m at next narrow few zeros =
     let e : n ≡ n - 0 = omega arith in
     record {
       narrow = narrow;
@@ -105,24 +105,24 @@ filled_begins reads n m at next narrow few zeros =
       long = refl;
       within = omega arith;
       stored = zeros;
-      whole = ap (λ k. next_states reads (between 0 n 9) m k [] at) e;
+      whole = ap (λ k. next_states (read s) (between 0 n 9) m k [] at) e;
     }
 
-module _ {reads : ℕ → Number} {n m at : ℕ} {next : List ℕ} {place q : ℕ} (g : StatesFilled reads n m at next place q) where
+module _ {s : List ℕ} {n m at : ℕ} {next : List ℕ} {place q : ℕ} (g : StatesFilled s n m at next place q) where
   all : Numbers
-  all = next_states reads (between 0 n 9) m n [] at
+  all = next_states (read s) (between 0 n 9) m n [] at
 
   ends : (ns : Numbers) (t : List ℕ) → all ≡ ns → t ≡ pad 512 ns.values → (outcome ns ≡ outcome all) × (t ≡ pad 512 all.values)
   ends ns t e v = (ap outcome (sym e), v ∙ ap (λ (x : Numbers). pad 512 x.values) (sym e))
 
   -- the state at hand
-  module _ (r : Number) (e : r ≡ outcome (numbers reads (item_row n 9 16) m [] place)) (h : q < n) where
+  module _ (r : Number) (e : r ≡ outcome (numbers (read s) (item_row n 9 16) m [] place)) (h : q < n) where
     block : Numbers
-    block = numbers reads (λ _. between 0 n 9) m [] place
+    block = numbers (read s) (λ _. between 0 n 9) m [] place
 
-    block_is : block ≡ numbers reads (item_row n 9 16) m [] place
+    block_is : block ≡ numbers (read s) (item_row n 9 16) m [] place
     unfolding block
-    block_is = items_are reads n 9 16 m place g.narrow
+    block_is = items_are (read s) n 9 16 m place g.narrow
 
     refusal_is : block.refusal ≡ r.refusal
     unfolding outcome
@@ -134,25 +134,25 @@ module _ {reads : ℕ → Number} {n m at : ℕ} {next : List ℕ} {place q : �
 
     state-short : length block.values ≤ m
     unfolding block
-    state-short = omega (arith, numbers_most reads (λ _. between 0 n 9) m [] place)
+    state-short = omega (arith, numbers_most (read s) (λ _. between 0 n 9) m [] place)
 
     -- what stands after it
     then : List ℕ
-    then = sets next (q * 16) (numbers reads (item_row n 9 16) m [] place).values
+    then = sets next (q * 16) (numbers (read s) (item_row n 9 16) m [] place).values
 
     then_is : then ≡ sets (pad 512 g.before) (length g.before) block.values
     unfolding then
     then_is =
-        ap (λ x. sets x (q * 16) (numbers reads (item_row n 9 16) m [] place).values) g.stored ∙
+        ap (λ x. sets x (q * 16) (numbers (read s) (item_row n 9 16) m [] place).values) g.stored ∙
         ap₂ (λ i x. sets (pad 512 g.before) i x) (sym g.long) (ap (λ (x : Numbers). x.values) (sym block_is))
 
-    now_state : all ≡ next_states reads (between 0 n 9) m (suc (n - suc q)) g.before place
+    now_state : all ≡ next_states (read s) (between 0 n 9) m (suc (n - suc q)) g.before place
     unfolding all
-    now_state = let k : n - q ≡ suc (n - suc q) = omega arith in g.whole ∙ ap (λ k. next_states reads (between 0 n 9) m k g.before place) k
+    now_state = let k : n - q ≡ suc (n - suc q) = omega arith in g.whole ∙ ap (λ k. next_states (read s) (between 0 n 9) m k g.before place) k
 
     pub filled-refused : (r.refusal ≡ 0 → ⊥)
-        → (fault r.refusal r.place ≡ outcome (next_states reads (between 0 n 9) m n [] at))
-        × (sets next (q * 16) (numbers reads (item_row n 9 16) m [] place).values ≡ pad 512 (next_states reads (between 0 n 9) m n [] at).values)
+        → (fault r.refusal r.place ≡ outcome (next_states (read s) (between 0 n 9) m n [] at))
+        × (sets next (q * 16) (numbers (read s) (item_row n 9 16) m [] place).values ≡ pad 512 (next_states (read s) (between 0 n 9) m n [] at).values)
     unfolding outcome all next_states block then
     filled-refused z =
         ends (record { refusal = r.refusal; place = r.place; values = g.before ++ block.values }) then
@@ -160,13 +160,13 @@ module _ {reads : ℕ → Number} {n m at : ℕ} {next : List ℕ} {place q : �
         (then_is ∙ pad-sets 512 g.before block.values (omega (arith, g.long, g.few, state-short, g.narrow)))
 
     pub filled-goes_on : r.refusal ≡ 0
-        → StatesFilled reads n m at (sets next (q * 16) (numbers reads (item_row n 9 16) m [] place).values) r.place (q + 1)
+        → StatesFilled s n m at (sets next (q * 16) (numbers (read s) (item_row n 9 16) m [] place).values) r.place (q + 1)
     unfolding all next_states block then
     filled-goes_on z =
         record {
           narrow = g.narrow;
           few = g.few;
-          size = length-sets next (q * 16) (numbers reads (item_row n 9 16) m [] place).values ∙ g.size;
+          size = length-sets next (q * 16) (numbers (read s) (item_row n 9 16) m [] place).values ∙ g.size;
           before = g.before ++ pad 16 block.values;
           long = length-append g.before (pad 16 block.values) ∙ ap₂ ◌+◌ g.long (pad-length 16 block.values (omega (arith, state-short, g.narrow))) ∙ omega arith;
           within = omega arith;
@@ -175,11 +175,11 @@ module _ {reads : ℕ → Number} {n m at : ℕ} {next : List ℕ} {place q : �
         }
 
   pub filled-done : n ≤ q
-      → (record { refusal = 0; value = 0; place = place } ≡ outcome (next_states reads (between 0 n 9) m n [] at))
-      × (next ≡ pad 512 (next_states reads (between 0 n 9) m n [] at).values)
+      → (record { refusal = 0; value = 0; place = place } ≡ outcome (next_states (read s) (between 0 n 9) m n [] at))
+      × (next ≡ pad 512 (next_states (read s) (between 0 n 9) m n [] at).values)
   unfolding outcome all next_states
   filled-done h =
       let e : n - q ≡ 0 = omega arith in
       ends (record { refusal = 0; place = place; values = g.before }) next
-      (g.whole ∙ ap (λ k. next_states reads (between 0 n 9) m k g.before place) e)
+      (g.whole ∙ ap (λ k. next_states (read s) (between 0 n 9) m k g.before place) e)
       g.stored

@@ -4,13 +4,14 @@ use mathlib.Core.Path.{◌≡◌, sym, ◌∙◌, ap}
 use mathlib.Core.Bool.{cond}
 use mathlib.Core.List.{List, []}
 use native.Mathlib.Omega.{arith}
-use lib.ListN.{replicate}
+use lib.ListN.{length, replicate}
 use lib.Seq.{sets}
 use lib.Dec.{ltb}
 use borrow.Author.Tests.{lt-ltb, le-ltb}
 use Rattle.base.specs.Pad.{pad}
 use Rattle.base.proofs.Padding.{pad-stored}
 use Rattle.varint.specs.declared.Number.{Number}
+use Rattle.varint.specs.Varint.{read}
 use Rattle.automaton.specs.declared.Automaton.{Automaton}
 use Rattle.automaton.specs.Automaton.{max_class}
 use Rattle.automaton_format.specs.Reading.{between, item_row, class_row, Numbers, numbers, next_states, after_numbers, tables, parsed, refused, Parsed}
@@ -28,7 +29,7 @@ module _ (whole : Parsed) (ns : Numbers) (go : List ℕ → ℕ → Parsed) (w :
   section_passes z =
       w ∙ after-numbers-passes ns go (ap (λ (y : Number). y.refusal) (sym e) ∙ z) ∙ ap (λ (y : Number). go ns.values y.place) (sym e)
 
-module _ (reads : ℕ → Number) (end at n m b q : ℕ) (small : m ≤ 16) (few : n ≤ 32) where
+module _ (s : List ℕ) (at n m b q : ℕ) (small : m ≤ 16) (few : n ≤ 32) where
   -- the record, and what is left to read after the classes, and after the flags
   record_of : List ℕ → List ℕ → List ℕ → Automaton
   record_of classes flags next =
@@ -43,22 +44,22 @@ module _ (reads : ℕ → Number) (end at n m b q : ℕ) (small : m ≤ 16) (few
       }
 
   last-part : List ℕ → List ℕ → List ℕ → ℕ → Parsed
-  last-part classes flags next place = cond (ltb place end) (refused 10 place) (parsed (record_of classes flags next))
+  last-part classes flags next place = cond (ltb place (length s)) (refused 10 place) (parsed (record_of classes flags next))
 
   next-part : List ℕ → List ℕ → ℕ → Parsed
-  next-part classes flags place = after_numbers (next_states reads (between 0 n 9) m n [] place) (last-part classes flags)
+  next-part classes flags place = after_numbers (next_states (read s) (between 0 n 9) m n [] place) (last-part classes flags)
 
   flag-part : List ℕ → ℕ → Parsed
-  flag-part classes place = after_numbers (numbers reads (item_row 2 7 32) n [] place) (next-part classes)
+  flag-part classes place = after_numbers (numbers (read s) (item_row 2 7 32) n [] place) (next-part classes)
 
-  flags_are : (place : ℕ) → numbers reads (λ _. between 0 2 7) n [] place ≡ numbers reads (item_row 2 7 32) n [] place
-  flags_are place = items_are reads 2 7 32 n place few
+  flags_are : (place : ℕ) → numbers (read s) (λ _. between 0 2 7) n [] place ≡ numbers (read s) (item_row 2 7 32) n [] place
+  flags_are place = items_are (read s) 2 7 32 n place few
 
   abbrev whole : Parsed
-  whole = tables reads max_class end n m b q at
+  whole = tables (read s) max_class (length s) n m b q at
 
   abbrev class-numbers : Numbers
-  class-numbers = numbers reads (class_row max_class) m [] at
+  class-numbers = numbers (read s) (class_row max_class) m [] at
 
   all-parts : whole ≡ after_numbers class-numbers flag-part
   unfolding tables flag-part next-part last-part record_of
@@ -69,7 +70,7 @@ module _ (reads : ℕ → Number) (end at n m b q : ℕ) (small : m ≤ 16) (few
     tables-classes z = section_refused whole class-numbers flag-part all-parts c ec z
 
     abbrev flag-numbers : Numbers
-    flag-numbers = numbers reads (item_row 2 7 32) n [] c.place
+    flag-numbers = numbers (read s) (item_row 2 7 32) n [] c.place
 
     module _ (zc : c.refusal ≡ 0) (f : Number) (ef : f ≡ outcome flag-numbers) where
       to_flags : whole ≡ after_numbers flag-numbers (next-part class-numbers.values)
@@ -80,7 +81,7 @@ module _ (reads : ℕ → Number) (end at n m b q : ℕ) (small : m ≤ 16) (few
       tables_flags z = section_refused whole flag-numbers (next-part class-numbers.values) to_flags f ef z
 
       abbrev next-numbers : Numbers
-      next-numbers = next_states reads (between 0 n 9) m n [] f.place
+      next-numbers = next_states (read s) (between 0 n 9) m n [] f.place
 
       module _ (zf : f.refusal ≡ 0) (t : Number) (et : t ≡ outcome next-numbers) where
         to_next : whole ≡ after_numbers next-numbers (last-part class-numbers.values flag-numbers.values)
@@ -94,17 +95,17 @@ module _ (reads : ℕ → Number) (end at n m b q : ℕ) (small : m ≤ 16) (few
           to_last : whole ≡ last-part class-numbers.values flag-numbers.values next-numbers.values t.place
           to_last = section_passes whole next-numbers (last-part class-numbers.values flag-numbers.values) to_next t et zt
 
-          pub tables_extra : t.place < end → refused 10 t.place ≡ whole
+          pub tables_extra : t.place < length s → refused 10 t.place ≡ whole
           unfolding last-part
-          tables_extra l = sym (to_last ∙ rw (lt-ltb t.place end l))
+          tables_extra l = sym (to_last ∙ rw (lt-ltb t.place (length s) l))
 
-          pub tables-done : end ≤ t.place → (classes flags next : List ℕ)
+          pub tables-done : length s ≤ t.place → (classes flags next : List ℕ)
               → classes ≡ sets (replicate 16 0) 0 class-numbers.values → flags ≡ sets (replicate 32 0) 0 flag-numbers.values
               → next ≡ pad 512 next-numbers.values
               → parsed (record { states = n; symbols = m; capacity = b; initial = q; classes = classes; accepting = flags; next = next }) ≡ whole
           unfolding last-part record_of
           tables-done l classes flags next i j k =
-              let short-c = numbers_most reads (class_row max_class) m [] at in
-              let short-f = numbers_most reads (item_row 2 7 32) n [] c.place in
+              let short-c = numbers_most (read s) (class_row max_class) m [] at in
+              let short-f = numbers_most (read s) (item_row 2 7 32) n [] c.place in
               rw (i, j, k, pad-stored 16 class-numbers.values (omega arith), pad-stored 32 flag-numbers.values (omega arith))
-              (sym (to_last ∙ rw (le-ltb t.place end l)))
+              (sym (to_last ∙ rw (le-ltb t.place (length s) l)))

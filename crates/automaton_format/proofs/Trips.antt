@@ -1,21 +1,18 @@
 -- Reading an automaton that was written, and writing one that was read.
 use Prim.Native.Nat.{ℕ, zero, suc, ◌*◌, ◌<◌, ◌≤◌}
-use mathlib.Core.Path.{◌≡◌, sym, ◌∙◌, ap}
-use mathlib.Core.Bool.{true, false}
-use mathlib.Core.List.{List, [], ◌∷◌, ◌++◌, append-nil}
-use lib.ListN.{length, get_or, take, drop, length-take, drop_of_length-le}
+use mathlib.Core.List.{List, [], ◌∷◌, ◌++◌}
+use lib.ListN.{length, get_or, take, drop, length-take}
 use lib.Seq.{get_or-take, get_or-drop}
 use native.Mathlib.Omega.{arith}
 use Rattle.base.proofs.Every.{Every, every_cons, every_append}
-use Rattle.varint.specs.Varint.{read_padded, read, read_by}
+use Rattle.varint.specs.Varint.{read}
 use Rattle.automaton.specs.declared.Automaton.{Automaton}
-use Rattle.automaton.specs.Automaton.{step, valid}
-use Rattle.automaton_format.specs.Reading.{parsed, parse_by, parse}
+use Rattle.automaton.specs.Automaton.{step}
+use Rattle.automaton_format.specs.Reading.{parse}
 use Rattle.automaton_format.specs.Writing.{next_numbers, record_numbers, encoded, record_bytes}
-use Rattle.automaton_format.specs.Claims.{WrittenReadsBack, ReadIsValid, ReadAgain, SameBytes, PaddedReadAgain, ReadIsShort}
+use Rattle.automaton_format.specs.Claims.{WrittenReadsBack, ReadIsValid, ReadAgain}
 use Rattle.automaton.proofs.Facts.{Valid, valid_facts, valid_of}
-use Rattle.automaton_format.proofs.Encoded.{encoded_follows, encoded-small, follows_fewest, follows_inside, follows_near, follows_exact}
-use Rattle.automaton_format.proofs.Storing.{numbers-length, states-small}
+use Rattle.automaton_format.proofs.Encoded.{encoded_follows, follows_fewest, follows_inside}
 use Rattle.automaton_format.proofs.Parsing.{parsed_of, parsed_facts}
 
 -- Each number of a valid automaton is one byte long.
@@ -53,57 +50,24 @@ module _ (a : Automaton) (v : Valid a) where
       (next_small a.states (omega arith)))))))
 
 pub written_reads_back : WrittenReadsBack
-unfolding parse parse_by read_by record_bytes
+unfolding parse record_bytes
 written_reads_back a h =
     let v = valid_facts a h in
     let s : List ℕ = encoded (record_numbers a) in
     parsed_of a v (read s) (length s) (length s) (encoded_follows (record_numbers a) [] (λ i l. omega (arith, numbers-small a v i l))) (omega arith)
 
 pub read-is-valid : ReadIsValid
-unfolding parse_by
-read-is-valid strict s a h = valid_of a (parsed_facts (read_by strict s) (length s) a h).valid
-
--- .. by the rule in force
-pub parse-valid : (s : List ℕ) (a : Automaton) → parse s ≡ parsed a → valid a ≡ true
 unfolding parse
-parse-valid = read-is-valid true
+read-is-valid s a h = valid_of a (parsed_facts (read s) (length s) a h).valid
 
 pub read_again : ReadAgain
-unfolding parse parse_by read_by record_bytes
+unfolding parse record_bytes
 read_again s a h =
-    let t = parsed_facts (read s) (length s) a h in
-    let ns = record_numbers a in
-    let small = numbers-small a t.valid in
-    encoded-small ns small ∙
-    sym (follows_exact s ns 0 t.stop t.follows small ∙ ap (λ l. ns ++ l) (drop_of_length-le s t.reaches) ∙ append-nil ns)
-
-pub same_bytes : SameBytes
-same_bytes s t a b h k = (
-  λ e. ap (λ p. p.automaton) (sym h ∙ ap parse e ∙ k),
-  λ e. sym (read_again s a h) ∙ ap record_bytes e ∙ read_again t b k,
-)
-
-pub padded-read-again : PaddedReadAgain
-unfolding parse_by read_by record_bytes
-padded-read-again s a h =
-    let t = parsed_facts (read_padded s) (length s) a h in (
-      written_reads_back a (read-is-valid false s a h),
+    let t = parsed_facts (read s) (length s) a h in (
+      written_reads_back a (read-is-valid s a h),
       omega (
         arith,
         follows_fewest s (record_numbers a) 0 t.stop t.follows (numbers-small a t.valid),
         follows_inside s (record_numbers a) 0 t.stop (omega arith) t.follows,
       ),
     )
-
-numbers-few : (a : Automaton) → Valid a → length (record_numbers a) ≤ 564
-numbers-few a v =
-    omega (arith, numbers-length a v, v.states-high, v.symbols-high, states-small a.states a.symbols v.states-high v.symbols-high)
-
-pub read-is-short : ReadIsShort
-unfolding parse parse_by read_by record_bytes
-read-is-short true s a h =
-    let v = (parsed_facts (read s) (length s) a h).valid in
-    omega (arith, numbers-few a v, ap length (encoded-small (record_numbers a) (numbers-small a v)), ap length (read_again s a h))
-read-is-short false s a h =
-    let t = parsed_facts (read_padded s) (length s) a h in
-    omega (arith, follows_near s (record_numbers a) 0 t.stop t.follows, t.reaches, numbers-few a t.valid)

@@ -1,10 +1,10 @@
 -- Reading a sheet from bytes: left to right, the first fault stands (document 01, "The sheet" and
 -- "Numbers of refusal").
-use Rattle.std.specs.Prelude.{ℕ, zero, suc, ◌+◌, Bool, true, cond, not, ◌&&◌, List, [], ◌∷◌, ◌++◌, length, eqb, leb, ltb}
+use Rattle.std.specs.Prelude.{ℕ, zero, suc, ◌+◌, cond, not, ◌&&◌, List, [], ◌∷◌, ◌++◌, length, replicate, eqb, leb, ltb}
 use Rattle.base.specs.Rows.{first}
 use Rattle.base.specs.Pad.{pad}
 use Rattle.varint.specs.declared.Number.{Number}
-use Rattle.varint.specs.Varint.{fault, read_by}
+use Rattle.varint.specs.Varint.{fault, read}
 use Rattle.automaton.specs.declared.Automaton.{Automaton}
 use Rattle.automaton.specs.Arrays.{controllable_in}
 use Rattle.automaton.specs.Automaton.{max_class, blank}
@@ -98,11 +98,6 @@ automaton_from from most end =
     after_number (checked (between 0 n 6) at3 (from at3)) λ q at4.
     tables from most end n m b q at4
 
--- what reading a sheet's bytes gives, its numbers by the rule in force (`strict`) or by the old
--- one
-unfoldable pub parse_by : Bool → List ℕ → Parsed
-parse_by strict s = automaton_from (read_by strict s) max_class (length s)
-
--- .. by the rule in force
+-- what reading a sheet's bytes gives
 unfoldable pub parse : List ℕ → Parsed
-parse s = parse_by true s
+parse s = automaton_from (read s) max_class (length s)

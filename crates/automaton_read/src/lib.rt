@@ -1,12 +1,11 @@
 // Reading an automaton from bytes (document 01's sheet): left to right, one pass, the first fault
-// stands. Numbers are read by the rule in force (`strict`), or by the old one, which takes padded
-// numbers.
+// stands.
 ghost use Rattle.std.specs.Prelude.{◌≡◌, ◌+◌, ◌<◌, ◌≤◌, [], length, replicate};
 ghost use Rattle.std.proofs.lemmas.List.Edits.{sets};
-ghost use Rattle.varint.specs.Varint.{read_by};
+ghost use Rattle.varint.specs.Varint.{read};
 ghost use Rattle.automaton.specs.Automaton.{max_class};
 ghost use Rattle.base.specs.Pad.{pad};
-ghost use Rattle.automaton_format.specs.Reading.{checked, between, item_row, numbers, next_states, tables, parse_by, parse, refused};
+ghost use Rattle.automaton_format.specs.Reading.{checked, between, item_row, numbers, next_states, tables, parse, refused};
 ghost use Rattle.automaton_format.specs.Outcomes.{outcome, one_more};
 
 use automaton::Automaton;
@@ -28,11 +27,11 @@ pub fn refused(row: u8, at: usize) -> Parsed
 }
 
 // The number at a place, or the row where it is below `low` or not below `limit`.
-fn number(s: &[u8], strict: bool, at: usize, low: u32, limit: u32, row: u8) -> Number
+fn number(s: &[u8], at: usize, low: u32, limit: u32, row: u8) -> Number
     requires { 0 < row }
-    ensures { result ≡ checked (between low limit row) at (read_by strict s.now at) }
+    ensures { result ≡ checked (between low limit row) at (read s.now at) }
 {
-    let n = varint::read_by(s, at, strict);
+    let n = varint::read(s, at);
     if n.refusal != 0 {
         return n;
     }
@@ -57,7 +56,6 @@ fn one_more(ones: usize, v: u32) -> usize
 // where more than `most` of them are 1.
 fn fill(
     s: &[u8],
-    strict: bool,
     at: usize,
     out: &mut [u8],
     from: usize,
@@ -67,15 +65,15 @@ fn fill(
     most: usize,
 ) -> Number
     requires { (from + count ≤ length out.old) × (count ≤ 32) × (limit ≤ 256) × (0 < row) }
-    ensures value { result ≡ outcome (numbers (read_by strict s.now) (item_row limit row most) count [] at) }
+    ensures value { result ≡ outcome (numbers (read s.now) (item_row limit row most) count [] at) }
     ensures out_after { out.new ≡ sets out.old from
-        (numbers (read_by strict s.now) (item_row limit row most) count [] at).values }
+        (numbers (read s.now) (item_row limit row most) count [] at).values }
 {
     let mut place = at;
     let mut ones: usize = 0;
     let mut i: usize = 0;
     while i < count {
-        let n = number(s, strict, place, 0, limit, row);
+        let n = number(s, place, 0, limit, row);
         if n.refusal != 0 {
             return varint::fault(n.refusal, n.place);
         }
@@ -96,15 +94,15 @@ fn fill(
 
 // Fills the next states of n states, m numbers each and 16 places for each state, with numbers
 // below n; row 9 stands otherwise.
-fn fill_states(s: &[u8], strict: bool, at: usize, next: &mut [u8], n: u32, m: usize) -> Number
+fn fill_states(s: &[u8], at: usize, next: &mut [u8], n: u32, m: usize) -> Number
     requires { (n < 33) × (m < 17) × (next.old ≡ replicate 512 0) }
-    ensures value { result ≡ outcome (next_states (read_by strict s.now) (between 0 n 9) m n [] at) }
-    ensures next_after { next.new ≡ pad 512 (next_states (read_by strict s.now) (between 0 n 9) m n [] at).values }
+    ensures value { result ≡ outcome (next_states (read s.now) (between 0 n 9) m n [] at) }
+    ensures next_after { next.new ≡ pad 512 (next_states (read s.now) (between 0 n 9) m n [] at).values }
 {
     let mut place = at;
     let mut q: usize = 0;
     while q < n as usize {
-        let filled = fill(s, strict, place, next, q * 16, m, n, 9, 16);
+        let filled = fill(s, place, next, q * 16, m, n, 9, 16);
         if filled.refusal != 0 {
             return varint::fault(filled.refusal, filled.place);
         }
@@ -121,7 +119,6 @@ fn fill_states(s: &[u8], strict: bool, at: usize, next: &mut [u8], n: u32, m: us
 // The classes, flags and next states after the first four numbers.
 fn read_tables(
     s: &[u8],
-    strict: bool,
     at: usize,
     states: u32,
     symbols: u32,
@@ -129,23 +126,22 @@ fn read_tables(
     initial: u32,
 ) -> Parsed
     requires { (states < 33) × (symbols < 17) × (capacity < 7) × (initial < states) }
-    ensures { let bytes = s.now in
-        result ≡ tables (read_by strict bytes) max_class (length bytes) states symbols capacity initial at }
+    ensures { result ≡ tables (read s.now) max_class (length s.now) states symbols capacity initial at }
 {
     let n = states as usize;
     let m = symbols as usize;
     let mut classes = [0u8; 16];
-    let c = fill(s, strict, at, &mut classes, 0, m, CLASSES, 7, 8);
+    let c = fill(s, at, &mut classes, 0, m, CLASSES, 7, 8);
     if c.refusal != 0 {
         return refused(c.refusal, c.place);
     }
     let mut accepting = [0u8; 32];
-    let f = fill(s, strict, c.place, &mut accepting, 0, n, 2, 7, 32);
+    let f = fill(s, c.place, &mut accepting, 0, n, 2, 7, 32);
     if f.refusal != 0 {
         return refused(f.refusal, f.place);
     }
     let mut next = [0u8; 512];
-    let t = fill_states(s, strict, f.place, &mut next, states, m);
+    let t = fill_states(s, f.place, &mut next, states, m);
     if t.refusal != 0 {
         return refused(t.refusal, t.place);
     }
@@ -167,31 +163,24 @@ fn read_tables(
     }
 }
 
-// By the rule in force, or by the old one, for sheets that were stored under that.
-pub fn read_by(s: &[u8], strict: bool) -> Parsed
-    ensures { result ≡ parse_by strict s.now }
-{
-    let n = number(s, strict, 0, 1, 33, 3);
-    if n.refusal != 0 {
-        return refused(n.refusal, n.place);
-    }
-    let m = number(s, strict, n.place, 1, 17, 4);
-    if m.refusal != 0 {
-        return refused(m.refusal, m.place);
-    }
-    let b = number(s, strict, m.place, 1, 7, 5);
-    if b.refusal != 0 {
-        return refused(b.refusal, b.place);
-    }
-    let q = number(s, strict, b.place, 0, n.value, 6);
-    if q.refusal != 0 {
-        return refused(q.refusal, q.place);
-    }
-    read_tables(s, strict, q.place, n.value, m.value, b.value, q.value)
-}
-
 pub fn read(s: &[u8]) -> Parsed
     ensures { result ≡ parse s.now }
 {
-    read_by(s, true)
+    let n = number(s, 0, 1, 33, 3);
+    if n.refusal != 0 {
+        return refused(n.refusal, n.place);
+    }
+    let m = number(s, n.place, 1, 17, 4);
+    if m.refusal != 0 {
+        return refused(m.refusal, m.place);
+    }
+    let b = number(s, m.place, 1, 7, 5);
+    if b.refusal != 0 {
+        return refused(b.refusal, b.place);
+    }
+    let q = number(s, b.place, 0, n.value, 6);
+    if q.refusal != 0 {
+        return refused(q.refusal, q.place);
+    }
+    read_tables(s, q.place, n.value, m.value, b.value, q.value)
 }

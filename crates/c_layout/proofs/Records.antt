@@ -1,7 +1,7 @@
 -- The records that calls answer with, in their bytes.
 use mathlib.Core.Path.{◌≡◌, refl, ◌∙◌, ap}
 use Prim.Native.Nat.{ℕ}
-use mathlib.Core.Bool.{Bool, true}
+use mathlib.Core.Bool.{true}
 use mathlib.Core.List.{List}
 use lib.ListN.{replicate}
 use lib.Dec.{eqb}
@@ -9,8 +9,8 @@ use borrow.Author.Tests.{eqb-true, eqb-false}
 use Rattle.base.proofs.Bools.{by, and-pair}
 use Rattle.automaton.specs.declared.Automaton.{Automaton}
 use Rattle.automaton.specs.Automaton.{shaped, valid, blank}
-use Rattle.automaton_format.specs.Reading.{parse_by}
-use Rattle.automaton_format.proofs.Faults.{parsed-sound, refused-blank}
+use Rattle.automaton_format.specs.Reading.{parse}
+use Rattle.automaton_format.proofs.Faults.{parse-sound, refused-blank}
 use Rattle.automaton_format.proofs.Trips.{read-is-valid}
 use Rattle.product_rule.specs.Product.{product_answer}
 use Rattle.product_rule.proofs.Merged.{product-answered_as_worded}
@@ -41,23 +41,22 @@ product-shaped a b =
     (λ e. rw (k.refused (eqb-false x.refusal 0 e)) blank-shaped)
 
 -- .. and by a read
-read-shaped : (strict : Bool) (s : List ℕ) → shaped (parse_by strict s).automaton ≡ true
-read-shaped strict s =
-    let p = parse_by strict s in
-    by (eqb p.refusal 0)
-    (λ e. valid-shaped p.automaton (read-is-valid strict s p.automaton ((parsed-sound strict s).whole (eqb-true p.refusal 0 e))))
-    (λ e. rw (refused-blank strict s (eqb-false p.refusal 0 e)) blank-shaped)
+read-shaped : (s : List ℕ) → shaped (parse s).automaton ≡ true
+read-shaped s =
+    by (eqb (parse s).refusal 0)
+    (λ e. valid-shaped (parse s).automaton (read-is-valid s (parse s).automaton ((parse-sound s).whole (eqb-true (parse s).refusal 0 e))))
+    (λ e. rw (refused-blank s (eqb-false (parse s).refusal 0 e)) blank-shaped)
 
 pub automata_handed_on : AutomataHandedOn
 automata_handed_on =
     record {
-      read = λ strict s. automaton-kept (parse_by strict s).automaton (read-shaped strict s);
+      read = λ s. automaton-kept (parse s).automaton (read-shaped s);
       product = λ a b. automaton-kept (product_answer a b).automaton (product-shaped a b);
     }
 
 pub refused_automata_zero : RefusedAutomataZero
 refused_automata_zero =
     record {
-      read = λ strict s h. ap automaton_bytes (refused-blank strict s h) ∙ blank-zeros;
+      read = λ s h. ap automaton_bytes (refused-blank s h) ∙ blank-zeros;
       product = λ a b h. ap automaton_bytes ((product-answered_as_worded a b).0.refused h) ∙ blank-zeros;
     }

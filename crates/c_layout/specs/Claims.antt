@@ -3,7 +3,7 @@
 use Rattle.std.specs.Prelude.{ℕ, ◌+◌, ◌*◌, ◌/◌, ◌%◌, ◌<◌, ◌^◌, ◌≡◌, Bool, true, false, List, [], ◌∷◌, length, get_or, take, replicate}
 use Rattle.automaton.specs.declared.Automaton.{Automaton}
 use Rattle.automaton.specs.Automaton.{class, flag, step, shaped}
-use Rattle.automaton_format.specs.Reading.{parse_by}
+use Rattle.automaton_format.specs.Reading.{parse}
 use Rattle.product_rule.specs.Product.{product_answer}
 use Rattle.configuration_places.specs.declared.InputPlace.{InputPlace}
 use Rattle.configuration_places.specs.Places.{input_place, input_number, output_number}
@@ -283,16 +283,15 @@ RunHandedOn =
     → configuration_of (run_leaves record-bytes t c events out).configuration
     ≡ (ran (automaton_of record-bytes) t (configuration_of c) events out).configuration
 
--- the record that a call leaves, a read by either rule too, is what the next call takes out of its
--- bytes, refused or not
+-- the record that a call leaves is what the next call takes out of its bytes, refused or not
 pub record AutomataHandedOn : Type 0 where
-  pub read : (strict : Bool) (bytes : List ℕ) → let a = (parse_by strict bytes).automaton in automaton_of (automaton_bytes a) ≡ a
+  pub read : (bytes : List ℕ) → let a = (parse bytes).automaton in automaton_of (automaton_bytes a) ≡ a
   pub product : (a b : Automaton) → let c = (product_answer a b).automaton in automaton_of (automaton_bytes c) ≡ c
 
 -- a refused call that answers with an automaton's record leaves 0 in each of its bytes (document
 -- 02, Card 6)
 pub record RefusedAutomataZero : Type 0 where
-  pub read : (strict : Bool) (bytes : List ℕ) → ((parse_by strict bytes).refusal ≡ 0 → ⊥)
-      → automaton_bytes (parse_by strict bytes).automaton ≡ replicate automaton_size 0
+  pub read : (bytes : List ℕ) → ((parse bytes).refusal ≡ 0 → ⊥)
+      → automaton_bytes (parse bytes).automaton ≡ replicate automaton_size 0
   pub product : (a b : Automaton) → ((product_answer a b).refusal ≡ 0 → ⊥)
       → automaton_bytes (product_answer a b).automaton ≡ replicate automaton_size 0

@@ -56,7 +56,7 @@ Later n = (n ≡ 11 → ⊥) × (n ≡ 12 → ⊥) × (n ≡ 20 → ⊥)
 
 -- that of a later row of an event or a day, or none
 abbrev pub Inner : ℕ → Type 0
-Inner n = (n ≡ 0) ⊎ ((12 < n) × (n < 20)) ⊎ (n ≡ 23)
+Inner n = (n ≡ 0) ⊎ ((12 < n) × (n < 20)) ⊎ (22 < n)
 
 pub inner_later : (n : ℕ) → Inner n → Later n
 inner_later n l =
@@ -64,13 +64,13 @@ inner_later n l =
     (λ z. (λ h. omega arith, λ h. omega arith, λ h. omega arith))
     (λ k. either k
     (λ (low, high). (λ h. omega arith, λ h. omega arith, λ h. omega arith))
-    (λ last. (λ h. omega arith, λ h. omega arith, λ h. omega arith)))
+    (λ beyond. (λ h. omega arith, λ h. omega arith, λ h. omega arith)))
 
 pub inner_between : (n : ℕ) → 12 < n → n < 20 → Inner n
 inner_between n low high = inr (inl (low, high))
 
-pub inner_last : (n : ℕ) → n ≡ 23 → Inner n
-inner_last n last = inr (inr last)
+pub inner_beyond : (n : ℕ) → 22 < n → Inner n
+inner_beyond n high = inr (inr high)
 
 -- a call that checks these rows first, and then others
 module _ (a : Automaton) (t : List ℕ) (count : ℕ) where

@@ -27,7 +27,7 @@ use Rattle.clients_answers.specs.Listed.{outcome}
 use Rattle.clients_answers.specs.Clients.{none, monitored, list_rows, client_rows, held_in, held_in_all}
 use Rattle.clients_answers.specs.Clients.{receive_for_refusal, received_for, room_rows, run_for_refusal, ran_for}
 use Rattle.clients_answers.specs.Claims.{ClientRows, sum_below, holds, ClientRowsAsWorded}
-use Rattle.clients_answers.proofs.Refusals.{Inner, inner_later, inner_between, inner_last, list-later, list-rows}
+use Rattle.clients_answers.proofs.Refusals.{Inner, inner_later, inner_between, inner_beyond, list-later, list-rows}
 
 -- the sum from the front
 sum-front : (n : ℕ) (f : ℕ → ℕ) → sum_below (suc n) f ≡ f 0 + sum_below n (λ g. f (suc g))
@@ -82,7 +82,7 @@ module _ (a : Automaton) (t : List ℕ) (cs : List Configuration) (i e : ℕ) wh
       (λ z. own-number (λ k. omega arith) (λ l k. omega arith) (λ k. omega arith))
 
   own_inner : Inner own
-  own_inner = own-number inl (λ l u. inner_between own (omega arith) (omega arith)) (inner_last own)
+  own_inner = own-number inl (λ l u. inner_between own (omega arith) (omega arith)) (λ h. inner_beyond own (omega arith))
 
   pub client_inner : Inner row
   unfolding client_rows turn_rows configuration_rows
@@ -124,7 +124,7 @@ module _ (a : Automaton) (t : List ℕ) (cs : List Configuration) (i e : ℕ) wh
               (λ (p, (b, d)). (p, b, d), λ (p, b, d). (p, (b, d)));
           row-14 = of_own 14 (inner_between 14 (omega arith) (omega arith)) (λ h. omega arith) (λ h. omega arith) own-rows.row-14;
           row-15 = of_own 15 (inner_between 15 (omega arith) (omega arith)) (λ h. omega arith) (λ h. omega arith) own-rows.row-15;
-          row-23 = of_own 23 (inner_last 23 refl) (λ h. omega arith) (λ h. omega arith) own-rows.row-23;
+          row-23 = of_own 23 (inner_beyond 23 (omega arith)) (λ h. omega arith) (λ h. omega arith) own-rows.row-23;
           accepted = of_own 0 (inl refl) (λ h. omega arith) (λ h. omega arith) own-rows.accepted;
         }
 

@@ -15,7 +15,7 @@ use Rattle.base.proofs.Padding.{take-pad}
 use Rattle.varint.specs.Varint.{read}
 use Rattle.varint.specs.Claims.{AreBytes}
 use Rattle.automaton_format.specs.Opening.{opening}
-use Rattle.automaton_format.proofs.Faults.{read-ends}
+use Rattle.automaton_format.proofs.Faults.{read-inside}
 use Rattle.automaton_format.proofs.Openings.{opening-inside, opening-valid}
 use Rattle.automaton.specs.declared.Automaton.{Automaton}
 use Rattle.automaton.specs.Automaton.{controllable}
@@ -176,7 +176,7 @@ module _ (t s : List ℕ) (bytes : AreBytes s) (few : length s ≤ 60000) where
       let on = events-short k (after u n.place r) (omega (arith, after-counts u n.place r)) (next-inside s u.place z) in
       rw (e, f, length-append (answer_line n.value r) (event_lines k t s (after u n.place r)))
       (omega (arith, answer-short u.automaton t u.configuration n.value (omega (arith, next_small s u.place z bytes)), on)))
-      (λ f. rw (e, f) (omega (arith, fault-short n.refusal n.place (omega (arith, (read-ends s u.place l).0)) (omega (arith, (read-ends s u.place l).1))))))
+      (λ f. rw (e, f) (omega (arith, fault-short n.refusal n.place (omega (arith, (read-inside s u.place l).0)) (omega (arith, (read-inside s u.place l).1))))))
       (λ e. rw e (omega (arith, end_short u.accepted u.refused (omega arith) (omega arith))))
 
 -- the first line

@@ -7,10 +7,10 @@ use Rattle.base.specs.Each.{each, count, those, last_or}
 use Rattle.base.specs.Masks.{has, mask}
 use Rattle.base.specs.Pad.{pad}
 use Rattle.base.specs.Rows.{first}
-use Rattle.varint.specs.Varint.{groups, read_padded, padded, read, read_by, encode, bytes}
+use Rattle.varint.specs.Varint.{groups, read}
 use Rattle.automaton.specs.Arrays.{controllable_in, stands, places_stand}
 use Rattle.automaton.specs.Automaton.{controllable, controllables, accepts, step, reached, shaped, ranged, classes_stand, flags_stand, next_stand, valid}
-use Rattle.automaton_format.specs.Reading.{checked, between, item_row, numbers, next_states, after_number, after_numbers, tables, automaton_from, parse_by, parse}
+use Rattle.automaton_format.specs.Reading.{checked, between, item_row, numbers, next_states, after_number, after_numbers, tables, automaton_from, parse}
 use Rattle.automaton_format.specs.Opening.{automaton_at, opening}
 use Rattle.solver_sets.specs.Sets.{accepting_set, admits, stays, refine, settle, settled, sets_of, empty_sets, into, sets_for}
 use Rattle.solver_sets.specs.Table.{rank, in_base_k, shorter, index, buffers_count, short, extended, buffers_at, buffers_to, pairs, table}
@@ -25,9 +25,9 @@ use Rattle.day_transcript.specs.Claims.{v, w, large, lines, CasesPrinted, LongRe
 
 -- every definition that the transcript rests on
 unfoldable all : ℕ
-unfolding each count those last_or has mask pad first groups read_padded padded read read_by encode bytes controllable_in stands places_stand controllable controllables
+unfolding each count those last_or has mask pad first groups read controllable_in stands places_stand controllable controllables
     accepts step reached shaped ranged classes_stand flags_stand next_stand valid checked between item_row numbers next_states after_number after_numbers tables
-    automaton_from parse_by parse accepting_set admits stays refine settle settled sets_of empty_sets into sets_for rank in_base_k shorter index
+    automaton_from parse accepting_set admits stays refine settle settled sets_of empty_sets into sets_for rank in_base_k shorter index
     buffers_count short extended buffers_at buffers_to pairs table held_events controllable_symbol place_stands buffer_stands
     place_numbers input_stands inputs_stand consistent_in initial_of by_table qualifies qualifying release remaining arrival effect in_line sources is_shut event_rows table_rows configuration_rows
     call_rows is_winning
@@ -44,11 +44,7 @@ cases_printed =
       full-opened = refl;
       row-15 = refl;
       event-unfinished = refl;
-      two-byte-length = refl;
-      too_few = refl;
       padded-length = refl;
-      padded-symbols = refl;
-      padded-event = refl;
       too_large = refl;
     }
 

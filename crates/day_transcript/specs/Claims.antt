@@ -1,6 +1,6 @@
 -- What is printed on some inputs: document 01's sample, a full buffer that the newcomer opens and
 -- one that it does not (document 02, Card 5), and ways in which an input can begin and end.
-use Rattle.std.specs.Prelude.{ℕ, ◌+◌, ◌*◌, ◌<◌, ◌≤◌, ◌≡◌, List, [], ◌∷◌, ◌++◌, length, replicate}
+use Rattle.std.specs.Prelude.{ℕ, ◌+◌, ◌*◌, ◌<◌, ◌≤◌, ◌≡◌, List, [], ◌∷◌, ◌++◌, length}
 use Prim.Native.String.{String}
 use Rattle.varint.specs.Claims.{AreBytes}
 use Rattle.text.specs.Decimal.{ascii}
@@ -51,14 +51,7 @@ pub record CasesPrinted : Type 0 where
       ("sheet 4 4 2 start 0 guarded yes" ∷ "in 2 out - state 0 held 1 guarded yes" ∷
       "in 2 out - state 0 held 2 guarded yes" ∷ "in 2 refused 15" ∷ "end 2 1" ∷ [])
   pub event-unfinished : Prints (v ++ 2 ∷ 128 ∷ []) (vLine ∷ "in 2 refused 14" ∷ "refused 1 at 17" ∷ [])
-  -- a length of two bytes: a sheet's fault behind it, and too few bytes
-  pub two-byte-length : Prints (128 ∷ 1 ∷ 33 ∷ replicate 127 0) ("refused 3 at 2" ∷ [])
-  pub too_few : Prints (128 ∷ 1 ∷ []) ("refused 1 at 2" ∷ [])
-  -- a padded number is refused before anything is asked of its value: as L, in the sheet (17
-  -- symbols), as an event (no symbol)
-  pub padded-length : Prints (143 ∷ 0 ∷ []) ("refused 26 at 0" ∷ [])
-  pub padded-symbols : Prints (3 ∷ 3 ∷ 145 ∷ 0 ∷ []) ("refused 26 at 2" ∷ [])
-  pub padded-event : Prints (v ++ 1 ∷ 130 ∷ 0 ∷ []) (vLine ∷ answer_held ∷ "refused 26 at 17" ∷ [])
+  pub padded-length : Prints (129 ∷ 0 ∷ 33 ∷ []) ("refused 3 at 2" ∷ [])
   pub too_large : Prints (large ++ 128 ∷ []) ("refused 12" ∷ [])
 
 -- an input of more than 60,000 bytes

@@ -7,10 +7,10 @@ use Rattle.base.specs.Each.{each, count, those, last_or}
 use Rattle.base.specs.Rows.{first}
 use Rattle.base.specs.Pad.{pad}
 use Rattle.base.specs.Masks.{has, mask}
-use Rattle.varint.specs.Varint.{groups, read_padded, padded, read, read_by, encode, bytes}
+use Rattle.varint.specs.Varint.{groups, read, encode, bytes}
 use Rattle.automaton.specs.Arrays.{controllable_in, stands, places_stand}
 use Rattle.automaton.specs.Automaton.{controllable, controllables, accepts, step, reached, shaped, ranged, classes_stand, flags_stand, next_stand, valid}
-use Rattle.automaton_format.specs.Reading.{checked, between, item_row, numbers, next_states, after_number, after_numbers, tables, automaton_from, parse_by, parse}
+use Rattle.automaton_format.specs.Reading.{checked, between, item_row, numbers, next_states, after_number, after_numbers, tables, automaton_from, parse}
 use Rattle.solver_sets.specs.Sets.{accepting_set, admits, stays, refine, settle, settled, sets_of, empty_sets, into, sets_for}
 use Rattle.solver_sets.specs.Table.{rank, in_base_k, shorter, index, buffers_count, short, extended, buffers_at, buffers_to, pairs, rounds_sum, table, rounds}
 use Rattle.configuration.specs.Configuration.{held_events, place_numbers, controllable_symbol, place_stands, buffer_stands, input_stands, inputs_stand, consistent_in, initial_of}
@@ -24,9 +24,9 @@ use Rattle.enforcement_cases.specs.Cases.{automaton_v, automaton_w, automaton_pa
 unfoldable opened : ℕ
 unfolding
     each count those last_or first pad has mask
-    groups read_padded padded read read_by encode bytes
+    groups read encode bytes
     controllable_in stands places_stand controllable controllables accepts step reached shaped ranged classes_stand flags_stand next_stand valid
-    checked between item_row numbers next_states after_number after_numbers tables automaton_from parse_by parse
+    checked between item_row numbers next_states after_number after_numbers tables automaton_from parse
     accepting_set admits stays refine settle settled sets_of empty_sets into sets_for
     rank in_base_k shorter index buffers_count short extended buffers_at buffers_to pairs rounds_sum table rounds
     held_events place_numbers controllable_symbol place_stands buffer_stands input_stands inputs_stand consistent_in initial_of count_answer

@@ -1,10 +1,9 @@
--- The marked cases of document 01, the fourth number as document 02, Card 7, has it, and those of
--- places and counts and of a full buffer that the newcomer opens (Cards 4 and 5), as rows of one
--- list.
+-- The marked cases of document 01, and those of places and counts and of a full buffer that the
+-- newcomer opens (document 02, Cards 4 and 5), as rows of one list.
 use Rattle.std.specs.Prelude.{ℕ, suc, ◌≡◌, Bool, true, false, List, [], ◌∷◌, ◌++◌, map, length, replicate}
 use Rattle.base.specs.All.{AllOf}
 use Rattle.base.specs.Pad.{pad}
-use Rattle.varint.specs.Varint.{bytes, read, value, fault}
+use Rattle.varint.specs.Varint.{bytes, read, value}
 use Rattle.automaton.specs.declared.Automaton.{Automaton}
 use Rattle.automaton.specs.Automaton.{controllables}
 use Rattle.automaton_format.specs.Reading.{parse, parsed}
@@ -128,8 +127,8 @@ pub data Case : Type 0 where
   refused : Automaton → Position → ℕ → ℕ → Case
   -- a number and its bytes
   number : ℕ → List ℕ → Case
-  -- bytes, and the row that refuses the number at their first
-  unreadable : List ℕ → ℕ → Case
+  -- bytes that are not the fewest, and their number
+  padded : List ℕ → ℕ → Case
   -- k, B and T
   buffers : ℕ → ℕ → ℕ → Case
 
@@ -141,7 +140,7 @@ Holds (events a es rs) = replies a (table a) (initial_of a) (map receive_call es
 Holds (later a p e r) = received a (table a) (configuration p) e ≡ r
 Holds (refused a p e row) = received a (table a) (configuration p) e ≡ answer row [] [] p false
 Holds (number v s) = (bytes v ≡ s) × (read s 0 ≡ value v (length s))
-Holds (unreadable s row) = read s 0 ≡ fault row 0
+Holds (padded s v) = read s 0 ≡ value v (length s)
 Holds (buffers k b t) = (controllables (sized k b) ≡ k) × (count_answer (sized k b) ≡ record { refusal = 0; count = t })
 
 abbrev pub cases : List Case
@@ -216,7 +215,7 @@ cases =
     number 127 (127 ∷ []) ∷
     number 128 (128 ∷ 1 ∷ []) ∷
     number 2097151 (255 ∷ 255 ∷ 127 ∷ []) ∷
-    unreadable (128 ∷ 0 ∷ []) 26 ∷
+    padded (128 ∷ 0 ∷ []) 0 ∷
     buffers 2 2 7 ∷
     buffers 0 6 1 ∷
     buffers 8 6 299593 ∷ []

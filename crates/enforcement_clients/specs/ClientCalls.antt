@@ -67,8 +67,7 @@ unfoldable pub leaves_all : Automaton → List ℕ → List Configuration → Li
 leaves_all a t cs [] = cs
 leaves_all a t cs (x ∷ xs) = leaves_all a t (leaves a t cs x) xs
 
--- the row that refuses a call as a whole: 11, 12, 20; 16 of a day; 1, 2, 26, 10, 21 and 22 of a
--- record
+-- the row that refuses a call as a whole: 11, 12, 20; 16 of a day; 1, 2, 10, 21 and 22 of a record
 unfoldable pub whole_refusal : Automaton → List ℕ → List Configuration → ClientCall → ℕ
 whole_refusal a t cs (receive_for n i e) = list_refusal a t (length (take n cs))
 whole_refusal a t cs (run_for n vs out) = run_for_refusal a t (take n cs) vs out

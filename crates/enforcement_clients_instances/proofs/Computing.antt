@@ -4,7 +4,7 @@ use Rattle.base.specs.Each.{each, count, those, last_or}
 use Rattle.base.specs.Rows.{first}
 use Rattle.base.specs.Pad.{pad}
 use Rattle.base.specs.Masks.{has, mask}
-use Rattle.varint.specs.Varint.{groups, read_padded, encode, bytes, padded, read}
+use Rattle.varint.specs.Varint.{groups, read}
 use Rattle.automaton.specs.Arrays.{controllable_in}
 use Rattle.automaton.specs.Automaton.{controllable, controllables, accepts, step, reached}
 use Rattle.solver_sets.specs.Table.{index, rank, in_base_k, shorter, buffers_count, short}
@@ -48,8 +48,7 @@ stepping = 0
 -- one record of the feed by itself
 unfoldable pub admitting : ℕ
 unfolding
-    first groups read_padded encode bytes padded read numbers byte_rows record_in serial_rows record_rows distance following ahead
-    admission
+    first groups read numbers byte_rows record_in serial_rows record_rows distance following ahead admission
 admitting = 0
 
 -- one event, a day, and a record of the feed

@@ -39,7 +39,7 @@ use Rattle.enforcement_clients_instances.proofs.CallInstances.{both_long, same_b
 use Rattle.enforcement_clients_instances.proofs.RecordInstances.{turn_in, gap_in, record_fields}
 use Rattle.enforcement_clients_instances.specs.ListStatements.{broken, waiting_signed, here, there, beside, answer_for, crowd, pair, end_pair}
 use Rattle.enforcement_clients_instances.specs.CallStatements.{start_w, calls_here, two, signed, other_table}
-use Rattle.enforcement_clients_instances.specs.RecordStatements.{serial_zero, after_gap, repeated, one_more, too_large, padded_client, padded_symbol, in_turn}
+use Rattle.enforcement_clients_instances.specs.RecordStatements.{serial_zero, after_gap, repeated, one_more, too_large, in_turn}
 use Rattle.enforcement_clients_instances.specs.FeedStatements.{fed_as, kept_as, feed_calls, feed_replies, feed_clients, FeedCallFields, feed_row}
 use Rattle.enforcement_clients_instances.specs.FeedStatements.{unthreaded, unthreaded_replies, UnthreadedFields, FeedRowFields, FeedAnswerFields}
 use Rattle.enforcement_clients_instances.specs.FeedStatements.{FeedIsolating, FeedBringing, feed_there, FeedBeside}
@@ -132,8 +132,7 @@ feed-row_fields =
       none_lent = λ s x. (said [] s x).list.row-20.1 (valid-w, long-w, inl refl);
       too_many = λ s x. (said (crowd 501) s x).list.row-20.1 (valid-w, long-w, inr (omega (arith, crowd-length 501)));
       row-1 = ((said pair [] (Serial 7)).own 1 (inl (inl refl))).1 (clear_pair, refl);
-      row-2 = ((said pair (128 ∷ 128 ∷ 128 ∷ 0 ∷ []) (Serial 7)).own 2 (inl (inr (inl refl)))).1 (clear_pair, refl);
-      row-26 = ((said pair padded_symbol (Serial 7)).own 26 (inl (inr (inr refl)))).1 (clear_pair, refl);
+      row-2 = ((said pair (128 ∷ 128 ∷ 128 ∷ 0 ∷ []) (Serial 7)).own 2 (inl (inr refl))).1 (clear_pair, refl);
       row_10 = ((said pair one_more (Serial 7)).own 10 (inr (inl refl))).1 (clear_pair, refl);
       row-21 = ((said pair too_large (Serial 7)).own 21 (inr (inr (inl refl)))).1 (clear_pair, refl);
       row-22 = ((said pair repeated (Serial 7)).own 22 (inr (inr (inr refl)))).1 (clear_pair, refl);
@@ -156,7 +155,6 @@ feed-row_fields =
       only-11 = λ a s x h. (feed-rows_as_worded a table_w here s x).list.row_11.0 h;
       only-12 = λ t s x h. ((feed-rows_as_worded automaton_w t here s x).list.row_12.0 h).1;
       only-20 = λ cs s x h. ((said cs s x).list.row-20.0 h).2;
-      only-26 = λ cs s x h. (((said cs s x).own 26 (inl (inr (inr refl)))).0 h).1;
       only-22 = λ cs s x h. (((said cs s x).own 22 (inr (inr (inr refl)))).0 h).1;
       only-19 = λ cs s x h. ((said cs s x).event.row-19.0 h).1;
       only-13 = λ c h. ((said (broken ∷ c ∷ []) (in_turn 1 0) (Serial 7)).event.row-13.0 h).2;
@@ -220,21 +218,17 @@ feed-answer_fields =
     let by-list = (answered [] one_more (Serial 7)).by-list (λ z. omega (arith, none_20)) in
     let at-10 = record_fields.row_10 in
     let by-record = (answered two one_more (Serial 7)).by-record clear_list-two (λ z. omega (arith, at-10.0)) in
-    let at-26 = record_fields.padded-client in
-    let by-padded = (answered two padded_client (Serial 7)).by-record clear_list-two (λ z. omega (arith, at-26.0)) in
     let refused = (answered two after_gap (Serial 1)).refused (λ z. omega (arith, row_gap)) in
     let emitted = feed-emitted-padded automaton_w table_w two (in_turn 1 0) (Serial 2) in
     record {
       by-list = (by-list.0 ∙ ap (λ n. kept_as 7 n 0) none_20, by-list.1);
       by-record = (by-record.0 ∙ (λ j. kept_as 7 (at-10.0 j) (at-10.1 j)), by-record.1);
-      by-padded = (by-padded.0 ∙ (λ j. kept_as 7 (at-26.0 j) (at-26.1 j)), by-padded.1);
       let-in = (fed-sign, ((answered two (in_turn 1 0) (Serial 2)).let-in clear_list-two 7 1 0 sign_in).1 ∙ list-sign);
       refused = (refused.0, refused.1 ∙ ap refused_for row_gap);
       others = (answered here serial_zero (Serial 0)).others 1 (λ h. omega (arith, client-zero));
       count = (answered here serial_zero (Serial 0)).count;
       own = own_gap;
       no_event = no_repeat;
-      padded-no-event = (events_in_as_worded padded_client (Serial 7)).no_event (λ z. omega (arith, at-26.0));
       emitted-count = emitted.0;
       emitted-length = emitted.1.0;
       padded = emitted.1.1 1 (omega (arith, ap (λ f. f.answer.count) fed-sign));

@@ -30,7 +30,7 @@ use Rattle.enforcement_clients.proofs.Published.{clients_follow_published}
 use Rattle.enforcement_clients_instances.proofs.Computing.{storing}
 use Rattle.enforcement_clients_instances.proofs.RecordInstances.{turn_in, record_fields}
 use Rattle.enforcement_clients_instances.specs.ListStatements.{sent, answer_for}
-use Rattle.enforcement_clients_instances.specs.RecordStatements.{repeated, one_more, padded_client, in_turn}
+use Rattle.enforcement_clients_instances.specs.RecordStatements.{repeated, one_more, in_turn}
 use Rattle.enforcement_clients_instances.specs.FeedStatements.{kept_as}
 use Rattle.enforcement_clients_instances.specs.PublishedStatements.{signed_store, paged_store, family, ending, OpensAt, EventFields, xs, EventsFields, DayFields, FeedFields}
 
@@ -268,7 +268,6 @@ feed_fields =
     let right : (n : ℕ) → 0 < n → n < 4 → RightCount n = λ n l h. (omega arith, omega arith) in
     let at-10 = record_fields.row_10 in
     let at-22 = record_fields.refused in
-    let at-26 = record_fields.padded-client in
     let page = turn_in 1 2 (omega arith) (omega arith) in
     record {
       row-20 = (record_of 0 [] Any).row-20.1 (inl refl);
@@ -278,14 +277,10 @@ feed_fields =
       one-more =
           (record_of 2 one_more (Serial 7)).not-let-in (right 2 (omega arith) (omega arith)) (λ z. omega (arith, at-10.0)) ∙
           (λ j. feed (kept_as 7 (at-10.0 j) (at-10.1 j)));
-      padded =
-          (record_of 2 padded_client (Serial 7)).not-let-in (right 2 (omega arith) (omega arith)) (λ z. omega (arith, at-26.0)) ∙
-          (λ j. feed (kept_as 7 (at-26.0 j) (at-26.1 j)));
       late =
           (record_of 3 repeated (Serial 7)).not-let-in (right 3 (omega arith) (omega arith)) (λ z. omega (arith, record_fields.row-22)) ∙
           ap (λ (m : Admitted). feed (kept_as 7 m.refusal m.place)) at-22;
       wrong-count-fed = (record_of 501 (in_turn 1 2) (Serial 2)).wrong-count-fed 1 (inr (omega arith));
-      padded-fed = (record_of 2 padded_client (Serial 7)).not_let_in-fed 1 (λ z. omega (arith, at-26.0));
       late-fed = (record_of 3 repeated (Serial 7)).not_let_in-fed 2 (λ z. omega (arith, record_fields.row-22));
       fed = (record_of 2 (in_turn 1 2) (Serial 2)).let-in-fed 1 7 1 2 page ∙ event_fields.fed;
       others = (record_of 2 (in_turn 1 2) (Serial 2)).let-in-fed 0 7 1 2 page ∙ event_fields.others;

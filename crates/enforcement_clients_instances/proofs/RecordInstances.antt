@@ -5,7 +5,7 @@ use mathlib.Core.Logic.{inl, inr}
 use mathlib.Core.List.{List, [], ◌∷◌, append-nil}
 use native.Mathlib.Omega.{arith}
 use borrow.Author.Tests.{lt-ltb}
-use Rattle.varint.specs.Varint.{groups, read_padded, padded, read, encode, bytes, encoded}
+use Rattle.varint.specs.Varint.{groups, read, encode, bytes, encoded}
 use Rattle.base.proofs.Bools.{either}
 use Rattle.feed_record.specs.declared.Expected.{Expected}
 use Rattle.feed_record.specs.declared.Expected.TheVariants.{Any, Serial}
@@ -16,7 +16,6 @@ use Rattle.feed_record.proofs.Ring.{ring_as_worded}
 use Rattle.feed_record.proofs.Worded.{records_as_worded, reading_as_worded, not-between, records_read_back}
 use Rattle.feed_record.proofs.Telling.{serials_tell, first-let_in}
 use Rattle.enforcement_clients_instances.specs.RecordStatements.{after_gap, repeated, one_more, too_large, in_turn, Rings, RecordFields, ReadingFields}
-use Rattle.enforcement_clients_instances.specs.RecordStatements.{padded_serial, padded_client, padded_symbol}
 use Rattle.enforcement_clients_instances.specs.RecordStatements.{sign_at, Telling}
 
 -- from 65,533 to 2
@@ -78,44 +77,18 @@ pub turn_in : (g e : ℕ) → g < 128 → e < 128 → InTime (in_turn g e) (Seri
 unfolding ahead distance
 turn_in g e l k = record { is = turn-read g e l k; small = omega arith; early = omega arith }
 
--- what computes a number that is read
-unfoldable reading : ℕ
-unfolding groups read_padded encode bytes padded read
-reading = 0
-
 -- the numbers that cannot be read
 in-serial : NumberFaulty (255 ∷ 255 ∷ []) 1 0
-unfolding reading
+unfolding read groups
 in-serial = inl (refl, (refl, λ z. omega arith))
 
 in-client : NumberFaulty (7 ∷ 129 ∷ []) 1 1
-unfolding reading
+unfolding read groups
 in-client = inr (inl (record { serial = 7; serial-read = refl; refused = (refl, λ z. omega arith) }))
 
 in-symbol : NumberFaulty (7 ∷ 1 ∷ 128 ∷ 128 ∷ 128 ∷ 0 ∷ []) 2 2
-unfolding reading
+unfolding read groups
 in-symbol =
-    inr (inr (record {
-      serial = 7;
-      client-at = 1;
-      client = 1;
-      serial-read = refl;
-      client-read = refl;
-      refused = (refl, λ z. omega arith);
-    }))
-
--- .. and those that are padded
-padded-serial : NumberFaulty padded_serial 26 0
-unfolding reading
-padded-serial = inl (refl, (refl, λ z. omega arith))
-
-padded-client : NumberFaulty padded_client 26 1
-unfolding reading
-padded-client = inr (inl (record { serial = 7; serial-read = refl; refused = (refl, λ z. omega arith) }))
-
-padded-symbol : NumberFaulty padded_symbol 26 2
-unfolding reading
-padded-symbol =
     inr (inr (record {
       serial = 7;
       client-at = 1;
@@ -142,16 +115,11 @@ unfolding ahead distance following
 record_fields =
     let is-late = (rows repeated (Serial 7)).row-22.1 late in
     let at-serial = (rows repeated (Serial 7)).serial-place (inr is-late) in
-    let is-padded = ((rows padded_client (Serial 7)).numbers 26 1 (inr (inr refl))).1 padded-client in
     let is-large = (rows too_large (Serial 7)).row-21.1 (record { serial = 65536; client = 1; symbol = 3; is = large-read; large = omega arith }) in
     record {
       in-serial = ((rows (255 ∷ 255 ∷ []) (Serial 7)).numbers 1 0 (inl refl)).1 in-serial;
       in-client = ((rows (7 ∷ 129 ∷ []) (Serial 7)).numbers 1 1 (inl refl)).1 in-client;
-      in-symbol = ((rows (7 ∷ 1 ∷ 128 ∷ 128 ∷ 128 ∷ 0 ∷ []) (Serial 7)).numbers 2 2 (inr (inl refl))).1 in-symbol;
-      padded-serial = ((rows padded_serial (Serial 7)).numbers 26 0 (inr (inr refl))).1 padded-serial;
-      padded-client = is-padded;
-      padded-symbol = ((rows padded_symbol (Serial 7)).numbers 26 2 (inr (inr refl))).1 padded-symbol;
-      padded-first = ((rows padded_client Any).numbers 26 1 (inr (inr refl))).1 padded-client;
+      in-symbol = ((rows (7 ∷ 1 ∷ 128 ∷ 128 ∷ 128 ∷ 0 ∷ []) (Serial 7)).numbers 2 2 (inr refl)).1 in-symbol;
       row_10 = ((rows one_more (Serial 7)).row_10 3).1 (record { serial = 7; client = 1; symbol = 3; whole = one-more-read; more = omega arith });
       row-21 = is-large;
       row-22 = is-late;
@@ -165,12 +133,8 @@ record_fields =
       answer = (rows after_gap (Serial 1)).answer 6 1 7 gap_in;
       refused =
           (rows repeated (Serial 7)).refused (λ z. omega (arith, is-late)) ∙ (λ j. turned_away (Serial 7) (is-late j) (at-serial j));
-      padded-refused =
-          (rows padded_client (Serial 7)).refused (λ z. omega (arith, is-padded.0)) ∙
-          (λ j. turned_away (Serial 7) (is-padded.0 j) (is-padded.1 j));
       only-1 = λ s x h. ((rows s x).numbers 1 (admission s x).place (inl refl)).0 (h, refl);
-      only-2 = λ s x h. ((rows s x).numbers 2 (admission s x).place (inr (inl refl))).0 (h, refl);
-      only-26 = λ s x h. ((rows s x).numbers 26 (admission s x).place (inr (inr refl))).0 (h, refl);
+      only-2 = λ s x h. ((rows s x).numbers 2 (admission s x).place (inr refl)).0 (h, refl);
       only-10 = λ s x h. ((rows s x).row_10 (admission s x).place).0 (h, refl);
       only-21 = λ s x h. (rows s x).row-21.0 h;
       only-22 = λ s x h. (rows s x).row-22.0 h;
@@ -183,13 +147,12 @@ record_fields =
 pub reading_fields : ReadingFields
 reading_fields =
     record {
-      faulty = (reading_as_worded (7 ∷ 1 ∷ 128 ∷ 128 ∷ 128 ∷ 0 ∷ [])).faulty 2 2 (inr (inl refl)) in-symbol;
-      padded = (reading_as_worded padded_client).faulty 26 1 (inr (inr refl)) padded-client;
+      faulty = (reading_as_worded (7 ∷ 1 ∷ 128 ∷ 128 ∷ 128 ∷ 0 ∷ [])).faulty 2 2 (inr refl) in-symbol;
       left = (reading_as_worded one_more).left 3 (record { serial = 7; client = 1; symbol = 3; whole = one-more-read; more = omega arith });
       whole = (reading_as_worded after_gap).whole 6 1 7 gap_read;
       never-21 = λ s h.
           either (reading_as_worded s).known (λ k. omega arith)
-          (λ f. either f (λ g. either g (λ k. omega arith) (λ g1. either g1 (λ k. omega arith) (λ k. omega arith))) (λ k. omega arith));
+          (λ f. either f (λ g. either g (λ k. omega arith) (λ k. omega arith)) (λ k. omega arith));
     }
 
 -- Sign of client 1 at a place of an endless feed

@@ -27,7 +27,6 @@ use Rattle.enforcement_clients_instances.specs.ListStatements.{lets, answer_for,
 use Rattle.enforcement_clients_instances.specs.CallStatements.{ran, start_w, two, signed, other_table}
 use Rattle.enforcement_clients_instances.specs.RecordStatements.{last_serial, serial_zero, after_gap, repeated}
 use Rattle.enforcement_clients_instances.specs.RecordStatements.{one_more, too_large, no_client, in_turn}
-use Rattle.enforcement_clients_instances.specs.RecordStatements.{padded_client, padded_symbol}
 
 -- let in: the answer to the event, the serial that is expected next, and the loss
 abbrev pub fed_as : ReceivedFor → ℕ → ℕ → Fed
@@ -41,8 +40,8 @@ kept_as x row place =
 -- Of three clients: a Page of client 1; its Sign, with the last serial, where none is expected;
 -- Sign of client 0 with the next serial, 0; of client 1, with five lost before it, a kind that
 -- there is not; a repeat, which has Sign of client 2; a day of Receipt of client 1 and Page of
--- client 2; a padded client; a byte too many; a serial that there is not; Sign of a client 5; and
--- a record with none lent.
+-- client 2; a byte too many; a serial that there is not; Sign of a client 5; and a record with
+-- none lent.
 abbrev pub feed_calls : List ClientCall
 feed_calls =
     receive_for 3 1 2 ∷
@@ -51,7 +50,6 @@ feed_calls =
     feed_for 3 after_gap (Serial 1) ∷
     feed_for 3 repeated (Serial 7) ∷
     run_for 3 (sent 1 3 ∷ sent 2 2 ∷ []) (filled 4 9) ∷
-    feed_for 3 padded_client (Serial 7) ∷
     feed_for 3 one_more (Serial 7) ∷
     feed_for 3 too_large (Serial 7) ∷
     feed_for 3 no_client (Serial 7) ∷
@@ -66,7 +64,6 @@ feed_replies =
     feed (fed_as (refused_for 14) 7 5) ∷
     feed (kept_as 7 22 0) ∷
     ran 0 2 0 (2 ∷ 3 ∷ 9 ∷ 9 ∷ []) ∷
-    feed (kept_as 7 26 1) ∷
     feed (kept_as 7 10 3) ∷
     feed (kept_as 7 21 0) ∷
     feed (fed_as (refused_for 19) 8 0) ∷
@@ -131,7 +128,6 @@ pub record FeedRowFields : Type 0 where
   -- the record's own, the last before 19
   pub row-1 : feed_row pair [] (Serial 7) ≡ 1
   pub row-2 : feed_row pair (128 ∷ 128 ∷ 128 ∷ 0 ∷ []) (Serial 7) ≡ 2
-  pub row-26 : feed_row pair padded_symbol (Serial 7) ≡ 26
   pub row_10 : feed_row pair one_more (Serial 7) ≡ 10
   pub row-21 : feed_row pair too_large (Serial 7) ≡ 21
   pub row-22 : feed_row pair repeated (Serial 7) ≡ 22
@@ -149,7 +145,6 @@ pub record FeedRowFields : Type 0 where
   pub only-11 : (a : Automaton) (s : List ℕ) (x : Expected) → feed_refusal a table_w here s x ≡ 11 → valid a ≡ false
   pub only-12 : (t s : List ℕ) (x : Expected) → feed_refusal automaton_w t here s x ≡ 12 → short automaton_w t ≡ true
   pub only-20 : (cs : List Configuration) (s : List ℕ) (x : Expected) → feed_row cs s x ≡ 20 → WrongCount (length cs)
-  pub only-26 : (cs : List Configuration) (s : List ℕ) (x : Expected) → feed_row cs s x ≡ 26 → (admission s x).refusal ≡ 26
   pub only-22 : (cs : List Configuration) (s : List ℕ) (x : Expected) → feed_row cs s x ≡ 22 → (admission s x).refusal ≡ 22
   pub only-19 : (cs : List Configuration) (s : List ℕ) (x : Expected) → feed_row cs s x ≡ 19 → length cs ≤ (admission s x).client
   pub only-13 : (c : Configuration) → feed_row (broken ∷ c ∷ []) (in_turn 1 0) (Serial 7) ≡ 13
@@ -168,8 +163,6 @@ pub record FeedAnswerFields : Type 0 where
       × (fed_clients automaton_w table_w [] one_more (Serial 7) ≡ [])
   pub by-record : (fed_for automaton_w table_w two one_more (Serial 7) ≡ kept_as 7 10 3)
       × (fed_clients automaton_w table_w two one_more (Serial 7) ≡ two)
-  pub by-padded : (fed_for automaton_w table_w two padded_client (Serial 7) ≡ kept_as 7 26 1)
-      × (fed_clients automaton_w table_w two padded_client (Serial 7) ≡ two)
   -- Sign of client 1, with five lost before it ..
   pub let-in : (fed_for automaton_w table_w two (in_turn 1 0) (Serial 2) ≡ fed_as (answer_for (0 ∷ []) (1 ∷ [])) 8 5)
       × (fed_clients automaton_w table_w two (in_turn 1 0) (Serial 2) ≡ signed)
@@ -182,7 +175,6 @@ pub record FeedAnswerFields : Type 0 where
   -- the events that they bring
   pub own : event_in after_gap (Serial 1) ≡ (1, 7) ∷ []
   pub no_event : event_in repeated (Serial 7) ≡ []
-  pub padded-no-event : event_in padded_client (Serial 7) ≡ []
   -- Sign is emitted, and the other places hold 0, of the places in the input too
   pub emitted-count : (fed_for automaton_w table_w two (in_turn 1 0) (Serial 2)).answer.count ≤ 7
   pub emitted-length : length (fed_for automaton_w table_w two (in_turn 1 0) (Serial 2)).answer.emitted ≡ 7

@@ -23,7 +23,7 @@ use Rattle.enforcement_clients_instances.specs.ListStatements.{sent, broken, wai
 use Rattle.enforcement_clients_instances.specs.CallStatements.{refused, ran, two, signed, calls, call_replies}
 use Rattle.enforcement_clients_instances.specs.CallStatements.{last_zero, last_one}
 use Rattle.enforcement_clients_instances.specs.RecordStatements.{last_serial, serial_zero, after_gap, repeated}
-use Rattle.enforcement_clients_instances.specs.RecordStatements.{one_more, too_large, no_client, padded_client, in_turn}
+use Rattle.enforcement_clients_instances.specs.RecordStatements.{one_more, too_large, no_client, in_turn}
 use Rattle.enforcement_clients_instances.specs.FeedStatements.{fed_as, kept_as, feed_calls, feed_replies, feed_clients}
 
 -- an event's answer that emits Page and Receipt, of places 300 and 302, and is winning
@@ -97,8 +97,8 @@ abbrev pub at_fourth : Fed
 at_fourth = kept_as 7 10 3
 
 -- the calls on three clients with records of the feed, as they are made through C: the first lends
--- bytes that say that none is expected, whatever stands behind it, and those of a repeat and of a
--- padded record say 7 in their own way
+-- bytes that say that none is expected, whatever stands behind it, and a repeat's say 7 in their
+-- own way
 abbrev pub lent_feed_calls : List LentCall
 lent_feed_calls =
     lent_receive 3 1 2 ∷
@@ -107,7 +107,6 @@ lent_feed_calls =
     lent_feed 3 after_gap (1 ∷ 1 ∷ 0 ∷ []) ∷
     lent_feed 3 repeated (9 ∷ 7 ∷ 0 ∷ []) ∷
     lent_run 3 (sent 1 3 ∷ sent 2 2 ∷ []) (filled 4 9) ∷
-    lent_feed 3 padded_client (9 ∷ 7 ∷ 0 ∷ []) ∷
     lent_feed 3 one_more (1 ∷ 7 ∷ 0 ∷ []) ∷
     lent_feed 3 too_large (1 ∷ 7 ∷ 0 ∷ []) ∷
     lent_feed 3 no_client (1 ∷ 7 ∷ 0 ∷ []) ∷
@@ -122,7 +121,6 @@ serials_left =
     (1 ∷ 7 ∷ 0 ∷ []) ∷
     (9 ∷ 7 ∷ 0 ∷ []) ∷
     [] ∷
-    (9 ∷ 7 ∷ 0 ∷ []) ∷
     (1 ∷ 7 ∷ 0 ∷ []) ∷
     (1 ∷ 7 ∷ 0 ∷ []) ∷
     (1 ∷ 8 ∷ 0 ∷ []) ∷
@@ -164,7 +162,7 @@ pub record FeedLayouts : Type 0 where
   pub enforced-replies : beside_all record_w table_w (initial_list record_w (any_bytes ∷ any_bytes ∷ any_bytes ∷ [])) lent_feed_calls
       ≡ laid_all lent_feed_calls feed_replies
   pub enforced-rows : map (λ (x : BesideList). x.refusal) (laid_all lent_feed_calls feed_replies)
-      ≡ 0 ∷ 0 ∷ 0 ∷ 14 ∷ 22 ∷ 0 ∷ 26 ∷ 10 ∷ 21 ∷ 19 ∷ 20 ∷ []
+      ≡ 0 ∷ 0 ∷ 0 ∷ 14 ∷ 22 ∷ 0 ∷ 10 ∷ 21 ∷ 19 ∷ 20 ∷ []
   pub enforced-serials : map (λ (x : BesideList). x.expected) (laid_all lent_feed_calls feed_replies) ≡ serials_left
   pub enforced-list : next_for_all record_w table_w (initial_list record_w (any_bytes ∷ any_bytes ∷ any_bytes ∷ [])) lent_feed_calls
       ≡ feed_clients

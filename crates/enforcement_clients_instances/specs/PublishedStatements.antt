@@ -15,7 +15,7 @@ use Rattle.enforcement_clients.specs.ClientCalls.{receive_for, run_for, feed_for
 use Rattle.enforcement_clients.specs.Functions.{Functions, fed_own, fed_in, put_out, refused_day, expected_in}
 use Rattle.enforcement_clients_instances.specs.ListStatements.{sent, answer_for}
 use Rattle.enforcement_clients_instances.specs.CallStatements.{refused, ran}
-use Rattle.enforcement_clients_instances.specs.RecordStatements.{repeated, one_more, padded_client, in_turn}
+use Rattle.enforcement_clients_instances.specs.RecordStatements.{repeated, one_more, in_turn}
 use Rattle.enforcement_clients_instances.specs.FeedStatements.{fed_as, kept_as}
 
 -- a function that put out Sign and holds nothing; and then holds a Page
@@ -121,14 +121,12 @@ pub record FeedFields : Type 0 where
   pub row-20-many : feed_row_of 501 [] Any ≡ 20
   -- and the other way
   pub only-20 : (n : ℕ) (s : List ℕ) (x : Expected) → feed_row_of n s x ≡ 20 → WrongCount n
-  -- not let in, by 20, for a byte too many, for a padded client and as a repeat: the expected
-  -- serial is kept, and each function
+  -- not let in, by 20, for a byte too many and as a repeat: the expected serial is kept, and each
+  -- function
   pub wrong-count : expected_in automaton_w 501 family (feed_for 501 one_more (Serial 7)) ≡ feed (kept_as 7 20 0)
   pub one-more : expected_in automaton_w 2 family (feed_for 2 one_more (Serial 7)) ≡ feed (kept_as 7 10 3)
-  pub padded : expected_in automaton_w 2 family (feed_for 2 padded_client (Serial 7)) ≡ feed (kept_as 7 26 1)
   pub late : expected_in automaton_w 3 family (feed_for 3 repeated (Serial 7)) ≡ feed (kept_as 7 22 0)
   pub wrong-count-fed : fed_in automaton_w 501 family (feed_for 501 (in_turn 1 2) (Serial 2)) 1 ≡ signed_store
-  pub padded-fed : fed_in automaton_w 2 family (feed_for 2 padded_client (Serial 7)) 1 ≡ signed_store
   pub late-fed : fed_in automaton_w 3 family (feed_for 3 repeated (Serial 7)) 2 ≡ signed_store
   -- let in, with five lost before it: client 1's Page is held, and client 0's function is what it
   -- was

@@ -33,17 +33,6 @@ too_large = 128 ∷ 128 ∷ 4 ∷ 1 ∷ 3 ∷ []
 abbrev pub no_client : List ℕ
 no_client = 7 ∷ 5 ∷ 0 ∷ []
 
--- Receipt of client 1 with serial 7, the serial padded; the client; and the symbol, in three
--- groups with a byte too many behind it
-abbrev pub padded_serial : List ℕ
-padded_serial = 135 ∷ 0 ∷ 1 ∷ 3 ∷ []
-
-abbrev pub padded_client : List ℕ
-padded_client = 7 ∷ 129 ∷ 0 ∷ 3 ∷ []
-
-abbrev pub padded_symbol : List ℕ
-padded_symbol = 7 ∷ 1 ∷ 131 ∷ 128 ∷ 0 ∷ 9 ∷ []
-
 -- the event e of client g, both small, with serial 7
 abbrev pub in_turn : ℕ → ℕ → List ℕ
 in_turn g e = 7 ∷ g ∷ e ∷ []
@@ -71,12 +60,6 @@ pub record RecordFields : Type 0 where
   pub in-client : (row_of (7 ∷ 129 ∷ []) (Serial 7) ≡ 1) × (place_of (7 ∷ 129 ∷ []) (Serial 7) ≡ 1)
   pub in-symbol : (row_of (7 ∷ 1 ∷ 128 ∷ 128 ∷ 128 ∷ 0 ∷ []) (Serial 7) ≡ 2)
       × (place_of (7 ∷ 1 ∷ 128 ∷ 128 ∷ 128 ∷ 0 ∷ []) (Serial 7) ≡ 2)
-  -- a padded number at its own place, and before 10
-  pub padded-serial : (row_of padded_serial (Serial 7) ≡ 26) × (place_of padded_serial (Serial 7) ≡ 0)
-  pub padded-client : (row_of padded_client (Serial 7) ≡ 26) × (place_of padded_client (Serial 7) ≡ 1)
-  pub padded-symbol : (row_of padded_symbol (Serial 7) ≡ 26) × (place_of padded_symbol (Serial 7) ≡ 2)
-  -- .. where none is expected too
-  pub padded-first : (row_of padded_client Any ≡ 26) × (place_of padded_client Any ≡ 1)
   pub row_10 : (row_of one_more (Serial 7) ≡ 10) × (place_of one_more (Serial 7) ≡ 3)
   pub row-21 : row_of too_large (Serial 7) ≡ 21
   pub row-22 : row_of repeated (Serial 7) ≡ 22
@@ -90,12 +73,9 @@ pub record RecordFields : Type 0 where
       ≡ record { refusal = 0; place = 0; expected = Serial 7; loss = 5; client = 1; symbol = 7 }
   pub refused : admission repeated (Serial 7)
       ≡ record { refusal = 22; place = 0; expected = Serial 7; loss = 0; client = 0; symbol = 0 }
-  pub padded-refused : admission padded_client (Serial 7)
-      ≡ record { refusal = 26; place = 1; expected = Serial 7; loss = 0; client = 0; symbol = 0 }
   -- and the other way
   pub only-1 : (s : List ℕ) (x : Expected) → row_of s x ≡ 1 → NumberFaulty s 1 (place_of s x)
   pub only-2 : (s : List ℕ) (x : Expected) → row_of s x ≡ 2 → NumberFaulty s 2 (place_of s x)
-  pub only-26 : (s : List ℕ) (x : Expected) → row_of s x ≡ 26 → NumberFaulty s 26 (place_of s x)
   pub only-10 : (s : List ℕ) (x : Expected) → row_of s x ≡ 10 → BytesLeft s (place_of s x)
   pub only-21 : (s : List ℕ) (x : Expected) → row_of s x ≡ 21 → LargeSerial s
   pub only-22 : (s : List ℕ) (x : Expected) → row_of s x ≡ 22 → LateSerial s x
@@ -106,10 +86,9 @@ pub record RecordFields : Type 0 where
   -- the last serial, client 1 and Sign, with a byte behind them
   pub read_back : Whole (255 ∷ 255 ∷ 3 ∷ 1 ∷ 0 ∷ 9 ∷ []) 65535 1 0 5
 
--- what is read: a symbol of four bytes, a padded client, a byte too many, three numbers
+-- what is read: a symbol of four bytes, a byte too many, three numbers
 pub record ReadingFields : Type 0 where
   pub faulty : record_in (7 ∷ 1 ∷ 128 ∷ 128 ∷ 128 ∷ 0 ∷ []) ≡ record { refusal = 2; place = 2; serial = 0; client = 0; symbol = 0 }
-  pub padded : record_in padded_client ≡ record { refusal = 26; place = 1; serial = 0; client = 0; symbol = 0 }
   pub left : record_in one_more ≡ record { refusal = 10; place = 3; serial = 0; client = 0; symbol = 0 }
   pub whole : record_in after_gap ≡ record { refusal = 0; place = 0; serial = 6; client = 1; symbol = 7 }
   -- a serial's rows are none of reading's

@@ -1,18 +1,17 @@
 -- The sheets V and W: they pass row 11, and their tables are solved.
 use mathlib.Core.Path.{◌≡◌, refl}
-use mathlib.Core.Bool.{true, false}
+use mathlib.Core.Bool.{true}
 use mathlib.Core.List.{[], append-nil}
 use Prim.Native.Nat.{ℕ}
 use Rattle.base.specs.Each.{each, count, those, last_or}
 use Rattle.base.specs.Rows.{first}
 use Rattle.base.specs.Pad.{pad}
 use Rattle.base.specs.Masks.{has, mask}
-use Rattle.varint.specs.Varint.{groups, read_padded, read_by}
+use Rattle.varint.specs.Varint.{groups, read}
 use Rattle.automaton.specs.Arrays.{controllable_in, stands, places_stand}
 use Rattle.automaton.specs.Automaton.{controllable, controllables, step, reached}
 use Rattle.automaton.specs.Automaton.{shaped, ranged, classes_stand, flags_stand, next_stand, valid}
-use Rattle.automaton_format.specs.Reading.{checked, between, item_row, numbers, next_states, after_number, after_numbers, tables, automaton_from, parse_by, parse, parsed}
-use Rattle.automaton_canonical.specs.Claims.{padded_v}
+use Rattle.automaton_format.specs.Reading.{checked, between, item_row, numbers, next_states, after_number, after_numbers, tables, automaton_from, parse, parsed}
 use Rattle.automaton_format.proofs.Trips.{read-is-valid}
 use Rattle.solver_sets.specs.Table.{index, rank, in_base_k, shorter, buffers_count, short, table, Solved}
 use Rattle.solver_sets.proofs.Tables.{table-is-solved}
@@ -23,31 +22,21 @@ use Rattle.configuration.specs.Configuration.{consistent_in, initial_of}
 use Rattle.monitor_rule.specs.Step.{by_table, qualifies, qualifying, release, remaining, arrival, effect}
 use Rattle.monitor_rule.specs.Step.{in_line, sources, is_shut, event_rows, event_refusal, run_of}
 use Rattle.monitor_answers.specs.Answers.{table_rows, configuration_rows, call_rows, is_winning, call_refusal, status, receive_refusal, received, room, run_refusal, ran}
-use Rattle.enforcement_cases.specs.Cases.{bytes_v, bytes_w, automaton_v, automaton_w}
+use Rattle.enforcement_cases.specs.Cases.{bytes_w, automaton_v, automaton_w}
 use Rattle.enforcement_cases.proofs.Cases.{marked-cases}
-use Rattle.enforcement_instances.specs.Statements.{filled, table_w}
-
-pub read-bytes-v : parse bytes_v ≡ parsed automaton_v
-read-bytes-v = marked-cases.0
-
-pub read-bytes-w : parse bytes_w ≡ parsed automaton_w
-read-bytes-w = marked-cases.1.0
-
-pub strict_w : parse_by true bytes_w ≡ parsed automaton_w
-unfolding parse
-strict_w = read-bytes-w
+use Rattle.enforcement_instances.specs.Statements.{filled, padded_v, table_w}
 
 pub valid-w : valid automaton_w ≡ true
-valid-w = read-is-valid true bytes_w automaton_w strict_w
+valid-w = read-is-valid bytes_w automaton_w marked-cases.1.0
 
-pub read-v : parse_by false padded_v ≡ parsed automaton_v
+pub read-v : parse padded_v ≡ parsed automaton_v
 unfolding
-    each count pad groups read_padded read_by controllable_in first
-    checked between item_row numbers next_states after_number after_numbers tables automaton_from parse_by automaton_v padded_v
+    each count pad groups read controllable_in first
+    checked between item_row numbers next_states after_number after_numbers tables automaton_from parse automaton_v
 read-v = refl
 
 pub valid-v : valid automaton_v ≡ true
-valid-v = read-is-valid false padded_v automaton_v read-v
+valid-v = read-is-valid padded_v automaton_v read-v
 
 -- what the solver asks of W's table
 pub solves_w : solve_refusal automaton_w (filled 16 9) ≡ 0

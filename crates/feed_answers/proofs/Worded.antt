@@ -24,7 +24,6 @@ use Rattle.clients_answers.proofs.Single.{clients-emitted-padded}
 use Rattle.feed_record.specs.declared.Expected.{Expected}
 use Rattle.feed_record.specs.declared.Admitted.{Admitted}
 use Rattle.feed_record.specs.Records.{record_rows, admission}
-use Rattle.feed_record.specs.Claims.{NumberRow}
 use Rattle.feed_record.proofs.Laws.{rows_stand, rows_pass}
 use Rattle.feed_record.proofs.Worded.{records_as_worded}
 use Rattle.feed_answers.specs.Feed.{feed_refusal, fed_for, event_in, fed_clients}
@@ -33,36 +32,26 @@ use Rattle.feed_answers.specs.Claims.{FeedNoninterference, FeedKeepsOthers, Feed
 use Rattle.feed_answers.proofs.Entering.{fed-list, fed_record, fed-in}
 
 -- a record's rows lie below those of the list and the event, or above the list's and below the
--- event's last, or above all of them
+-- event's last
 abbrev Apart : ℕ → Type 0
-Apart n = ((0 < n) × (n < 11)) ⊎ ((20 < n) × (n < 23)) ⊎ (23 < n)
-
-number_apart : (n : ℕ) → NumberRow n → Apart n
-number_apart n l =
-    either l (λ e. inl (omega arith, omega arith))
-    (λ l2. either l2 (λ e. inl (omega arith, omega arith)) (λ e. inr (inr (omega arith))))
+Apart n = ((0 < n) × (n < 11)) ⊎ ((20 < n) × (n < 23))
 
 apart : (n : ℕ) → RecordRow n → Apart n
 apart n r =
-    either r (number_apart n)
-    (λ r2. either r2 (λ e. inl (omega arith, omega arith))
-    (λ r3. either r3 (λ e. inr (inl (omega arith, omega arith))) (λ e. inr (inl (omega arith, omega arith)))))
+    either r (λ l. either l (λ e. inl (omega arith, omega arith)) (λ e. inl (omega arith, omega arith)))
+    (λ r2. either r2 (λ e. inl (omega arith, omega arith)) (λ r3. either r3 (λ e. inr (omega arith, omega arith)) (λ e. inr (omega arith, omega arith))))
 
 record_later : (n : ℕ) → RecordRow n → Later n
 record_later n r =
     either (apart n r)
     (λ (some, low). (λ h. omega arith, λ h. omega arith, λ h. omega arith))
-    (λ more. either more
     (λ (high, below). (λ h. omega arith, λ h. omega arith, λ h. omega arith))
-    (λ above. (λ h. omega arith, λ h. omega arith, λ h. omega arith)))
 
 record_not_inner : (n : ℕ) → RecordRow n → Inner n → ⊥
 record_not_inner n r i =
     either (apart n r)
     (λ (some, low). either i (λ z. omega arith) (λ k. either k (λ (l, h). omega arith) (λ h. omega arith)))
-    (λ more. either more
     (λ (high, below). either i (λ z. omega arith) (λ k. either k (λ (l, h). omega arith) (λ h. omega arith)))
-    (λ above. either i (λ z. omega arith) (λ k. either k (λ (l, h). omega arith) (λ h. omega arith))))
 
 module _ (a : Automaton) (t : List ℕ) (cs : List Configuration) (s : List ℕ) (expected : Expected) where
   abbrev m : Admitted

@@ -49,7 +49,7 @@ pub record FeedAnswered (a : Automaton) (t : List ℕ) (cs : List Configuration)
         loss = 0;
       })
       × (fed_clients a t cs s expected ≡ cs)
-  -- by 1, 2, 26, 10, 21 or 22: at its place; the expected serial as it was given, none too
+  -- by 1, 2, 10, 21 or 22: at its place; the expected serial as it was given, none too
   pub by-record : ListClear a t (length cs) → ((admission s expected).refusal ≡ 0 → ⊥)
       → (fed_for a t cs s expected
       ≡ record {

@@ -11,7 +11,7 @@ use Rattle.feed_record.specs.declared.Admitted.{Admitted}
 use Rattle.feed_record.specs.Records.{record_rows, admission}
 pub use Rattle.feed_answers.specs.declared.Fed.{Fed}
 
--- The rows before those of its event: 11, 12, 20; then the record's own, 1, 2, 26, 10, 21, 22. A
+-- The rows before those of its event: 11, 12, 20; then the record's own, 1, 2, 10, 21, 22. A
 -- record that none of them refuses is let in.
 unfoldable pub entry_refusal : Automaton → List ℕ → ℕ → List ℕ → Expected → ℕ
 entry_refusal a t count s expected = first (list_rows a t count ++ record_rows s expected)

@@ -1,23 +1,19 @@
 -- The cases of reading a record and of letting it in.
-use Rattle.std.proofs.Common.{◌≡◌, ℕ, suc, ◌<◌, ◌≤◌, Bool, eqb, ltb, leb, List, [], ◌∷◌, ◌++◌, length, sym, refl, ap, ◌∙◌, inl, inr, append_assoc, arith, ltb-false, ltb-true, le-ltb, lt-ltb, eq-eqb, ne_eqb, eqb-true, le-leb}
+use Rattle.std.proofs.Common.{◌≡◌, ℕ, suc, ◌<◌, ◌≤◌, Bool, eqb, ltb, leb, ◌⊎◌, List, [], ◌∷◌, ◌++◌, length, sym, refl, ap, ◌∙◌, inl, inr, append_assoc, arith, ltb-false, ltb-true, le-ltb, lt-ltb, eq-eqb, ne_eqb, eqb-true, le-leb}
 use borrow.Author.Tests.{lt-leb}
 use Rattle.base.specs.Rows.{first}
 use Rattle.base.proofs.Bools.{by, either}
 use Rattle.base.proofs.Refusals.{first-before, first_clear}
 use Rattle.varint.specs.declared.Number.{Number}
 use Rattle.varint.specs.Varint.{value, fault, read}
-use Rattle.varint.proofs.Strict.{read-cases}
+use Rattle.varint.proofs.Laws.{read-cases}
 use Rattle.varint.proofs.Trips.{read-inside}
 use Rattle.feed_record.specs.declared.Expected.{Expected}
 use Rattle.feed_record.specs.declared.Record.{Record}
 use Rattle.feed_record.specs.Serials.{ahead}
 use Rattle.feed_record.specs.Records.{Numbers, numbers, in_record, serial_in, client_in, symbol_in, byte_rows, unread, record_in, serial_rows, record_rows}
 use Rattle.feed_record.specs.Records.{turned_away, let_in, admission}
-use Rattle.feed_record.specs.Claims.{Reads, Faulty, NumberRow, Whole, NumberFaulty}
-
--- the number reader has no row 0
-pub some-row : (row : ℕ) → NumberRow row → row ≡ 0 → ⊥
-some-row row l z = either l (λ h. omega arith) (λ l1. either l1 (λ h. omega arith) (λ h. omega arith))
+use Rattle.feed_record.specs.Claims.{Reads, Faulty, Whole, NumberFaulty}
 
 -- a number that is refused is refused where it begins
 pub fault-is : (s : List ℕ) (at row : ℕ) → Faulty s at row → read s at ≡ fault row at
@@ -69,11 +65,17 @@ module _ (s : List ℕ) where
       )))
 
   -- one of its numbers is refused, or all are read
-  faulty-at : (at row : ℕ) → NumberRow row → read s at ≡ fault row at → Faulty s at row
-  faulty-at at row l e = (ap (λ n. n.refusal) e, some-row row l)
+  abbrev Low : ℕ → Type 0
+  Low row = (row ≡ 1) ⊎ (row ≡ 2)
+
+  low_some : (row : ℕ) → Low row → row ≡ 0 → ⊥
+  low_some row l z = either l (λ h. omega arith) (λ h. omega arith)
+
+  faulty-at : (at row : ℕ) → Low row → read s at ≡ fault row at → Faulty s at row
+  faulty-at at row l e = (ap (λ n. n.refusal) e, low_some row l)
 
   pub record_cases : {R : Type 0}
-      → ((row place : ℕ) → NumberRow row → NumberFaulty s row place → R)
+      → ((row place : ℕ) → Low row → NumberFaulty s row place → R)
       → ((serial client symbol end : ℕ) → Whole s serial client symbol end → R)
       → R
   record_cases refused all =
@@ -147,7 +149,7 @@ module _ (s : List ℕ) where
   passed rows z =
       let clear = sym row_is ∙ z in
       record_cases
-      (λ row place l f. absurd (some-row row l (sym (faulty-row row place (some-row row l) f) ∙ clear)))
+      (λ row place l f. absurd (low_some row l (sym (faulty-row row place (low_some row l) f) ∙ clear)))
       (λ serial client symbol end w. by (ltb end (length s))
       (λ h. let k = left-row serial client symbol end w (ltb-true end (length s) h) in absurd (omega arith))
       (λ h. passed-whole rows serial client symbol end w (ltb-false end (length s) h)))
@@ -157,7 +159,7 @@ module _ (s : List ℕ) where
   pub reads : (at : ℕ) (n : Number) → n ≡ read s at → n.refusal ≡ 0 → Reads s at n.value n.place
   reads at n e z =
       read-cases s at
-      (λ row l h. absurd (some-row row l (sym (ap (λ m. m.refusal) (e ∙ h)) ∙ z)))
+      (λ row l h. absurd (low_some s row l (sym (ap (λ m. m.refusal) (e ∙ h)) ∙ z)))
       (λ v next h. h ∙ (λ i. value (sym (ap (λ m. m.value) (e ∙ h)) i) (sym (ap (λ m. m.place) (e ∙ h)) i)))
 
   faulty : (at : ℕ) (n : Number) → n ≡ read s at → (n.refusal ≡ 0 → ⊥) → Faulty s at n.refusal × (n.place ≡ at)

@@ -9,7 +9,7 @@ use Rattle.feed_record.specs.Serials.{ahead}
 use Rattle.feed_record.specs.Records.{record_in, turned_away, let_in, admission}
 use Rattle.feed_record.specs.Claims.{NumberRow, Whole, NumberFaulty, BytesLeft, RecordIs, LargeSerial, LateSerial, InTime, Timely}
 use Rattle.feed_record.specs.Claims.{RecordsAsWorded, ReadingAsWorded, RecordsReadBack}
-use Rattle.feed_record.proofs.Laws.{some-row, record_cases, whole-inside, record_faulty, record_left, record_whole, admit_unread, admit_large, admit_late, admit_in}
+use Rattle.feed_record.proofs.Laws.{record_cases, whole-inside, record_faulty, record_left, record_whole, admit_unread, admit_large, admit_late, admit_in}
 
 module _ (s : List ℕ) (expected : Expected) where
   abbrev m : Admitted
@@ -61,7 +61,7 @@ module _ (s : List ℕ) (expected : Expected) where
   cases : {R : Type 0} → Cases R → R
   cases c =
       record_cases s
-      (λ row place l f. c.faulty row place l f (is-faulty row place (some-row row l) f))
+      (λ row place l f. c.faulty row place l f (is-faulty row place (either l (λ h z. omega arith) (λ h z. omega arith)) f))
       (λ serial client symbol end w. by (ltb end (length s))
       (λ h.
       let l = ltb-true end (length s) h in
@@ -73,27 +73,26 @@ module _ (s : List ℕ) (expected : Expected) where
   other : {R : Type 0} (row place : ℕ) (n : ℕ) → m ≡ turned_away expected row place → m.refusal ≡ n → (row ≡ n → ⊥) → R
   other row place n e h z = absurd (z (sym (ap (λ a. a.refusal) e) ∙ h))
 
-  -- the number reader has no row from 3 to 25
-  row-not : (row n : ℕ) → NumberRow row → 3 ≤ n → n < 26 → row ≡ n → ⊥
-  row-not row n l g g1 h = either l (λ k. omega arith) (λ l1. either l1 (λ k. omega arith) (λ k. omega arith))
+  low_not : (row n : ℕ) → NumberRow row → 3 ≤ n → row ≡ n → ⊥
+  low_not row n l g h = either l (λ k. omega arith) (λ k. omega arith)
 
   of_number : (row place : ℕ) → NumberRow row → (m.refusal ≡ row) × (m.place ≡ place) → NumberFaulty s row place
   of_number row place l (h, p) =
-      let none : (n : ℕ) → 3 ≤ n → n < 26 → n ≡ row → ⊥ = λ n g g1 k. row-not row n l g g1 (sym k) in
+      let not-high : (n : ℕ) → 3 ≤ n → n ≡ row → ⊥ = λ n g k. low_not row n l g (sym k) in
       cases (record {
         faulty = λ k q _ f e.
             subst (λ x. NumberFaulty s x place) (sym (ap (λ a. a.refusal) e) ∙ h)
             (subst (λ x. NumberFaulty s k x) (sym (ap (λ a. a.place) e) ∙ p) f);
-        left = λ q b e. other 10 q row e h (none 10 (omega arith) (omega arith));
-        large = λ g e. other 21 0 row e h (none 21 (omega arith) (omega arith));
-        late = λ g e. other 22 0 row e h (none 22 (omega arith) (omega arith));
-        timely = λ g e. absurd (some-row row l (sym h ∙ e));
+        left = λ q b e. other 10 q row e h (not-high 10 (omega arith));
+        large = λ g e. other 21 0 row e h (not-high 21 (omega arith));
+        late = λ g e. other 22 0 row e h (not-high 22 (omega arith));
+        timely = λ g e. absurd (either l (λ k. omega arith) (λ k. omega arith));
       })
 
   of_10 : (place : ℕ) → (m.refusal ≡ 10) × (m.place ≡ place) → BytesLeft s place
   of_10 place (h, p) =
       cases (record {
-        faulty = λ k q l f e. other k q 10 e h (row-not k 10 l (omega arith) (omega arith));
+        faulty = λ k q l f e. other k q 10 e h (low_not k 10 l (omega arith));
         left = λ q b e. subst (BytesLeft s) (sym (ap (λ a. a.place) e) ∙ p) b;
         large = λ g e. other 21 0 10 e h (λ k. omega arith);
         late = λ g e. other 22 0 10 e h (λ k. omega arith);
@@ -103,7 +102,7 @@ module _ (s : List ℕ) (expected : Expected) where
   of_21 : m.refusal ≡ 21 → LargeSerial s
   of_21 h =
       cases (record {
-        faulty = λ k q l f e. other k q 21 e h (row-not k 21 l (omega arith) (omega arith));
+        faulty = λ k q l f e. other k q 21 e h (low_not k 21 l (omega arith));
         left = λ q b e. other 10 q 21 e h (λ k. omega arith);
         large = λ g e. g;
         late = λ g e. other 22 0 21 e h (λ k. omega arith);
@@ -113,7 +112,7 @@ module _ (s : List ℕ) (expected : Expected) where
   of_22 : m.refusal ≡ 22 → LateSerial s expected
   of_22 h =
       cases (record {
-        faulty = λ k q l f e. other k q 22 e h (row-not k 22 l (omega arith) (omega arith));
+        faulty = λ k q l f e. other k q 22 e h (low_not k 22 l (omega arith));
         left = λ q b e. other 10 q 22 e h (λ k. omega arith);
         large = λ g e. other 21 0 22 e h (λ k. omega arith);
         late = λ g e. g;
@@ -123,7 +122,7 @@ module _ (s : List ℕ) (expected : Expected) where
   of_0 : m.refusal ≡ 0 → Timely s expected
   of_0 h =
       cases (record {
-        faulty = λ k q l f e. other k q 0 e h (some-row k l);
+        faulty = λ k q l f e. other k q 0 e h (λ z. either l (λ y. omega arith) (λ y. omega arith));
         left = λ q b e. other 10 q 0 e h (λ k. omega arith);
         large = λ g e. other 21 0 0 e h (λ k. omega arith);
         late = λ g e. other 22 0 0 e h (λ k. omega arith);
@@ -162,7 +161,7 @@ records_as_worded s expected =
       numbers = λ row place l. (
         of_number s expected row place l,
         λ f.
-            let e = is-faulty s expected row place (some-row row l) f in
+            let e = is-faulty s expected row place (either l (λ h z. omega arith) (λ h z. omega arith)) f in
             (ap (λ a. a.refusal) e, ap (λ a. a.place) e),
       );
       row_10 = λ place. (
@@ -194,11 +193,14 @@ records_as_worded s expected =
 pub not-between : (s : List ℕ) (expected : Expected) (n : ℕ) → 10 < n → n < 21 → (admission s expected).refusal ≡ n → ⊥
 not-between s expected n l h e =
     either (records_as_worded s expected).known (λ k. omega arith)
-    (λ f. either f (λ l1. row-not s expected _ n l1 (omega arith) (omega arith) e)
+    (λ f. either f (λ f1. either f1 (λ k. omega arith) (λ k. omega arith))
     (λ f2. either f2 (λ k. omega arith) (λ f3. either f3 (λ k. omega arith) (λ k. omega arith))))
 
 -- what reading answers
 module _ (s : List ℕ) where
+  some-row : (row : ℕ) → NumberRow row → row ≡ 0 → ⊥
+  some-row row l z = either l (λ h. omega arith) (λ h. omega arith)
+
   read_known : ((record_in s).refusal ≡ 0) ⊎ NumberRow (record_in s).refusal ⊎ ((record_in s).refusal ≡ 10)
   read_known =
       record_cases s
@@ -210,7 +212,7 @@ module _ (s : List ℕ) where
 pub reading_as_worded : ReadingAsWorded
 reading_as_worded s =
     record {
-      faulty = λ row place l f. sym (record_faulty s row place (some-row row l) f);
+      faulty = λ row place l f. sym (record_faulty s row place (some-row s row l) f);
       left = λ place b. sym (record_left s b.serial b.client b.symbol place b.whole b.more);
       whole = λ serial client symbol r. sym (record_whole s serial client symbol (length s) r (omega arith));
       known = read_known s;

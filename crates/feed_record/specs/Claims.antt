@@ -2,7 +2,6 @@
 -- tell.
 use Rattle.std.specs.Prelude.{◌≡◌, ℕ, ◌+◌, ◌-◌, ◌%◌, ◌<◌, ◌≤◌, ◌⊎◌, ◌↔◌, List, [], ◌∷◌, ◌++◌, length, ◌≢◌}
 use Rattle.varint.specs.Varint.{value, read, encoded}
-pub use Rattle.varint.specs.Claims.{NumberRow}
 use Rattle.feed_record.specs.declared.Expected.{Expected}
 use Rattle.feed_record.specs.declared.Expected.TheVariants.{Any, Serial}
 use Rattle.feed_record.specs.declared.Admitted.{Admitted}
@@ -29,6 +28,10 @@ Reads s at v next = read s at ≡ value v next
 
 abbrev pub Faulty : List ℕ → ℕ → ℕ → Type 0
 Faulty s at row = ((read s at).refusal ≡ row) × (row ≢ 0)
+
+-- the rows of the number reader
+abbrev pub NumberRow : ℕ → Type 0
+NumberRow row = (row ≡ 1) ⊎ (row ≡ 2)
 
 -- the three numbers of a record, left to right, the last of which ends at `end`
 pub record Whole (s : List ℕ) (serial client symbol end : ℕ) : Type 0 where
@@ -98,7 +101,7 @@ pub record Timely (s : List ℕ) (expected : Expected) : Type 0 where
 
 -- A record's answer, each row exactly when document 02 says so; its place; and the whole answer.
 pub record RecordRows (s : List ℕ) (expected : Expected) (m : Admitted) : Type 0 where
-  -- 1, 2 and 26, of the first number that is refused
+  -- 1 and 2, of the first number that is refused
   pub numbers : (row place : ℕ) → NumberRow row → ((m.refusal ≡ row) × (m.place ≡ place)) ↔ NumberFaulty s row place
   pub row_10 : (place : ℕ) → ((m.refusal ≡ 10) × (m.place ≡ place)) ↔ BytesLeft s place
   pub row-21 : (m.refusal ≡ 21) ↔ LargeSerial s

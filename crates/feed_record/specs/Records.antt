@@ -38,8 +38,7 @@ client_in s = slice_index (in_record s).values 1
 abbrev pub symbol_in : List ℕ → ℕ
 symbol_in s = slice_index (in_record s).values 2
 
--- The rows of its bytes: those of its numbers, left to right (1, 2 and 26), then 10, bytes after
--- them.
+-- The rows of its bytes: those of its numbers, left to right (1 and 2), then 10, bytes after them.
 unfoldable pub byte_rows : List ℕ → List (ℕ × Bool)
 byte_rows s = ((in_record s).refusal, not ((in_record s).refusal == 0)) ∷ (10, nat_lt (in_record s).place (length s)) ∷ []
 

@@ -14,8 +14,8 @@ pub enum Expected {
     Serial(u16),
 }
 
-// A record's three numbers; or the row (1, 2, 26, 10) and the place of what is wrong with its
-// bytes, and zeros.
+// A record's three numbers; or the row (1, 2, 10) and the place of what is wrong with its bytes,
+// and zeros.
 #[derive(Drop)]
 pub struct Record {
     pub refusal: u8,
@@ -26,8 +26,8 @@ pub struct Record {
 }
 
 // A record that is let in: its event, how many records were lost before it, and the serial that is
-// expected next. Refused (rows 1, 2, 26, 10, 21, 22): the row and its place, the expected serial
-// as it was given, and zeros.
+// expected next. Refused (rows 1, 2, 10, 21, 22): the row and its place, the expected serial as it
+// was given, and zeros.
 #[derive(Drop)]
 pub struct Admitted {
     pub refusal: u8,
@@ -108,7 +108,7 @@ fn turned_away(expected: Expected, row: u8, place: usize) -> Admitted
     }
 }
 
-// Rows 1, 2 and 26 number by number, then 10, 21 and 22, in this order; else the record is let in.
+// Rows 1, 2, 10, 21 and 22, in this order; else the record is let in.
 pub fn admit(bytes: &[u8], expected: Expected) -> Admitted
     ensures { result ≡ admission bytes.now expected }
 {

@@ -4,8 +4,8 @@
 // where there is none. `include/jaxhophasi.h` declares the functions for C. A list of clients is
 // lent as it lies, one configuration after the other (`repr(C)`), and their number.
 
-ghost use Rattle.std.specs.Prelude.{◌≡◌, false};
-ghost use Rattle.automaton_format.specs.Reading.{parse_by, parse};
+ghost use Rattle.std.specs.Prelude.{◌≡◌};
+ghost use Rattle.automaton_format.specs.Reading.{parse};
 ghost use Rattle.automaton_format.specs.Writing.{write_answer, write_buffer};
 ghost use Rattle.product_rule.specs.Product.{product_answer};
 ghost use Rattle.solver_answers.specs.Solving.{solution, solved_table, count_answer};
@@ -30,24 +30,6 @@ use c_records::{
 };
 use configuration::Configuration;
 
-// Reads an automaton by the rule in force (`strict`) or by the old one, into lent bytes.
-fn read_by(
-    bytes: &[u8],
-    strict: bool,
-    automaton: &mut [u8; AUTOMATON_SIZE],
-    place: &mut [u8; NUMBER_SIZE],
-) -> u8
-    ensures { let x = parse_by strict bytes.now in
-        (result ≡ x.refusal) × (automaton.new ≡ automaton_bytes x.automaton)
-        × (place.new ≡ number_bytes number_size x.place) }
-{
-    let parsed = automaton_read::read_by(bytes, strict);
-    let a = parsed.automaton;
-    *automaton = automaton_bytes(a);
-    *place = number_bytes(parsed.place);
-    parsed.refusal
-}
-
 // Reads an automaton and checks it. Answered are its record and the place of a fault.
 #[unsafe(no_mangle)]
 pub extern "C" fn jaxhophasi_read(
@@ -59,21 +41,11 @@ pub extern "C" fn jaxhophasi_read(
         (result ≡ x.refusal) × (automaton.new ≡ automaton_bytes x.automaton)
         × (place.new ≡ number_bytes number_size x.place) }
 {
-    read_by(bytes, true, automaton, place)
-}
-
-// The same by the old rule, which takes padded numbers, for sheets that were stored under it.
-#[unsafe(no_mangle)]
-pub extern "C" fn jaxhophasi_read_padded(
-    bytes: &[u8],
-    automaton: &mut [u8; AUTOMATON_SIZE],
-    place: &mut [u8; NUMBER_SIZE],
-) -> u8
-    ensures { let x = parse_by false bytes.now in
-        (result ≡ x.refusal) × (automaton.new ≡ automaton_bytes x.automaton)
-        × (place.new ≡ number_bytes number_size x.place) }
-{
-    read_by(bytes, false, automaton, place)
+    let parsed = automaton_read::read(bytes);
+    let a = parsed.automaton;
+    *automaton = automaton_bytes(a);
+    *place = number_bytes(parsed.place);
+    parsed.refusal
 }
 
 // Writes a sheet at the front of `out`: how many bytes.

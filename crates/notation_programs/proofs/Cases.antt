@@ -1,6 +1,6 @@
 -- What the programs write on some inputs.
 use mathlib.Core.Path.{refl}
-use Rattle.varint.specs.Varint.{groups, read_padded, encode, bytes, padded, read}
+use Rattle.varint.specs.Varint.{groups, read, encode, bytes}
 use Rattle.text.specs.Decimal.{ascii, digit, digits, decimal}
 use Rattle.text_lines.specs.Lines.{fault_line}
 use Rattle.notation.specs.Outcomes.{before}
@@ -13,7 +13,7 @@ use Rattle.notation_programs.specs.Outputs.{packed_bytes, pack_output, fault_not
 use Rattle.notation_programs.specs.Claims.{CasesWritten}
 
 pub cases-written : CasesWritten
-unfolding groups read_padded encode bytes padded read ascii digit digits decimal fault_line before separator ends comment newlines beginning token_length
+unfolding groups read encode bytes ascii digit digits decimal fault_line before separator ends comment newlines beginning token_length
     token_at bytes_of is_digit all_digits value_from word_from word_of sound reading_from reading encoded refused decoded_from decoded
     mark line_of visible shown token_line said message packed_bytes pack_output fault_note pack_note line_text unpack_output row_note
     unpack_note
@@ -21,6 +21,4 @@ cases-written =
     record {
       packs = (refl, refl);
       no_number = (refl, refl);
-      unpacks = (refl, refl);
-      padded = (refl, refl);
     }

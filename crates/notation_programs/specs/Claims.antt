@@ -2,7 +2,7 @@
 use Rattle.std.specs.Prelude.{ℕ, ◌≡◌, List, [], ◌∷◌}
 use Prim.Native.String.{String}
 use Rattle.text.specs.Decimal.{ascii}
-use Rattle.notation_programs.specs.Outputs.{pack_output, pack_note, unpack_output, unpack_note}
+use Rattle.notation_programs.specs.Outputs.{pack_output, pack_note}
 
 -- on a text `pack` writes these bytes, and nothing on standard error
 abbrev pub Packs : String → List ℕ → Type 0
@@ -12,16 +12,6 @@ Packs text bytes = (pack_output (ascii text) ≡ bytes) × (pack_note (ascii tex
 abbrev pub PackSays : String → String → Type 0
 PackSays text line = (pack_output (ascii text) ≡ []) × (pack_note (ascii text) ≡ ascii line)
 
--- on bytes `unpack` writes this text, and nothing on standard error
-abbrev pub Unpacks : List ℕ → String → Type 0
-Unpacks bytes text = (unpack_output bytes ≡ ascii text) × (unpack_note bytes ≡ [])
-
--- .. or no text, and this line
-abbrev pub UnpackSays : List ℕ → String → Type 0
-UnpackSays bytes line = (unpack_output bytes ≡ []) × (unpack_note bytes ≡ ascii line)
-
 pub record CasesWritten : Type 0 where
   pub packs : Packs "3, 128 # two groups\n" (3 ∷ 128 ∷ 1 ∷ [])
   pub no_number : PackSays "1 2\n# x\n3 x7, 4" "line 3: x7 is no number\n"
-  pub unpacks : Unpacks (3 ∷ 128 ∷ 1 ∷ []) "3 128\n"
-  pub padded : UnpackSays (3 ∷ 128 ∷ 0 ∷ []) "refused 26 at 1\n"

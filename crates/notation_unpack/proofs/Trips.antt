@@ -4,16 +4,16 @@ use mathlib.Core.Path.{◌≡◌, refl, sym, ◌∙◌, ap}
 use mathlib.Core.Bool.{true, false}
 use mathlib.Core.List.{List, [], ◌∷◌, ◌++◌, append_assoc}
 use native.Mathlib.Omega.{arith}
-use lib.ListN.{length, drop, length-append, take-append-drop, drop_of_length-le}
+use lib.ListN.{length, drop, length-append}
 use lib.Seq.{drop-drop, take_at, drop_at}
 use lib.Dec.{ltb, eqb}
 use borrow.Author.Tests.{ltb-true, ltb-false, lt-ltb, le-ltb, ne_eqb, eqb-true, eqb-false}
 use Rattle.base.proofs.Bools.{by, and_both, and_left, and_right}
 use Rattle.base.proofs.Every.{Every, every_cons}
-use Rattle.varint.specs.Varint.{value, groups, read_padded, padded, read, encode, bytes}
+use Rattle.varint.specs.Varint.{value, groups, read, bytes}
 use Rattle.varint.specs.Claims.{AreBytes}
 use Rattle.varint.proofs.Laws.{bytes_one, bytes-two, bytes-three}
-use Rattle.varint.proofs.Trips.{reads_back, read_exact, read_small, read-after, read-inside}
+use Rattle.varint.proofs.Trips.{reads_back, fewest, read_small, read-after, read-inside}
 use Rattle.text.specs.Decimal.{ascii, digit, digits, decimal}
 use Rattle.text.proofs.Digits.{decimal-one, decimal-more, decimal-some, decimal-length}
 use Rattle.notation.specs.Outcomes.{numbers, before}
@@ -24,7 +24,7 @@ use Rattle.notation.specs.Packing.{sound, reading_from, reading, encoded}
 use Rattle.notation.proofs.Values.{digit as digit_is, digit_low, digit_high}
 use Rattle.notation.proofs.Laws.{read_small as text-small}
 use Rattle.notation_unpack.specs.Unpacking.{decoded_from, decoded, mark, line_of}
-use Rattle.notation_unpack.specs.Claims.{LineReadsBack, PacksSame, PackedReadsBack, LineBounded, CasesUnpacked}
+use Rattle.notation_unpack.specs.Claims.{LineReadsBack, PacksShortest, PackedReadsBack, LineBounded, CasesUnpacked}
 use Rattle.notation_unpack.proofs.Decoding.{decoded-ended, decoded-faulty, decoded-number, number_read, number-inside}
 
 -- digits one after the other
@@ -188,30 +188,20 @@ spelled v h =
     (λ u. let l = ltb-true v 16384 u in rw (bytes-two v (ltb-false v 128 t) l) (omega (arith, decimal-length 4 v (omega arith))))
     (λ u. rw (bytes-three v (ltb-false v 16384 u) h) (omega (arith, decimal-length 6 v (omega arith)))))
 
--- the bytes from a place on: those of the number there, and what is after it
-number-bytes : (s : List ℕ) (at v next : ℕ) → AreBytes s → read s at ≡ value v next → drop at s ≡ bytes v ++ drop next s
-number-bytes s at v next d w =
-    let after : at + (next - at) ≡ next = omega (arith, read-after s at v next w) in
-    sym (take-append-drop (next - at) (drop at s)) ∙
-    (λ i. (read_exact s at v next d w).1 i ++ drop-drop (next - at) at s i) ∙
-    ap (λ n. bytes v ++ drop n s) after
-
--- the numbers from a place on: small, in the very bytes that stand there, and their line
+-- the numbers from a place on: small, in no more bytes than stand there, and their line
 record Numbers (s : List ℕ) (at : ℕ) (vs : List ℕ) : Type 0 where
   small : Every (λ v. v < 2097152) vs
-  same : encoded vs ≡ drop at s
+  fewer : at + length (encoded vs) ≤ length s
   line : 4 * at + length (line_of vs) ≤ 4 * length s
 
-none-numbers : (s : List ℕ) (at : ℕ) (vs : List ℕ) → at ≤ length s → length s ≤ at → vs ≡ [] → Numbers s at vs
+none-numbers : (s : List ℕ) (at : ℕ) (vs : List ℕ) → at ≤ length s → vs ≡ [] → Numbers s at vs
 unfolding encoded line_of
-none-numbers s at vs h l e = rw e (record { small = λ i l. absurd (omega arith); same = sym (drop_of_length-le s l); line = omega arith })
+none-numbers s at vs h e = rw e (record { small = λ i l. absurd (omega arith); fewer = omega arith; line = omega arith })
 
--- (with as many steps as are enough)
-all-numbers : (k : ℕ) (s : List ℕ) (at : ℕ) (vs : List ℕ) → AreBytes s → at ≤ length s → length s < at + k → decoded_from k s at ≡ numbers vs
-    → Numbers s at vs
+all-numbers : (k : ℕ) (s : List ℕ) (at : ℕ) (vs : List ℕ) → AreBytes s → at ≤ length s → decoded_from k s at ≡ numbers vs → Numbers s at vs
 unfolding decoded_from encoded line_of
-all-numbers zero s at vs d l b e = absurd (omega arith)
-all-numbers (suc k) s at vs d l b e =
+all-numbers zero s at vs d l e = none-numbers s at vs l (none_left vs e)
+all-numbers (suc k) s at vs d l e =
     let n = read s at in
     by (ltb at (length s))
     (λ t.
@@ -221,31 +211,28 @@ all-numbers (suc k) s at vs d l b e =
     let z = eqb-true n.refusal 0 f in
     let o = one_left n.value (decoded_from k s n.place) vs (sym (decoded-number s at n refl k i z) ∙ e) in
     let w = number_read s at n refl z in
-    let more = read-after s at n.value n.place w in
-    let r = all-numbers k s n.place o.0 d (number-inside s at n refl z) (omega arith) o.2 in
+    let r = all-numbers k s n.place o.0 d (number-inside s at n refl z) o.2 in
     let small = read_small s at n.value n.place w d in
-    let few = (read_exact s at n.value n.place d w).0 in
+    let few = fewest s at n.value n.place d w in
     rw o.1 (record {
       small = every_cons (λ v. v < 2097152) n.value o.0 small r.small;
-      same = ap (λ x. bytes n.value ++ x) r.same ∙ sym (number-bytes s at n.value n.place d w);
+      fewer = omega (arith, r.fewer, few, length-append (bytes n.value) (encoded o.0));
       line = omega (arith, r.line, few, spelled n.value small, length-append (decimal n.value) (mark o.0 ∷ line_of o.0));
     }))
     (λ f. absurd (no_fault (n.refusal, n.place) vs (sym (decoded-faulty s at n refl k i (eqb-false n.refusal 0 f)) ∙ e))))
-    (λ t.
-    let h = ltb-false at (length s) t in
-    none-numbers s at vs l h (none_left vs (sym (decoded-ended s at n refl k h) ∙ e)))
+    (λ t. none-numbers s at vs l (none_left vs (sym (decoded-ended s at n refl k (ltb-false at (length s) t)) ∙ e)))
 
 bytes-numbers : (s vs : List ℕ) → AreBytes s → decoded s ≡ numbers vs → Numbers s 0 vs
 unfolding decoded
-bytes-numbers s vs d h = all-numbers (suc (length s)) s 0 vs d (omega arith) (omega arith) h
+bytes-numbers s vs d h = all-numbers (suc (length s)) s 0 vs d (omega arith) h
 
 pub line_reads_back : LineReadsBack
 unfolding reading
 line_reads_back s vs d h =
     line_read (line_of vs) vs (suc (length (line_of vs))) 0 0 (omega (arith, line_longer vs)) (bytes-numbers s vs d h).small refl
 
-pub packs-same : PacksSame
-packs-same s vs d h = (bytes-numbers s vs d h).same
+pub packs_shortest : PacksShortest
+packs_shortest s vs d h = omega (arith, (bytes-numbers s vs d h).fewer)
 
 pub line-bounded : LineBounded
 line-bounded s vs d h = omega (arith, (bytes-numbers s vs d h).line)
@@ -284,5 +271,5 @@ packed_reads_back t vs h =
     packed-read vs (suc (length (encoded vs))) [] (omega (arith, encoded_longer vs small)) small
 
 pub cases-unpacked : CasesUnpacked
-unfolding ascii decimal digits digit mark line_of groups read_padded padded read encode bytes before decoded_from decoded
-cases-unpacked = record { line = refl; several = refl; padded = refl }
+unfolding ascii decimal digits digit mark line_of groups read before decoded_from decoded
+cases-unpacked = record { line = refl; padded = refl }

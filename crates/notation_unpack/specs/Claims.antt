@@ -2,7 +2,7 @@
 use Rattle.std.specs.Prelude.{ℕ, ◌*◌, ◌≤◌, ◌≡◌, List, [], ◌∷◌, length}
 use Rattle.varint.specs.Claims.{AreBytes}
 use Rattle.text.specs.Decimal.{ascii}
-use Rattle.notation.specs.Outcomes.{numbers, faulty}
+use Rattle.notation.specs.Outcomes.{numbers}
 use Rattle.notation.specs.Packing.{reading, encoded}
 use Rattle.notation_unpack.specs.Unpacking.{decoded, line_of}
 
@@ -10,9 +10,9 @@ use Rattle.notation_unpack.specs.Unpacking.{decoded, line_of}
 abbrev pub LineReadsBack : Type 0
 LineReadsBack = (s vs : List ℕ) → AreBytes s → decoded s ≡ numbers vs → reading (line_of vs) ≡ numbers vs
 
--- .. which packing then writes in the very bytes that they had
-abbrev pub PacksSame : Type 0
-PacksSame = (s vs : List ℕ) → AreBytes s → decoded s ≡ numbers vs → encoded vs ≡ s
+-- .. which packing then writes in no more bytes than they had
+abbrev pub PacksShortest : Type 0
+PacksShortest = (s vs : List ℕ) → AreBytes s → decoded s ≡ numbers vs → length (encoded vs) ≤ length s
 
 -- what packing writes is read as the text's numbers
 abbrev pub PackedReadsBack : Type 0
@@ -24,5 +24,4 @@ LineBounded = (s vs : List ℕ) → AreBytes s → decoded s ≡ numbers vs → 
 
 pub record CasesUnpacked : Type 0 where
   pub line : line_of (3 ∷ 0 ∷ 128 ∷ []) ≡ ascii "3 0 128\n"
-  pub several : decoded (0 ∷ 128 ∷ 1 ∷ 7 ∷ []) ≡ numbers (0 ∷ 128 ∷ 7 ∷ [])
-  pub padded : decoded (7 ∷ 128 ∷ 0 ∷ 7 ∷ []) ≡ faulty (26, 1)
+  pub padded : decoded (128 ∷ 0 ∷ 7 ∷ []) ≡ numbers (0 ∷ 7 ∷ [])

@@ -41,8 +41,8 @@ done n = record { refusal = 0; place = 0; length = n }
 unfoldable pub refused : ℕ → ℕ → Unpacked
 refused row at = record { refusal = row; place = at; length = 0 }
 
--- what unpacking into a lent buffer answers: the first fault (row 1, 2 or 26), or 16 where there
--- is too little room
+-- what unpacking into a lent buffer answers: the first fault (row 1 or 2), or 16 where there is
+-- too little room
 unfoldable pub unpacked : Decoded → List ℕ → Unpacked
 unpacked (faulty x) out = refused x.0 x.1
 unpacked (numbers vs) out = cond (leb (length (line_of vs)) (length out)) (done (length (line_of vs))) (refused 16 0)

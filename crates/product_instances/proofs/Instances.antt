@@ -13,12 +13,12 @@ use Rattle.base.specs.Pad.{pad}
 use Rattle.base.specs.Rows.{first}
 use Rattle.base.specs.Tabulate.{tabulate, blocks}
 use Rattle.base.proofs.Bools.{either, clash, and-pair, and_both}
-use Rattle.varint.specs.Varint.{groups, read_padded, encode, bytes, padded, read, read_by}
+use Rattle.varint.specs.Varint.{groups, read}
 use Rattle.automaton.specs.declared.Automaton.{Automaton}
 use Rattle.automaton.specs.Arrays.{controllable_in, stands, places_stand}
 use Rattle.automaton.specs.Automaton.{class, controllable, uncontrollable, controllables, accepts, step, reached, shaped, ranged, classes_stand, flags_stand}
 use Rattle.automaton.specs.Automaton.{next_stand, valid, blank}
-use Rattle.automaton_format.specs.Reading.{parsed, checked, between, item_row, numbers, next_states, after_number, after_numbers, tables, automaton_from, parse_by, parse}
+use Rattle.automaton_format.specs.Reading.{parsed, checked, between, item_row, numbers, next_states, after_number, after_numbers, tables, automaton_from, parse}
 use Rattle.automaton_format.proofs.Faults.{refused-blank}
 use Rattle.solver_sets.specs.Sets.{accepting_set, admits, stays, refine, settle, settled, sets_of, empty_sets, into, sets_for}
 use Rattle.solver_sets.specs.Table.{rank, in_base_k, shorter, index, buffers_count, short, extended, buffers_at, buffers_to, pairs, table, Buffer, Solved}
@@ -577,8 +577,8 @@ same-v = refl
 
 unfoldable reading : ℕ
 unfolding
-    each count pad groups read_padded encode bytes padded read read_by controllable_in first
-    checked between item_row numbers next_states after_number after_numbers tables automaton_from parse_by parse
+    each count pad groups read controllable_in first
+    checked between item_row numbers next_states after_number after_numbers tables automaton_from parse
 reading = 0
 
 same-no_answer : parse (2 ∷ 2 ∷ 1 ∷ 0 ∷ 0 ∷ 1 ∷ 1 ∷ 0 ∷ 0 ∷ 1 ∷ 1 ∷ 1 ∷ []) ≡ parsed no_answer
@@ -631,14 +631,13 @@ abbrev Kept : Automaton → Type 0
 Kept c = automaton_of (automaton_bytes c) ≡ c
 
 pub handing : Handing
-unfolding parse
 handing =
     record {
       handed_on = subst Kept (ap (λ (p : Product). p.automaton) (sym answering.made)) (automata_handed_on.product sheet_v no_answer);
       refused-handed-on = subst Kept answering.zeros (automata_handed_on.product sheet_v blank);
-      read-handed-on = subst Kept read-v (automata_handed_on.read true bytes_v);
+      read-handed-on = subst Kept read-v (automata_handed_on.read bytes_v);
       row_10 = row_10;
-      read-blank = refused-blank true followed_v not-read;
-      read-zero = refused_automata_zero.read true followed_v not-read;
+      read-blank = refused-blank followed_v not-read;
+      read-zero = refused_automata_zero.read followed_v not-read;
       product-zero = refused_automata_zero.product sheet_v (looping 2 2 1) (λ h. omega (arith, ap (λ (p : Product). p.refusal) answering.refused-24));
     }

@@ -10,9 +10,9 @@ use Rattle.base.specs.Each.{each, count}
 use Rattle.base.specs.Pad.{pad}
 use Rattle.base.specs.Rows.{first}
 use Rattle.base.proofs.Bools.{either}
-use Rattle.varint.specs.Varint.{groups, read_padded, encode, bytes, padded, read, read_by}
+use Rattle.varint.specs.Varint.{groups, read}
 use Rattle.automaton.specs.Arrays.{controllable_in}
-use Rattle.automaton_format.specs.Reading.{parsed, checked, between, item_row, numbers, next_states, after_number, after_numbers, tables, automaton_from, parse_by, parse}
+use Rattle.automaton_format.specs.Reading.{parsed, checked, between, item_row, numbers, next_states, after_number, after_numbers, tables, automaton_from, parse}
 use Rattle.automaton_format.specs.Writing.{record_bytes}
 use Rattle.automaton_format.specs.Opening.{automaton_at, opening}
 use Rattle.text_lines.specs.Lines.{max_input}
@@ -28,8 +28,8 @@ use Rattle.product_instances.specs.Written.{two, other, six_twice, sheet_six, fi
 -- what a sheet is read by
 unfoldable reading : ℕ
 unfolding
-    each count pad first groups read_padded encode bytes padded read read_by controllable_in checked between item_row numbers next_states after_number
-    after_numbers tables automaton_from parse_by parse automaton_at opening written.v written.no_answer written.six sheet_v no_answer
+    each count pad first groups read controllable_in checked between item_row numbers next_states after_number after_numbers tables automaton_from parse
+    automaton_at opening written.v written.no_answer written.six sheet_v no_answer
 reading = 0
 
 -- V and the other

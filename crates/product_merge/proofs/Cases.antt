@@ -7,10 +7,10 @@ use Rattle.base.specs.Each.{each, count}
 use Rattle.base.specs.Pad.{pad}
 use Rattle.base.specs.Rows.{first}
 use Rattle.base.specs.Tabulate.{tabulate, blocks}
-use Rattle.varint.specs.Varint.{groups, read_padded, padded, read, read_by, encode, bytes, encoded}
+use Rattle.varint.specs.Varint.{groups, read, encode, bytes, encoded}
 use Rattle.automaton.specs.Arrays.{controllable_in, stands, places_stand}
 use Rattle.automaton.specs.Automaton.{controllables, shaped, ranged, classes_stand, flags_stand, next_stand, valid}
-use Rattle.automaton_format.specs.Reading.{checked, between, item_row, numbers, next_states, after_number, after_numbers, tables, automaton_from, parse_by, parse}
+use Rattle.automaton_format.specs.Reading.{checked, between, item_row, numbers, next_states, after_number, after_numbers, tables, automaton_from, parse}
 use Rattle.automaton_format.specs.Writing.{next_numbers, record_numbers, record_bytes}
 use Rattle.automaton_format.specs.Opening.{automaton_at, opening}
 use Rattle.text.specs.Decimal.{ascii, digit, digits, decimal}
@@ -23,9 +23,9 @@ use Rattle.product_merge.proofs.Merging.{merge_long}
 
 -- every definition that the output rests on
 unfoldable all : ℕ
-unfolding each count pad first tabulate blocks groups read_padded padded read read_by encode bytes encoded controllable_in stands places_stand controllables shaped ranged
+unfolding each count pad first tabulate blocks groups read encode bytes encoded controllable_in stands places_stand controllables shaped ranged
     classes_stand flags_stand next_stand valid checked between item_row numbers next_states after_number after_numbers tables automaton_from
-    parse_by parse next_numbers record_numbers record_bytes automaton_at opening ascii digit digits decimal fault_line refusal_line pair_flags
+    parse next_numbers record_numbers record_bytes automaton_at opening ascii digit digits decimal fault_line refusal_line pair_flags
     pair_next pair_states same_classes product_of same_symbols product_refusal product_answer merged_records second_from merging merge_output
     merge_note v no_answer merged_v six four eight four_by_eight
 all = 0
@@ -42,9 +42,6 @@ cases-merged =
       nothing = (refl, refl);
       length-too-long = (refl, refl);
       too_few = (refl, refl);
-      padded-length = (refl, refl);
-      first-padded = (refl, refl);
-      second-padded = (refl, refl);
       first-fault = (refl, refl);
       second-missing = (refl, refl);
       second-fault = (refl, refl);

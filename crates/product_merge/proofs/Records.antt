@@ -1,16 +1,19 @@
--- Laws of merging two records: what the product is, and that its bytes are put where they go.
-use Prim.Native.Nat.{ℕ}
-use mathlib.Core.Path.{◌≡◌}
+-- Laws of merging two records: what the product is, and that its bytes have room.
+use Prim.Native.Nat.{ℕ, ◌+◌, ◌*◌, ◌≤◌}
+use mathlib.Core.Path.{◌≡◌, sym, ◌∙◌, ap}
 use mathlib.Core.Bool.{true}
 use mathlib.Core.List.{List, []}
 use native.Mathlib.Omega.{arith}
 use lib.ListN.{length}
+use lib.Seq.{sets}
 use borrow.Author.Tests.{eq-eqb, ne_eqb}
 use Rattle.automaton.specs.declared.Automaton.{Automaton}
 use Rattle.automaton.specs.Automaton.{valid}
+use Rattle.automaton.proofs.Facts.{valid_facts}
 use Rattle.automaton_format.specs.declared.Written.{Written}
 use Rattle.automaton_format.specs.Writing.{record_bytes, write_answer, write_buffer}
-use Rattle.automaton_format.proofs.Outcomes.{record_stored}
+use Rattle.automaton_format.proofs.Storing.{numbers-length, states-small}
+use Rattle.automaton_format.proofs.Outcomes.{record-bytes, write_fits}
 use Rattle.text.specs.Decimal.{Appended}
 use Rattle.text.proofs.Appending.{nothing}
 use Rattle.text_lines.specs.Lines.{refusal_line}
@@ -29,11 +32,26 @@ same-put e x = rw e x
 pub untouched : (out : List ℕ) {n : ℕ} → n ≡ 0 → Appended out 0 [] out n
 untouched out e = rw e (nothing out)
 
--- a record that passes row 11 is put into 564 bytes
-pub record_put : (c : Automaton) → valid c ≡ true → (out : List ℕ) → length out ≡ 564 → (w : Written) → w ≡ write_answer c out
-    → (out' : List ℕ) → out' ≡ write_buffer c out → Appended out 0 (record_bytes c) out' w.length
-record_put c v out k w ew out' eo =
-    let (e, l, i) = record_stored c out v k w ew out' eo in record { content = e; place = omega arith; inside = i }
+-- a record that passes row 11 is written in 564 bytes at most, so row 16 does not stop it
+module _ (c : Automaton) (v : valid c ≡ true) where
+  bytes-length : length (record_bytes c) ≡ 4 + c.symbols + c.states + c.states * c.symbols
+  bytes-length = ap length (record-bytes c [] v) ∙ numbers-length c (valid_facts c v)
+
+  pub record_fits : length (record_bytes c) ≤ 564
+  record_fits =
+      let f = valid_facts c v in
+      omega (arith, bytes-length, f.symbols-high, f.states-high, states-small c.states c.symbols f.states-high f.symbols-high)
+
+  pub record_stored : (out : List ℕ) → length out ≡ 564 → (w : Written) → w ≡ write_answer c out → (out' : List ℕ) → out' ≡ write_buffer c out
+      → Appended out 0 (record_bytes c) out' w.length
+  record_stored out k w ew out' eo =
+      let f = write_fits c out v (omega (arith, bytes-length, record_fits, k)) in
+      let l : w.length ≡ 4 + c.symbols + c.states + c.states * c.symbols = ap (λ x. x.length) (ew ∙ sym f.0) in
+      record {
+        content = eo ∙ sym f.1 ∙ ap (λ x. sets out 0 x) (sym (record-bytes c out v));
+        place = omega (arith, l, bytes-length);
+        inside = omega (arith, l, bytes-length, record_fits, k);
+      }
 
 module _ (a b : Automaton) where
   -- the product, where it is made, passes row 11

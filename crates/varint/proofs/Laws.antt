@@ -1,14 +1,17 @@
 -- The cases of reading and writing a number.
-use Prim.Native.Nat.{ℕ, suc, ◌+◌, ◌-◌, ◌*◌, ◌/◌, ◌%◌, ◌<◌, ◌≤◌}
+use Prim.Native.Nat.{ℕ, zero, suc, ◌+◌, ◌-◌, ◌*◌, ◌/◌, ◌%◌, ◌<◌, ◌≤◌}
 use mathlib.Core.Path.{◌≡◌, refl, ◌∙◌, ap, ap₂}
+use mathlib.Core.Logic.{◌⊎◌, inl, inr}
 use mathlib.Core.Bool.{true, false}
 use mathlib.Core.List.{List, [], ◌∷◌}
 use lib.ListN.{length, get_or}
 use lib.Seq.{sets, sets-eq}
 use native.Mathlib.Nat.{zero-add}
 use native.Mathlib.Omega.{arith}
+use lib.Dec.{ltb}
 use borrow.Author.Tests.{lt-ltb, le-ltb, le-leb, lt-leb}
-use Rattle.varint.specs.Varint.{value, fault, groups, read_padded, encode, bytes, fits, written, written_length}
+use Rattle.base.proofs.Bools.{by}
+use Rattle.varint.specs.Varint.{value, fault, groups, read, encode, bytes, fits, written, written_length}
 
 -- one group
 module _ (s : List ℕ) (start k unit low at : ℕ) where
@@ -29,45 +32,44 @@ module _ (s : List ℕ) (start k unit low at : ℕ) where
 pub same : {v w p r : ℕ} → v ≡ w → p ≡ r → value v p ≡ value w r
 same e f = ap₂ value e f
 
--- .. of a number, padded or not
 module _ (s : List ℕ) (at : ℕ) where
-  pub ended_at : length s ≤ at → fault 1 at ≡ read_padded s at
-  unfolding read_padded
+  pub ended_at : length s ≤ at → fault 1 at ≡ read s at
+  unfolding read
   ended_at h = group_ended s at 2 1 0 at h
 
-  pub one_byte : (a : ℕ) → at < length s → a ≡ get_or s at 0 → a < 128 → value a (at + 1) ≡ read_padded s at
-  unfolding read_padded
+  pub one_byte : (a : ℕ) → at < length s → a ≡ get_or s at 0 → a < 128 → value a (at + 1) ≡ read s at
+  unfolding read
   one_byte a h e l = same (omega arith) refl ∙ group_last s at 2 1 0 at a h e l
 
   module _ (a : ℕ) (h : at < length s) (ea : a ≡ get_or s at 0) (la : 128 ≤ a) where
-    second : groups s at 2 128 (0 + (a - 128) * 1) (at + 1) ≡ read_padded s at
-    unfolding read_padded
+    second : groups s at 2 128 (0 + (a - 128) * 1) (at + 1) ≡ read s at
+    unfolding read
     second = group_more s at 2 1 0 at a h ea la
 
-    pub ended-second : length s ≤ at + 1 → fault 1 at ≡ read_padded s at
+    pub ended-second : length s ≤ at + 1 → fault 1 at ≡ read s at
     ended-second j = group_ended s at 1 128 (0 + (a - 128) * 1) (at + 1) j ∙ second
 
-    pub two_bytes : (b : ℕ) → at + 1 < length s → b ≡ get_or s (at + 1) 0 → b < 128 → value (a - 128 + b * 128) (at + 2) ≡ read_padded s at
+    pub two_bytes : (b : ℕ) → at + 1 < length s → b ≡ get_or s (at + 1) 0 → b < 128 → value (a - 128 + b * 128) (at + 2) ≡ read s at
     two_bytes b j e l = same (omega arith) (omega arith) ∙ group_last s at 1 128 (0 + (a - 128) * 1) (at + 1) b j e l ∙ second
 
     module _ (b : ℕ) (j : at + 1 < length s) (eb : b ≡ get_or s (at + 1) 0) (lb : 128 ≤ b) where
-      third : groups s at 1 16384 (0 + (a - 128) * 1 + (b - 128) * 128) (at + 1 + 1) ≡ read_padded s at
+      third : groups s at 1 16384 (0 + (a - 128) * 1 + (b - 128) * 128) (at + 1 + 1) ≡ read s at
       third = group_more s at 1 128 (0 + (a - 128) * 1) (at + 1) b j eb lb ∙ second
 
-      pub ended-third : length s ≤ at + 2 → fault 1 at ≡ read_padded s at
+      pub ended-third : length s ≤ at + 2 → fault 1 at ≡ read s at
       ended-third i = group_ended s at 0 16384 (0 + (a - 128) * 1 + (b - 128) * 128) (at + 1 + 1) (omega arith) ∙ third
 
       module _ (c : ℕ) (i : at + 2 < length s) (ec : c ≡ get_or s (at + 2) 0) where
         ec' : c ≡ get_or s (at + 1 + 1) 0
         ec' = let p : at + 2 ≡ at + 1 + 1 = omega arith in ec ∙ ap (λ n. get_or s n 0) p
 
-        pub three-bytes : c < 128 → value (a - 128 + (b - 128) * 128 + c * 16384) (at + 3) ≡ read_padded s at
+        pub three-bytes : c < 128 → value (a - 128 + (b - 128) * 128 + c * 16384) (at + 3) ≡ read s at
         three-bytes l =
             same (omega arith) (omega arith) ∙
             group_last s at 0 16384 (0 + (a - 128) * 1 + (b - 128) * 128) (at + 1 + 1) c (omega arith) ec' l ∙
             third
 
-        pub too_long : 128 ≤ c → fault 2 at ≡ read_padded s at
+        pub too_long : 128 ≤ c → fault 2 at ≡ read s at
         unfolding groups
         too_long l = group_more s at 0 16384 (0 + (a - 128) * 1 + (b - 128) * 128) (at + 1 + 1) c (omega arith) ec' l ∙ third
 
@@ -109,3 +111,26 @@ module _ (out : List ℕ) (v : ℕ) where
     room h =
         let f : fits out v ≡ true = rw (lt-ltb v 2097152 small, e, le-leb (length bs) (length out) h) in
         (rw (f, e), sets-eq bs out 0 (omega arith) ∙ rw (zero-add (length bs), f, e))
+
+-- what is read: a value and the place after it, or row 1 or 2 where the number begins
+groups-cases : {R : Type 0} (s : List ℕ) (start k unit low at : ℕ)
+    → ((row : ℕ) → (row ≡ 1) ⊎ (row ≡ 2) → groups s start k unit low at ≡ fault row start → R)
+    → ((v next : ℕ) → groups s start k unit low at ≡ value v next → R)
+    → R
+unfolding groups
+groups-cases s start zero unit low at refused read' = refused 2 (inr refl) refl
+groups-cases s start (suc k) unit low at refused read' =
+    by (ltb at (length s))
+    (λ e. by (ltb (get_or s at 0) 128)
+    (λ f. read' (low + get_or s at 0 * unit) (at + 1) (rw (e, f)))
+    (λ f. groups-cases s start k (unit * 128) (low + (get_or s at 0 - 128) * unit) (at + 1)
+    (λ row l h. refused row l (rw (e, f) h))
+    (λ v next h. read' v next (rw (e, f) h))))
+    (λ e. refused 1 (inl refl) (rw e))
+
+pub read-cases : {R : Type 0} (s : List ℕ) (at : ℕ)
+    → ((row : ℕ) → (row ≡ 1) ⊎ (row ≡ 2) → read s at ≡ fault row at → R)
+    → ((v next : ℕ) → read s at ≡ value v next → R)
+    → R
+unfolding read
+read-cases s at = groups-cases s at 3 1 0 at

@@ -1,6 +1,6 @@
 -- Numbers in one to three groups of seven bits, the low group first, the top bit set on all bytes
--- but the last (document 01, "The sheet"), in no more groups than they need (document 02, Card 7).
-use Rattle.std.specs.Prelude.{ℕ, zero, suc, ◌+◌, ◌-◌, ◌*◌, ◌/◌, ◌%◌, Bool, cond, ◌&&◌, List, [], ◌∷◌, ◌++◌, length, get_or, drop, eqb, ltb, leb}
+-- but the last (document 01, "The sheet").
+use Rattle.std.specs.Prelude.{ℕ, zero, suc, ◌+◌, ◌-◌, ◌*◌, ◌/◌, ◌%◌, Bool, cond, ◌&&◌, List, [], ◌∷◌, ◌++◌, length, get_or, drop, ltb, leb}
 pub use Rattle.varint.specs.declared.Number.{Number}
 
 -- a number that was read: its value and the place after it
@@ -23,32 +23,17 @@ groups s start (suc k) unit low at =
     (groups s start k (unit * 128) (low + (get_or s at 0 - 128) * unit) (at + 1)))
     (fault 1 start)
 
--- what stands at a place, padded or not; past the end too: the old rule, for sheets that were
--- stored before row 26
-unfoldable pub read_padded : List ℕ → ℕ → Number
-read_padded s at = groups s at 3 1 0 at
+-- what stands at a place; past the end too
+unfoldable pub read : List ℕ → ℕ → Number
+read s at = groups s at 3 1 0 at
 
 -- the bytes of v in at most k groups
 unfoldable pub encode : ℕ → ℕ → List ℕ
 encode zero v = []
 encode (suc k) v = cond (ltb v 128) (v ∷ []) ((v % 128 + 128) ∷ encode k (v / 128))
 
--- the fewest bytes of v, for v below 2,097,152
 unfoldable pub bytes : ℕ → List ℕ
 bytes v = encode 3 v
-
--- a number that was read from a place is padded: it is in more groups than it needs (a group is a
--- byte). After rows 1 and 2: a fault is not padded.
-unfoldable pub padded : ℕ → Number → Bool
-padded at n = eqb n.refusal 0 && ltb (length (bytes n.value)) (n.place - at)
-
--- the rule in force: row 26, a padded number, at its first byte
-unfoldable pub read : List ℕ → ℕ → Number
-read s at = let n = read_padded s at in cond (padded at n) (fault 26 at) n
-
--- by the rule in force, or by the old one
-unfoldable pub read_by : Bool → List ℕ → ℕ → Number
-read_by strict s at = cond strict (read s at) (read_padded s at)
 
 -- numbers one after the other
 unfoldable pub encoded : List ℕ → List ℕ

@@ -1,6 +1,6 @@
 // Numbers in seven-bit groups (LEB128), one to three bytes.
-ghost use Rattle.std.specs.Prelude.{◌≡◌, cond, ◌&&◌, eqb};
-ghost use Rattle.varint.specs.Varint.{value, fault, read, read_by, written, written_length};
+ghost use Rattle.std.specs.Prelude.{◌≡◌};
+ghost use Rattle.varint.specs.Varint.{read, fault, written, written_length};
 
 // What stands at a place of the input: the value and the place after it (refusal 0), or the
 // refusing row and the place where the number begins, with value 0.
@@ -21,27 +21,10 @@ pub fn fault(row: u8, at: usize) -> Number
     }
 }
 
-// A number of more than one group from `at` up to `next`, the last group of which is `last`: row
-// 26 where that is 0 and padding is refused.
-fn multibyte(strict: bool, at: usize, last: u32, v: u32, next: usize) -> Number
-    ensures { result ≡ cond (strict && eqb last 0) (fault 26 at) (value v next) }
-{
-    if strict {
-        if last == 0 {
-            return fault(26, at);
-        }
-    }
-    Number {
-        refusal: 0,
-        value: v,
-        place: next,
-    }
-}
-
 // The number at a place, or row 1 where the bytes end before it does, or row 2 where its third
-// byte has the top bit set; by the rule in force (`strict`) row 26 where it is padded.
-pub fn read_by(s: &[u8], at: usize, strict: bool) -> Number
-    ensures { result ≡ read_by strict s.now at }
+// byte has the top bit set.
+pub fn read(s: &[u8], at: usize) -> Number
+    ensures { result ≡ read s.now at }
 {
     if s.len() <= at {
         return fault(1, at);
@@ -59,23 +42,24 @@ pub fn read_by(s: &[u8], at: usize, strict: bool) -> Number
     }
     let b = base::as_u32(s[at + 1]);
     if b < 128 {
-        return multibyte(strict, at, b, a - 128 + b * 128, at + 2);
+        return Number {
+            refusal: 0,
+            value: a - 128 + b * 128,
+            place: at + 2,
+        };
     }
     if s.len() - at <= 2 {
         return fault(1, at);
     }
     let c = base::as_u32(s[at + 2]);
     if c < 128 {
-        return multibyte(strict, at, c, a - 128 + (b - 128) * 128 + c * 16384, at + 3);
+        return Number {
+            refusal: 0,
+            value: a - 128 + (b - 128) * 128 + c * 16384,
+            place: at + 3,
+        };
     }
     fault(2, at)
-}
-
-// .. by the rule in force.
-pub fn read(s: &[u8], at: usize) -> Number
-    ensures { result ≡ read s.now at }
-{
-    read_by(s, at, true)
 }
 
 // Writes v in the fewest bytes and answers how many. Above 2,097,151 or without room nothing is

@@ -2,7 +2,6 @@
 use mathlib.Core.List.{[]}
 use mathlib.Core.Path.{◌∙◌}
 use Prim.Native.Nat.{◌-◌}
-use Rattle.varint.specs.Varint.{read_by}
 use Rattle.automaton_format.proofs.Items.{Filling, filling_begins, filling_refused, filling_many, filling_goes_on, filling_done, item_below}
 use native.Mathlib.Omega.{arith}
 use borrow.Author.Rules.{rules}
@@ -10,10 +9,10 @@ use Rattle.automaton_read.proofs.fill.Statement.{statement}
 use Rattle.automaton_read.proofs.fill.Tie as tie
 
 abbrev invariant-loop : tie.invariant-loop
-invariant-loop s strict at out₀ from count limit row most place₀ ones₀ i₀ out place ones i = Filling (read_by strict s) out₀ at from count limit row most out place ones i
+invariant-loop s at out₀ from count limit row most place₀ ones₀ i₀ out place ones i = Filling s out₀ at from count limit row most out place ones i
 
 abbrev decreases-loop : tie.decreases-loop
-decreases-loop s strict at out₀ from count limit row most place₀ ones₀ i₀ out place ones i = count - i
+decreases-loop s at out₀ from count limit row most place₀ ones₀ i₀ out place ones i = count - i
 
 loop-holds : tie.Need-loop-init invariant-loop decreases-loop
 loop-holds c = filling_begins _ _ _ _ _ _ _ _

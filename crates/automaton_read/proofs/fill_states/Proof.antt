@@ -1,6 +1,5 @@
 -- The next states, state by state.
 use mathlib.Core.Path.{◌∙◌, sym, ap}
-use Rattle.varint.specs.Varint.{read_by}
 use Rattle.automaton_format.proofs.Sections.{StatesFilled, filled_begins, filled-refused, filled-goes_on, filled-done}
 use Prim.Native.Nat.{◌-◌}
 use lib.ListN.{length}
@@ -11,10 +10,10 @@ use Rattle.automaton_read.proofs.fill_states.Statement.{statement}
 use Rattle.automaton_read.proofs.fill_states.Tie as tie
 
 abbrev invariant-loop : tie.invariant-loop
-invariant-loop s strict at next₀ n m place₀ q₀ next place q = StatesFilled (read_by strict s) n m at next place q
+invariant-loop s at next₀ n m place₀ q₀ next place q = StatesFilled s n m at next place q
 
 abbrev decreases-loop : tie.decreases-loop
-decreases-loop s strict at next₀ n m place₀ q₀ next place q = n - q
+decreases-loop s at next₀ n m place₀ q₀ next place q = n - q
 
 -- The places that later needs look back to.
 
@@ -46,7 +45,7 @@ same_length c =
     let f = filled c in
     let l = round f in
     let g = l.loop.inv in
-    f.fill.kept.1.1.1.0 ∙ g.size ∙ sym (ap length (start l).pre.2)
+    f.fill.kept.1.1.0 ∙ g.size ∙ sym (ap length (start l).pre.2)
 
 returns : tie.Need-returns invariant-loop decreases-loop
 returns c =

@@ -35,7 +35,7 @@ refused-requires c κs = search rules
 returns : tie.Need-returns
 returns c =
     let f = c.before.before.before.before in
-    c.refused.ensures ∙ tables-classes _ _ _ _ _ _ _ (omega arith) (omega arith) _ f.fill.ensures.0 c.before.if1.true
+    c.refused.ensures ∙ tables-classes _ _ _ _ _ _ (omega arith) (omega arith) _ f.fill.ensures.0 c.before.if1.true
 
 slice-aggregate-fill-2 : tie.Need-slice-aggregate-fill-2
 slice-aggregate-fill-2 c = search rules
@@ -50,7 +50,7 @@ returns-2 : tie.Need-returns-2
 returns-2 c =
     let g = c.before.before.before.before in
     let x = g.before.before in
-    c.refused2.ensures ∙ tables_flags _ _ _ _ _ _ _ (omega arith) (omega arith) _ (classes x).fill.ensures.0 x.if1.false _
+    c.refused2.ensures ∙ tables_flags _ _ _ _ _ _ (omega arith) (omega arith) _ (classes x).fill.ensures.0 x.if1.false _
     g.fill2.ensures.0 c.before.if2.true
 
 slice-aggregate-fill-states : tie.Need-slice-aggregate-fill-states
@@ -70,7 +70,7 @@ returns-3 c =
     let x = g.before.before in
     let f = classes x in
     let s = start f in
-    c.refused3.ensures ∙ tables-next _ _ _ _ _ _ _ (omega (arith, s.pre.1)) (omega (arith, s.pre.0)) _ f.fill.ensures.0
+    c.refused3.ensures ∙ tables-next _ _ _ _ _ _ (omega (arith, s.pre.1)) (omega (arith, s.pre.0)) _ f.fill.ensures.0
     x.if1.left _ g.fill2.ensures.0 y.if2.false _ r.fill-states.ensures.0 c.before.if3.true
 
 refused-requires-4 : tie.Need-refused-requires-4
@@ -85,20 +85,20 @@ returns-4 c =
     let x = g.before.before in
     let f = classes x in
     let s = start f in
-    c.refused4.ensures ∙ tables_extra _ _ _ _ _ _ _ (omega (arith, s.pre.1)) (omega (arith, s.pre.0)) _ f.fill.ensures.0
+    c.refused4.ensures ∙ tables_extra _ _ _ _ _ _ (omega (arith, s.pre.1)) (omega (arith, s.pre.0)) _ f.fill.ensures.0
     x.if1.left _ g.fill2.ensures.0 y.if2.left _ r.fill-states.ensures.0 z.if3.false c.before.if4.true
 
+cast-t23 : tie.Need-overflow-cast-t23
+cast-t23 c = omega (arith, (sizes c).requires.0)
+
 cast-t24 : tie.Need-overflow-cast-t24
-cast-t24 c = omega (arith, (sizes c).requires.0)
+cast-t24 c = omega (arith, (sizes c).requires.1)
 
 cast-t25 : tie.Need-overflow-cast-t25
-cast-t25 c = omega (arith, (sizes c).requires.1)
+cast-t25 c = omega (arith, (sizes c).requires.2)
 
 cast-t26 : tie.Need-overflow-cast-t26
-cast-t26 c = omega (arith, (sizes c).requires.2)
-
-cast-t27 : tie.Need-overflow-cast-t27
-cast-t27 c =
+cast-t26 c =
     let s = sizes c in
     omega (arith, s.pre.0, s.pre.3)
 
@@ -111,7 +111,7 @@ returns-5 c =
     let x = g.before.before in
     let f = classes x in
     let s = start f in
-    tables-done _ _ _ _ _ _ _ (omega (arith, s.pre.1)) (omega (arith, s.pre.0)) _ f.fill.ensures.0 x.if1.left _
+    tables-done _ _ _ _ _ _ (omega (arith, s.pre.1)) (omega (arith, s.pre.0)) _ f.fill.ensures.0 x.if1.left _
     g.fill2.ensures.0 y.if2.left _ r.fill-states.ensures.0 z.if3.false c.if4.false _ _ _ f.fill.ensures.1
     g.fill2.ensures.1 r.fill-states.ensures.1
 
@@ -133,8 +133,8 @@ read-tables-spec =
     returns-3
     refused-requires-4
     returns-4
+    cast-t23
     cast-t24
     cast-t25
     cast-t26
-    cast-t27
     returns-5)

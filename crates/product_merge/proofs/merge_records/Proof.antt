@@ -2,7 +2,7 @@
 use lib.ListN.{length}
 use mathlib.Core.Path.{◌≡◌}
 use Rattle.text.proofs.Appending.{nothing}
-use Rattle.product_merge.proofs.Records.{same-put, untouched, record_put, answer-valid, records_refused, records_merged}
+use Rattle.product_merge.proofs.Records.{same-put, untouched, record_stored, answer-valid, records_refused, records_merged}
 use borrow.Author.Rules.{rules}
 use Rattle.product_merge.proofs.merge_records.Statement.{statement}
 use Rattle.product_merge.proofs.merge_records.Tie as tie
@@ -31,7 +31,7 @@ returns-2 c =
     let p = e.before.before in
     let v = answer-valid _ _ _ p.product.ensures e.if1.false in
     same-put (records_merged _ _ _ p.product.ensures e.if1.false)
-    (record_put _ v _ (long c) _ c.write.ensures.0 _ c.write.ensures.1, nothing _)
+    (record_stored _ v _ (long c) _ c.write.ensures.0 _ c.write.ensures.1, nothing _)
 
 pub merge-records-spec : {M : Type 1} → statement M
 merge-records-spec =
