@@ -7,7 +7,4 @@ pub mod Every
 pub mod Picking
 pub mod Stores
 pub mod Fronts
-pub mod Guards
-pub mod LentLocals
-pub mod LentSlices
 pub mod Tabulation
