@@ -1,10 +1,10 @@
 -- Laws of storing one text behind the other.
 use Prim.Native.Nat.{ℕ, ◌+◌, ◌<◌, ◌≤◌}
-use mathlib.Core.Path.{◌≡◌, refl, sym, ◌∙◌, ap}
+use mathlib.Core.Path.{◌≡◌, refl, ◌∙◌, ap}
 use mathlib.Core.List.{List, [], ◌∷◌, ◌++◌}
 use native.Mathlib.Omega.{arith}
 use lib.ListN.{length, set, take, drop, length-append}
-use lib.Seq.{sets, length-sets, sets-eq, take_at, length-take-le}
+use lib.Seq.{length-sets, sets-eq, take_at, length-take-le}
 use Rattle.base.proofs.Stores.{sets_join}
 use Rattle.text.specs.Decimal.{Appended}
 

@@ -1,3 +1,5 @@
+#![tactic(auto)]
+
 // Text as bytes: words and decimal numbers, stored in a lent buffer from a place on. Each function
 // answers the place after what it stored, and asks for the room that its text takes.
 ghost use Rattle.std.specs.Prelude.{◌++◌, ◌+◌, ◌≤◌, length};
