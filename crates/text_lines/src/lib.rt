@@ -1,3 +1,5 @@
+#![tactic(auto)]
+
 // Lines of numbers that a program prints, stored in a lent buffer from a place on, each with its
 // newline. Each function answers the place after its line, and asks for the room that a line can
 // take.
