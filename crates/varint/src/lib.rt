@@ -1,10 +1,12 @@
+#![tactic(auto)]
+
 // Numbers in seven-bit groups (LEB128), one to three bytes.
 ghost use Rattle.std.specs.Prelude.{◌≡◌};
 ghost use Rattle.varint.specs.Varint.{read, fault, written, written_length};
 
 // What stands at a place of the input: the value and the place after it (refusal 0), or the
 // refusing row and the place where the number begins, with value 0.
-#[derive(Drop)]
+#[derive(Clone, Copy)]
 pub struct Number {
     pub refusal: u8,
     pub value: u32,
