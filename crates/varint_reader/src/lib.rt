@@ -1,3 +1,5 @@
+#![tactic(auto)]
+
 // A reader of numbers, in the form that document 01 names: it keeps the day's bytes and its place
 // among them. It is thin over `varint::read`; whoever has a slice and a place calls `take_at`, or
 // `read_at` for the number alone.
@@ -6,7 +8,7 @@ ghost use Rattle.varint.specs.Varint.{read};
 
 use varint::Number;
 
-#[derive(Drop)]
+#[derive(Clone, Copy)]
 pub struct Reader<'a> {
     pub bytes: &'a [u8],
     pub at: usize,
@@ -33,7 +35,7 @@ pub fn moved<'a>(r: Reader<'a>, at: usize) -> Reader<'a>
 }
 
 // A number that a reader took, and the place where the reader stands after it.
-#[derive(Drop)]
+#[derive(Clone, Copy)]
 pub struct Taken {
     pub number: Number,
     pub place: usize,
