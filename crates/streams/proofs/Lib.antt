@@ -1,1 +1,3 @@
+pub mod Passing
+pub mod Signals
 pub mod Transfers

@@ -1,21 +1,27 @@
 -- Laws of a transfer, call by call.
-use Prim.Native.Nat.{ℕ, ◌+◌, ◌-◌, ◌≤◌, ◌<◌, ◌^◌}
+use Prim.Native.Nat.{ℕ, ◌+◌, ◌-◌, ◌≤◌, ◌<◌}
 use mathlib.Core.Path.{◌≡◌, refl, sym, ◌∙◌, ap}
 use mathlib.Core.Bool.{Bool, true, false, cond}
 use mathlib.Core.List.{List, [], ◌∷◌, ◌++◌}
 use native.Mathlib.Omega.{arith}
 use lib.ListN.{length, take, drop, length-drop}
 use lib.Seq.{length-take-le}
-use lib.IntN.{ℤ, pos, negsuc, nat_abs}
-use lib.Signed.{mag, lt_z, non_neg}
-use lib.Dec.{T, eqb, ltb}
-use borrow.Author.Tests.{lt-ltb, le-ltb, ltb-true, ltb-false, eq-eqb, ne_eqb, eqb-true, eqb-false}
-use mir.Syntax.{w32, w64}
-use mir.Val.{Fits, SFits, to_z, of_z}
-use mir.ValLaws.{to_z-of_z}
+use lib.Dec.{eqb, ltb}
+use borrow.Author.Tests.{ltb-true, eq-eqb, ne_eqb, eqb-true, eqb-false}
+use Rattle.std.specs.declared.result.Result.TheVariants.{Ok, Err}
+use Rattle.std.specs.declared.io.Error.{Error}
+use Rattle.std.specs.declared.io.ErrorKind.{ErrorKind}
+use Rattle.std.specs.declared.io.ErrorKind.TheVariants.{Interrupted}
+use Rattle.std.specs.IoError.{error_kind}
+use Rattle.std.specs.Io.{ReadsAtMost, WritesAtMost}
 use Rattle.base.proofs.Bools.{by, clash}
-use Rattle.libc.specs.Io.{Moved}
-use Rattle.streams.specs.Transfers.{Transfer, begun, ended, advanced, moved, again, interrupted, by_signal, failed, after, transferred}
+use Rattle.streams.specs.Transfers.{Transfer, Answer, Moved, begun, ended, advanced, moved, again, interrupted, by_signal, failed, after, transferred}
+
+-- every other kind of error
+not_by_signal : (kind : ErrorKind) → (kind ≡ Interrupted → ⊥) → by_signal kind ≡ false
+unfolding by_signal
+not_by_signal Interrupted h = absurd (h refl)
+not_by_signal _ h = refl
 
 module _ (t : Transfer) where
   -- a call that moved bytes
@@ -36,40 +42,14 @@ module _ (t : Transfer) where
   unfolding interrupted
   interrupted-again h = rw (ne_eqb t.interruptions 0 h)
 
-  -- a call that failed; C's `errno` comes as its bits
-  pub failed-by_signal : (error : ℤ) → SFits w32 error → of_z w32 error ≡ 4 → interrupted t ≡ failed t error
+  -- a call that failed
+  pub failed-by_signal : (error : Error) → error_kind error ≡ Interrupted → interrupted t ≡ failed t error
   unfolding failed by_signal
-  failed-by_signal (pos error) f h = rw (eq-eqb error 4 h)
-  failed-by_signal (negsuc error) f h = absurd (omega (arith, f.sfits))
+  failed-by_signal error e = rw e refl
 
-  pub failed_otherwise : (error : ℤ) → (of_z w32 error ≡ 4 → ⊥) → ended t true ≡ failed t error
-  unfolding failed by_signal
-  failed_otherwise (pos error) h = rw (ne_eqb error 4 h)
-  failed_otherwise (negsuc error) h = refl
-
--- what a call answered, which comes as its bits too
-module _ (t : Transfer) (error : ℤ) where
-  pub after_negative : SFits w32 error → (answer : ℤ) → SFits w64 answer → lt_z (to_z w64 (of_z w64 answer)) (pos 0) ≡ true
-      → failed t (to_z w32 (of_z w32 error)) ≡ after t answer error
-  unfolding after
-  after_negative e (pos bytes) f h = absurd (omega (arith, ltb-true bytes 0 (rw (to_z-of_z w64 (pos bytes) f) at h)))
-  after_negative e (negsuc k) f h = ap (failed t) (to_z-of_z w32 error e)
-
-  pub after-bytes : (answer : ℤ) → SFits w64 answer → lt_z (to_z w64 (of_z w64 answer)) (pos 0) ≡ false
-      → moved t (nat_abs (to_z w64 (of_z w64 answer))) ≡ after t answer error
-  unfolding after
-  after-bytes (pos bytes) f h = rw (to_z-of_z w64 (pos bytes) f)
-  after-bytes (negsuc k) f h = absurd (clash refl (rw (to_z-of_z w64 (negsuc k) f) at h))
-
-pub bytes_fit : (answer : ℤ) → SFits w64 answer → lt_z (to_z w64 (of_z w64 answer)) (pos 0) ≡ false
-    → T (non_neg (to_z w64 (of_z w64 answer))) × Fits w64 (nat_abs (to_z w64 (of_z w64 answer)))
-bytes_fit (pos bytes) f h = rw (to_z-of_z w64 (pos bytes) f) (tt, record { fits = omega (arith, f.sfits) })
-bytes_fit (negsuc k) f h = absurd (clash refl (rw (to_z-of_z w64 (negsuc k) f) at h))
-
-pub bytes-within : (answer : ℤ) (n : ℕ) → SFits w64 answer → lt_z (to_z w64 (of_z w64 answer)) (pos 0) ≡ false → Moved n answer
-    → nat_abs (to_z w64 (of_z w64 answer)) ≤ n
-bytes-within (pos bytes) n f h m = rw (to_z-of_z w64 (pos bytes) f) m
-bytes-within (negsuc k) n f h m = absurd (clash refl (rw (to_z-of_z w64 (negsuc k) f) at h))
+  pub failed_otherwise : (error : Error) → (error_kind error ≡ Interrupted → ⊥) → ended t true ≡ failed t error
+  unfolding failed
+  failed_otherwise error h = rw (not_by_signal (error_kind error) h) refl
 
 -- the loop over the calls: where a transfer of n bytes stands
 pub record Standing (n : ℕ) (t : Transfer) : Type 0 where
@@ -91,37 +71,43 @@ stands-begun n =
 
 -- it is what some answers made of a transfer that had begun
 pub record Made (n : ℕ) (t : Transfer) : Type 0 where
-  pub answers : List (ℤ × ℤ)
+  pub answers : List Answer
   pub so_far : t ≡ transferred (begun n) answers
 
 pub made-begun : (n : ℕ) → Made n (begun n)
 unfolding transferred
 made-begun n = record { answers = []; so_far = refl }
 
-one_more : (t : Transfer) (xs : List (ℤ × ℤ)) (x : ℤ × ℤ) → transferred t (xs ++ x ∷ []) ≡ after (transferred t xs) x.0 x.1
+one_more : (t : Transfer) (xs : List Answer) (x : Answer) → transferred t (xs ++ x ∷ []) ≡ after (transferred t xs) x
 unfolding transferred
 one_more t [] x = refl
-one_more t (y ∷ ys) x = one_more (after t y.0 y.1) ys x
+one_more t (y ∷ ys) x = one_more (after t y) ys x
 
-pub made_after : {n : ℕ} {t : Transfer} → Made n t → (answer error : ℤ) → Made n (after t answer error)
-made_after {n} {t} m answer error =
+pub made_after : {n : ℕ} {t : Transfer} → Made n t → (answer : Answer) → Made n (after t answer)
+made_after {n} {t} m answer =
     record {
-      answers = m.answers ++ (answer, error) ∷ [];
-      so_far = ap (λ u. after u answer error) m.so_far ∙ sym (one_more (begun n) m.answers (answer, error));
+      answers = m.answers ++ answer ∷ [];
+      so_far = ap (λ u. after u answer) m.so_far ∙ sym (one_more (begun n) m.answers answer);
     }
 
 -- what is still to be moved, the interruptions that are left, and the last call
 abbrev pub unspent : Transfer → ℕ
 unspent t = (t.size - t.count) + t.interruptions + cond t.going 1 0
 
--- what is lent to a call is what is left
-pub lent-answer : {t : Transfer} (bytes : List ℕ) → Standing (length bytes) t → (answer : ℤ) → mag answer < 2 ^ 63
-    → Moved (length (take (length bytes - t.count) (drop t.count bytes))) answer → Moved (t.size - t.count) (to_z w64 (of_z w64 answer))
-lent-answer {t} bytes g answer f m =
-    let later = take (length bytes - t.count) (drop t.count bytes) in
-    let l : length later ≡ t.size - t.count =
-    length-take-le _ (drop t.count bytes) (rw (length-drop t.count bytes) (omega arith)) ∙ ap (λ k. k - t.count) (sym g.whole) in
-    rw (to_z-of_z w64 answer (record { sfits = f })) (rw l at m)
+-- what is lent to a call is what is left, and so a call moves no more than that
+pub lent-length : {n : ℕ} {t : Transfer} (bytes : List ℕ) → length bytes ≡ n → Standing n t
+    → length (take (length bytes - t.count) (drop t.count bytes)) ≡ n - t.count
+lent-length {n} {t} bytes e g =
+    length-take-le _ (drop t.count bytes) (rw (length-drop t.count bytes) (omega arith)) ∙ ap (λ k. k - t.count) e
+
+module _ {n : ℕ} {t : Transfer} (g : Standing n t) (lent : List ℕ) (l : length lent ≡ n - t.count) where
+  pub read-moved : (answer : Answer) → ReadsAtMost answer lent → Moved (t.size - t.count) answer
+  read-moved (Ok bytes) m = omega (arith, l, m.0, g.whole)
+  read-moved (Err error) m = tt
+
+  pub write-moved : (answer : Answer) → WritesAtMost answer lent → Moved (t.size - t.count) answer
+  write-moved (Ok bytes) m = omega (arith, l, m, g.whole)
+  write-moved (Err error) m = tt
 
 module _ {n : ℕ} {t : Transfer} (g : Standing n t) (goes : t.going ≡ true) where
   stands-ended : (failed : Bool) → Standing n (ended t failed)
@@ -176,20 +162,20 @@ module _ {n : ℕ} {t : Transfer} (g : Standing n t) (goes : t.going ≡ true) w
       (λ e. rw e (less_ended true))
       (λ e. let i = eqb-false t.interruptions 0 e in rw e (omega arith))
 
-  stands-failed : (error : ℤ) → Standing n (failed t error)
+  stands-failed : (error : Error) → Standing n (failed t error)
   unfolding failed
-  stands-failed error = by (by_signal error) (λ e. rw e stands-interrupted) (λ e. rw e (stands-ended true))
+  stands-failed error = by (by_signal (error_kind error)) (λ e. rw e stands-interrupted) (λ e. rw e (stands-ended true))
 
-  less_failed : (error : ℤ) → unspent (failed t error) < unspent t
+  less_failed : (error : Error) → unspent (failed t error) < unspent t
   unfolding failed
-  less_failed error = by (by_signal error) (λ e. rw e less_interrupted) (λ e. rw e (less_ended true))
+  less_failed error = by (by_signal (error_kind error)) (λ e. rw e less_interrupted) (λ e. rw e (less_ended true))
 
-  pub stands_after : (answer error : ℤ) → Moved (t.size - t.count) answer → Standing n (after t answer error)
+  pub stands_after : (answer : Answer) → Moved (t.size - t.count) answer → Standing n (after t answer)
   unfolding after
-  stands_after (pos bytes) error m = stands-moved bytes m
-  stands_after (negsuc k) error m = stands-failed error
+  stands_after (Ok bytes) m = stands-moved bytes m
+  stands_after (Err error) m = stands-failed error
 
-  pub less_after : (answer error : ℤ) → Moved (t.size - t.count) answer → unspent (after t answer error) < unspent t
+  pub less_after : (answer : Answer) → Moved (t.size - t.count) answer → unspent (after t answer) < unspent t
   unfolding after
-  less_after (pos bytes) error m = less_moved bytes m
-  less_after (negsuc k) error m = less_failed error
+  less_after (Ok bytes) m = less_moved bytes m
+  less_after (Err error) m = less_failed error

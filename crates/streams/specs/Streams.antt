@@ -1,9 +1,9 @@
 -- What reading and writing answer, and what a program says where it cannot do the one or the
 -- other.
-use Rattle.std.specs.Prelude.{ℕ, ◌≤◌, ◌<◌, ◌≡◌, true, false, List, ◌++◌, ℤ, length, eqb}
+use Rattle.std.specs.Prelude.{ℕ, ◌≤◌, ◌<◌, ◌≡◌, true, false, List, ◌++◌, length, eqb}
 use Rattle.text.specs.Decimal.{ascii}
-use Rattle.io.specs.Counts.{IsPrefixLen}
-use Rattle.streams.specs.Transfers.{Transfer, begun, transferred}
+use Rattle.std.specs.Counts.{IsPrefixLen}
+use Rattle.streams.specs.Transfers.{Transfer, Answer, begun, transferred}
 pub use Rattle.streams.specs.declared.Input.{Input}
 pub use Rattle.streams.specs.declared.WriteResult.{WriteResult}
 
@@ -14,10 +14,10 @@ input_of t = record { length = t.count; failed = t.failed }
 abbrev pub written_of : Transfer → WriteResult
 written_of t = record { count = t.count; done = eqb t.count t.size }
 
--- A transfer of so many bytes that is over, by what C's calls answered, in order. What they answer
--- is free, and so are the bytes that they moved; all else is settled by it.
+-- A transfer of so many bytes that is over, by what std's calls answered, in order. What they
+-- answer is free, and so are the bytes that they moved; all else is settled by it.
 pub record Over (size : ℕ) (t : Transfer) : Type 0 where
-  pub answers : List (ℤ × ℤ)
+  pub answers : List Answer
   pub made : t ≡ transferred (begun size) answers
   pub over : t.going ≡ false
 

@@ -1,6 +1,21 @@
--- A transfer of bytes by calls of C's `read` or `write`: what one call more makes of it.
-use Rattle.std.specs.Prelude.{ℕ, ◌+◌, ◌-◌, Bool, true, false, cond, List, [], ◌∷◌, ℤ, pos, negsuc, eqb, ltb}
+-- A transfer of bytes by calls of std's `read` or `write`: what one call more makes of it.
+use Rattle.std.specs.Prelude.{ℕ, ◌+◌, ◌-◌, ◌≤◌, ◌≡◌, Bool, true, false, cond, List, [], ◌∷◌, ℤ, pos, negsuc, eqb, ltb, ⊤}
+use Rattle.std.specs.declared.result.Result.{Result}
+use Rattle.std.specs.declared.result.Result.TheVariants.{Ok, Err}
+use Rattle.std.specs.declared.io.Error.{Error}
+use Rattle.std.specs.declared.io.ErrorKind.{ErrorKind}
+use Rattle.std.specs.declared.io.ErrorKind.TheVariants.{Interrupted}
+use Rattle.std.specs.IoError.{error_kind, os_error_kind}
 pub use Rattle.streams.specs.declared.transfer.Transfer.{Transfer}
+
+-- what a call may answer where there is room for so many bytes: how many of them it moved, or why
+-- it failed
+abbrev pub Answer : Type 0
+Answer = Result ℕ Error
+
+abbrev pub Moved : ℕ → Answer → Type 0
+Moved room (Ok bytes) = bytes ≤ room
+Moved room (Err error) = ⊤
 
 -- how often signals may interrupt one transfer
 abbrev pub max_interruptions : ℕ
@@ -35,20 +50,29 @@ again t = record { size = t.size; count = t.count; interruptions = t.interruptio
 unfoldable pub interrupted : Transfer → Transfer
 interrupted t = cond (eqb t.interruptions 0) (ended t true) (again t)
 
+-- the kind of error where a signal interrupted a call
+unfoldable pub by_signal : ErrorKind → Bool
+by_signal Interrupted = true
+by_signal _ = false
+
 -- C's EINTR
-unfoldable pub by_signal : ℤ → Bool
-by_signal (pos error) = eqb error 4
-by_signal (negsuc error) = false
+unfoldable pub is_eintr : ℤ → Bool
+is_eintr (pos error) = eqb error 4
+is_eintr (negsuc error) = false
 
-unfoldable pub failed : Transfer → ℤ → Transfer
-failed t error = cond (by_signal error) (interrupted t) (ended t true)
+-- of the system's errors, by C's `errno`, it is that one
+abbrev pub SignalsAreEintr : Type 0
+SignalsAreEintr = (error : ℤ) → by_signal (os_error_kind error) ≡ is_eintr error
 
--- a call answered how many bytes it moved, or a negative number
-unfoldable pub after : Transfer → ℤ → ℤ → Transfer
-after t (pos bytes) error = moved t bytes
-after t (negsuc _) error = failed t error
+unfoldable pub failed : Transfer → Error → Transfer
+failed t error = cond (by_signal (error_kind error)) (interrupted t) (ended t true)
 
--- .. and what the answers of several calls make of it, each with `errno` as it was right after
-unfoldable pub transferred : Transfer → List (ℤ × ℤ) → Transfer
+-- a call answered how many bytes it moved, or why it failed
+unfoldable pub after : Transfer → Answer → Transfer
+after t (Ok bytes) = moved t bytes
+after t (Err error) = failed t error
+
+-- .. and what the answers of several calls make of it
+unfoldable pub transferred : Transfer → List Answer → Transfer
 transferred t [] = t
-transferred t (x ∷ xs) = transferred (after t x.0 x.1) xs
+transferred t (x ∷ xs) = transferred (after t x) xs

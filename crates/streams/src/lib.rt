@@ -1,32 +1,30 @@
+#![tactic(auto)]
+
 // Standard input and output, for every program: all of an input into a lent buffer, and all of a
-// slice to a descriptor. A read that fails is told from the end of the input, and a call that a
-// signal interrupted is made again. (The library under it promises nothing of the bytes that are
-// read or written.)
+// slice to a writer. A read that fails is told from the end of the input, and a call that a signal
+// interrupted is made again. (The library under it promises nothing of the bytes that standard
+// input gives or standard output takes.)
 mod transfer;
 
-ghost use Rattle.std.specs.Prelude.{◌≤◌, ◌+◌, ◌≡◌, ◌++◌, length};
+ghost use Rattle.std.specs.Prelude.{◌≤◌, ◌<◌, ◌+◌, ◌≡◌, ◌++◌, false, length, take};
+ghost use Rattle.std.specs.Io.KnownBytes.{Consumes, Appends, IsAtEnd};
 ghost use Rattle.text.specs.Decimal.{Appended};
 ghost use Rattle.streams.specs.Streams.{input_of, written_of, Filled, Handed, cannot_read, cannot_write};
 
+use std::io::{Read, Write};
 use text::word;
 use transfer::{Transfer, after, begun};
 
-pub const STANDARD_INPUT: i32 = libc::STDIN_FILENO;
-
-pub const STANDARD_OUTPUT: i32 = libc::STDOUT_FILENO;
-
-pub const STANDARD_ERROR: i32 = libc::STDERR_FILENO;
-
 // How many bytes were read, to the end of the input or until the buffer was full, and whether a
 // read failed before that.
-#[derive(Drop)]
+#[derive(Clone, Copy)]
 pub struct Input {
     pub length: usize,
     pub failed: bool,
 }
 
 // How many bytes were handed over, and whether these are all.
-#[derive(Drop)]
+#[derive(Clone, Copy)]
 pub struct WriteResult {
     pub count: usize,
     pub done: bool,
@@ -50,30 +48,32 @@ fn written_of(t: Transfer) -> WriteResult
     }
 }
 
-// Reads to the end of the input, or until the buffer is full. Of the buffer's bytes nothing is
-// promised.
-pub fn read_all(descriptor: i32, buf: &mut [u8]) -> Input
-    ensures { Filled buf.new result }
+// Reads to the end of the input, or until the buffer is full.
+pub fn read_all<R: Read>(from: &mut R, buf: &mut [u8]) -> Input
+    ensures filled { Filled buf.new result }
+    ensures taken { Consumes (R.remaining from.old) (R.remaining from.new) (take result.length buf.new) }
+    ensures end { result.failed ≡ false → result.length < length buf.new → IsAtEnd (R.remaining from.new) }
 {
     let mut t = begun(buf.len());
     while t.going {
-        let from = t.count;
-        let answer = libc::read(descriptor, &mut buf[from..]);
-        let next = after(t, answer, os::errno());
+        let at = t.count;
+        let answer = from.read(&mut buf[at..]);
+        let next = after(t, answer);
         t = next;
     }
     input_of(t)
 }
 
 // Hands over all bytes, or those before the first call that fails or takes nothing.
-pub fn write_all(descriptor: i32, bytes: &[u8]) -> WriteResult
-    ensures { Handed bytes.now result }
+pub fn write_all<W: Write>(to: &mut W, bytes: &[u8]) -> WriteResult
+    ensures handed { Handed bytes.now result }
+    ensures passed { Appends (W.contents to.old) (W.contents to.new) (take result.count bytes.now) }
 {
     let mut t = begun(bytes.len());
     while t.going {
-        let from = t.count;
-        let answer = libc::write(descriptor, &bytes[from..]);
-        let next = after(t, answer, os::errno());
+        let at = t.count;
+        let answer = to.write(&bytes[at..]);
+        let next = after(t, answer);
         t = next;
     }
     written_of(t)
@@ -88,22 +88,24 @@ fn note(out: &mut [u8], name: &[u8], what: &[u8]) -> usize
     word(out, next, what)
 }
 
-// The line `NAME: cannot read` on standard error.
-pub fn cannot_read(name: &[u8]) -> WriteResult
+// The line `NAME: cannot read`, for standard error.
+pub fn cannot_read<W: Write>(to: &mut W, name: &[u8]) -> WriteResult
     requires { length name.now ≤ 64 }
-    ensures { Handed (cannot_read name.now) result }
+    ensures handed { Handed (cannot_read name.now) result }
+    ensures passed { Appends (W.contents to.old) (W.contents to.new) (take result.count (cannot_read name.now)) }
 {
     let mut line = [0u8; 96];
     let length = note(&mut line, name, b": cannot read\n");
-    write_all(STANDARD_ERROR, &line[..length])
+    write_all(to, &line[..length])
 }
 
-// The line `NAME: cannot write` on standard error.
-pub fn cannot_write(name: &[u8]) -> WriteResult
+// The line `NAME: cannot write`, for standard error.
+pub fn cannot_write<W: Write>(to: &mut W, name: &[u8]) -> WriteResult
     requires { length name.now ≤ 64 }
-    ensures { Handed (cannot_write name.now) result }
+    ensures handed { Handed (cannot_write name.now) result }
+    ensures passed { Appends (W.contents to.old) (W.contents to.new) (take result.count (cannot_write name.now)) }
 {
     let mut line = [0u8; 96];
     let length = note(&mut line, name, b": cannot write\n");
-    write_all(STANDARD_ERROR, &line[..length])
+    write_all(to, &line[..length])
 }

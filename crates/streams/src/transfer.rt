@@ -1,8 +1,10 @@
-// A transfer of bytes by calls of C's `read` or `write`: what one call more makes of it. No call
+// A transfer of bytes by calls of std's `read` or `write`: what one call more makes of it. No call
 // is made here.
 ghost use Rattle.std.specs.Prelude.{◌≡◌, ◌≤◌, ◌-◌};
-ghost use Rattle.libc.specs.Io.{Moved};
-ghost use Rattle.streams.specs.Transfers.{begun, ended, moved, interrupted, failed, after};
+ghost use Rattle.streams.specs.Transfers.{Moved, begun, ended, moved, interrupted, failed, after};
+
+use std::io;
+use std::io::ErrorKind;
 
 // How often signals may interrupt one transfer: one more counts as a failure. A proved loop must
 // end, and nothing else says that the signals do.
@@ -10,7 +12,7 @@ const MAX_INTERRUPTIONS: usize = 65536;
 
 // Where a transfer of `size` bytes stands: how many were moved, how many interruptions are left,
 // whether another call is to be made, and whether one failed.
-#[derive(Drop)]
+#[derive(Clone, Copy)]
 pub struct Transfer {
     pub size: usize,
     pub count: usize,
@@ -64,23 +66,23 @@ fn interrupted(mut t: Transfer) -> Transfer
     t
 }
 
-// A call failed, with C's `errno`.
-fn failed(t: Transfer, error: i32) -> Transfer
+// A call failed.
+fn failed(t: Transfer, error: io::Error) -> Transfer
     ensures { result ≡ failed t error }
 {
-    if error == libc::EINTR {
+    if error.kind() == ErrorKind::Interrupted {
         return interrupted(t);
     }
     ended(t, true)
 }
 
-// After one call more, which answered a number, with C's `errno` as it was right after.
-pub fn after(t: Transfer, answer: isize, error: i32) -> Transfer
+// After one call more, which answered the number of bytes that it moved, or why it failed.
+pub fn after(t: Transfer, answer: io::Result<usize>) -> Transfer
     requires { (t.count ≤ t.size) × Moved (t.size - t.count) answer }
-    ensures { result ≡ after t answer error }
+    ensures { result ≡ after t answer }
 {
-    if answer < 0 {
-        return failed(t, error);
+    match answer {
+        Ok(bytes) => moved(t, bytes),
+        Err(error) => failed(t, error),
     }
-    moved(t, answer as usize)
 }
