@@ -1,3 +1,5 @@
+#![tactic(auto)]
+
 // The property automaton (document 01's sheet): its record. What row 11 asks of it is defined in
 // specs/; the crate `automaton_check` checks it.
 ghost use Rattle.std.specs.Prelude.{◌≡◌};
@@ -10,7 +12,7 @@ pub const CLASSES: u8 = 2;
 // (the hold, B), the initial state (start), the classes of the symbols (0 uncontrollable, 1
 // controllable), the flags of the states (1 accepting), and the next state of q under e at q * 16
 // + e; unused places are 0.
-#[derive(Drop)]
+#[derive(Clone, Copy)]
 pub struct Automaton {
     pub states: u8,
     pub symbols: u8,
