@@ -1,3 +1,5 @@
+#![tactic(auto)]
+
 // What is asked of the symbols' classes: how many symbols are controllable, their ranks, and the
 // list of the uncontrollable ones. The classes are lent.
 ghost use Rattle.std.specs.Prelude.{◌≡◌, ◌≤◌};
@@ -7,14 +9,14 @@ ghost use Rattle.automaton_symbols.specs.Symbols.{ranking_of, free_of};
 use base::{as_u32, as_usize};
 
 // The controllable symbols: how many there are, and the rank of each from 1 (0: uncontrollable).
-#[derive(Drop)]
+#[derive(Clone, Copy)]
 pub struct Ranking {
     pub count: u32,
     pub ranks: [u8; 16],
 }
 
 // Some of the symbols, in rising order: the first `count` of the list.
-#[derive(Drop)]
+#[derive(Clone, Copy)]
 pub struct Symbols {
     pub count: usize,
     pub list: [u8; 16],
