@@ -1,3 +1,5 @@
+#![tactic(auto)]
+
 // Row 11: the record keeps rows 3 to 9 and every unused place is 0. No loop is left early, so that
 // each one is vectorised.
 ghost use Rattle.std.specs.Prelude.{◌≡◌, true, ◌+◌, ◌≤◌, length};
