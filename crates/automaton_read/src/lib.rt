@@ -1,3 +1,5 @@
+#![tactic(auto)]
+
 // Reading an automaton from bytes (document 01's sheet): left to right, one pass, the first fault
 // stands.
 ghost use Rattle.std.specs.Prelude.{◌≡◌, ◌+◌, ◌<◌, ◌≤◌, [], length, replicate};
