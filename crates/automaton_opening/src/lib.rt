@@ -1,3 +1,5 @@
+#![tactic(auto)]
+
 // Reading a sheet with its length before it: a number L, then L bytes of sheet. What follows is
 // not looked at.
 ghost use Rattle.std.specs.Prelude.{◌≡◌};
