@@ -1,3 +1,5 @@
+#![tactic(auto)]
+
 // Writing an automaton as bytes (document 01's sheet). Every number of a valid record is below
 // 128, so each takes one byte.
 ghost use Rattle.std.specs.Prelude.{◌≡◌, true, [], ◌∷◌, ◌+◌, ◌*◌, ◌≤◌, length};
