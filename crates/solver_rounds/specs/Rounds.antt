@@ -3,12 +3,11 @@
 -- symbols, a round looks at no others and at one set instead of two: `leads`, `left_of`,
 -- `settled_on` and `predecessors` are then `stays`, `refine`, `settled` and `into` of crate
 -- `solver_sets`, which follow document 01's words (proofs/Agreeing.antt).
-use Rattle.std.specs.Prelude.{ℕ, ◌<◌, ◌≤◌, Bool, not, ◌&&◌, List, length, get_or}
+use Rattle.std.specs.Prelude.{ℕ, ◌<◌, ◌≤◌, Bool, ◌&&◌, List, get_or}
 use Rattle.std.specs.Int.Bits.{bit_or}
-use Rattle.base.specs.Each.{each, those}
+use Rattle.base.specs.Each.{each}
 use Rattle.base.specs.Masks.{has, mask}
-use Rattle.base.specs.Pad.{pad}
-use Rattle.automaton.specs.Arrays.{controllable_at, goes}
+use Rattle.automaton.specs.Arrays.{goes}
 use Rattle.solver_sets.specs.declared.Settled.{Settled}
 use Rattle.solver_sets.specs.Sets.{settle}
 

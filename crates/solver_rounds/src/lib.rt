@@ -1,3 +1,5 @@
+#![tactic(auto)]
+
 // The largest set in which the monitor may rest, by rounds of refinement, and what the rounds
 // begin with: the accepting states, and the states that a symbol takes into a set. The arrays are
 // lent: `next` is the automaton's, of n states, and `free` has the u uncontrollable symbols, so
