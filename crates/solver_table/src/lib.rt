@@ -1,3 +1,5 @@
+#![tactic(auto)]
+
 // The table from one length of buffers to the next. The buffers of one length stand side by side,
 // two places each, and a symbol put in front of each of them gives buffers of the next length.
 // `next`, `free`, n and u are as in crate `solver_rounds`; `empty` is what the rounds of the empty
