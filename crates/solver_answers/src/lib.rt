@@ -1,3 +1,5 @@
+#![tactic(auto)]
+
 // The winning sets: what solving and counting answer is defined in specs/, and what holds of it is
 // proved here. The buffers are counted here; the crate `solver` writes the sets into a lent table.
 ghost use Rattle.std.specs.Prelude.{◌≡◌, ◌+◌, ◌≤◌};
@@ -11,14 +13,14 @@ use base::as_usize;
 
 // What solving gives: the rounds that struck a state, summed over all buffers (refusal 0), or the
 // refusing row with 0 rounds.
-#[derive(Drop)]
+#[derive(Clone, Copy)]
 pub struct Solution {
     pub refusal: u8,
     pub rounds: u32,
 }
 
 // How many buffers there are (refusal 0), or the refusing row with 0.
-#[derive(Drop)]
+#[derive(Clone, Copy)]
 pub struct Count {
     pub refusal: u8,
     pub count: u32,
