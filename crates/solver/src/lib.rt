@@ -1,7 +1,9 @@
+#![tactic(auto)]
+
 // The solver: the sets S and I of every buffer, written into a lent table.
 ghost use Rattle.std.specs.Prelude.{◌≡◌, true, ◌++◌, ◌*◌, ◌≤◌, length, drop};
 ghost use Rattle.automaton.specs.Automaton.{valid};
-ghost use Rattle.solver_sets.specs.Table.{buffers_count, table as table_of, rounds as roundsOf};
+ghost use Rattle.solver_sets.specs.Table.{buffers_count, table as table_of, rounds as rounds_of};
 ghost use Rattle.solver_answers.specs.Solving.{solution, solved_table};
 
 use automaton::Automaton;
@@ -14,7 +16,7 @@ use solver_table::fill_level;
 // Writes the sets of every buffer, from the empty one on.
 fn fill(a: Automaton, table: &mut [u32]) -> u32
     requires { (valid a ≡ true) × (2 * buffers_count a ≤ length table.old) }
-    ensures { (table.new ≡ table_of a ++ drop (2 * buffers_count a) table.old) × (result ≡ roundsOf a) }
+    ensures { (table.new ≡ table_of a ++ drop (2 * buffers_count a) table.old) × (result ≡ rounds_of a) }
 {
     let n = as_usize(a.states);
     let m = as_usize(a.symbols);
