@@ -51,7 +51,8 @@ pub record Merges (a b c : Automaton) : Type 0 where
 -- the product is that record, and no other is
 abbrev pub ProductAsWorded : Type 0
 ProductAsWorded =
-    (a b : Automaton) → product_refusal a b ≡ 0 → Merges a b (product_of a b) × ((c : Automaton) → Merges a b c → c ≡ product_of a b)
+    (a b : Automaton) → product_refusal a b ≡ 0
+    → Merges a b (product_of a b) × ((c : Automaton) → Merges a b c → c ≡ product_of a b)
 
 -- The whole answer: the row, and the two merged, or a record with 0 everywhere; no other answer is
 -- so.
@@ -134,7 +135,8 @@ pub record ApartNotTogether : Type 0 where
   pub held : Buffer (product_of sheet_v no_answer) (1 ∷ [])
   pub first-rests : Winning sheet_v (1 ∷ []) 0
   pub second-rests : Winning no_answer (1 ∷ []) 0
-  pub product-does-not : Union (Winning (product_of sheet_v no_answer) (1 ∷ [])) (Intermediate (product_of sheet_v no_answer) (1 ∷ []))
+  pub product-does-not :
+      Union (Winning (product_of sheet_v no_answer) (1 ∷ [])) (Intermediate (product_of sheet_v no_answer) (1 ∷ []))
       (pair no_answer.states 0 0)
       → ⊥
 
