@@ -1,3 +1,5 @@
+#![tactic(auto)]
+
 // The product of two automata (document 02, Card 6: two sheets, both to be obeyed, merged into
 // one). Parts of the records are lent to the inner functions; a pair of states is numbered first
 // state × second count + second state.
