@@ -101,7 +101,8 @@ pub record TwoSheets (s : List ℕ) (a b : Automaton) : Type 0 where
 pub record MergeRows (s : List ℕ) : Type 0 where
   pub row-18 : max_input < length s → Says s (refusal_line 18)
   -- the first fault of L and of the first sheet
-  pub first-fault : length s ≤ max_input → ((opening s).refusal ≡ 0 → ⊥) → Says s (fault_line (opening s).refusal (opening s).place)
+  pub first-fault : length s ≤ max_input → ((opening s).refusal ≡ 0 → ⊥)
+      → Says s (fault_line (opening s).refusal (opening s).place)
   -- that of the second sheet, counted from the input's first byte
   pub second-fault : length s ≤ max_input → (opening s).refusal ≡ 0
       → let from = (opening s).place in

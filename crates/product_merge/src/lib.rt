@@ -1,3 +1,5 @@
+#![tactic(auto)]
+
 // What the program `merge` writes on an input (document 02, Card 6: two sheets become one): all of
 // its work but reading and writing.
 ghost use Rattle.std.specs.Prelude.{◌≡◌};
@@ -9,7 +11,7 @@ use automaton::Automaton;
 use text_lines::{fault_line, refusal_line};
 
 // How many bytes go to standard output, and how many to standard error.
-#[derive(Drop)]
+#[derive(Clone, Copy)]
 pub struct Merged {
     pub bytes: usize,
     pub note: usize,
