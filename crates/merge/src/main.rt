@@ -1,3 +1,5 @@
+#![tactic(auto)]
+
 // The program `merge`: reads a number L, L bytes of one sheet and the bytes of a second one, and
 // writes the bytes of the merged sheet, or a line on standard error.
 ghost use Rattle.std.specs.Prelude.{◌≡◌, replicate};
@@ -10,11 +12,11 @@ fn byte_room() -> [u8; 60001]
     [0; 60001]
 }
 
-fn main() {
+fn main(rt: HostRuntime) {
     let mut input = byte_room();
-    let read = streams::read_all(streams::STANDARD_INPUT, &mut input);
+    let read = streams::read_all(&mut rt.stdin(), &mut input);
     if read.failed {
-        streams::cannot_read(b"merge");
+        streams::cannot_read(&mut rt.stderr(), b"merge");
         return;
     }
     let count = read.length;
@@ -23,10 +25,10 @@ fn main() {
     let merged = product_merge::merge_input(&input[..count], &mut out, &mut note);
     let bytes = merged.bytes;
     let said = merged.note;
-    let written = streams::write_all(streams::STANDARD_OUTPUT, &out[..bytes]);
+    let written = streams::write_all(&mut rt.stdout(), &out[..bytes]);
     if !written.done {
-        streams::cannot_write(b"merge");
+        streams::cannot_write(&mut rt.stderr(), b"merge");
         return;
     }
-    streams::write_all(streams::STANDARD_ERROR, &note[..said]);
+    streams::write_all(&mut rt.stderr(), &note[..said]);
 }
