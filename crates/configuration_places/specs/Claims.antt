@@ -1,5 +1,5 @@
 -- What is proved of places, in words.
-use Rattle.std.specs.Prelude.{ℕ, ◌+◌, ◌<◌, ◌≤◌, ◌≡◌}
+use Rattle.std.specs.Prelude.{◌+◌, ◌≤◌, ◌≡◌}
 use Rattle.configuration_places.specs.Places.{InputPlace, input_number, waited}
 
 -- A wait leads from the earlier place to the later one; there is none to a place that is not

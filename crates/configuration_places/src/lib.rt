@@ -1,3 +1,5 @@
+#![tactic(auto)]
+
 // Two counters that must not be confused: a place in the input and a place in the output. They are
 // types of their own, so that code that passes one for the other does not build
 // (`tests/places`).
@@ -7,12 +9,12 @@ ghost use Rattle.configuration_places.specs.Places.{waited};
 // A place in the input: how many events were accepted before. The first has the place 0, and a
 // refused event has none.
 #[repr(C)]
-#[derive(Drop)]
+#[derive(Clone, Copy)]
 pub struct InputPlace(pub u32);
 
 // A place in the output: how many symbols were put out before.
 #[repr(C)]
-#[derive(Drop)]
+#[derive(Clone, Copy)]
 pub struct OutputPlace(pub u32);
 
 // The end of a count: the last number of 32 bits.
