@@ -1,7 +1,7 @@
 -- What a consistent configuration is, as plain facts, and that `consistent` decides it.
 use Prim.Native.Nat.{ℕ, zero, suc, ◌+◌, ◌-◌, ◌<◌, ◌≤◌}
 use mathlib.Core.Path.{◌≡◌, refl, sym, ◌∙◌, ap}
-use mathlib.Core.Bool.{Bool, true, false, cond, ◌&&◌, ◌||◌}
+use mathlib.Core.Bool.{Bool, true, false, cond, ◌||◌}
 use mathlib.Core.List.{List, [], ◌∷◌, map}
 use native.Mathlib.Omega.{arith}
 use lib.ListN.{length, get_or, take, length-map, get_or-map}
@@ -20,9 +20,9 @@ use Rattle.automaton.proofs.Classes.{class-one}
 use Rattle.solver_sets.specs.Table.{Controllable, Buffer}
 use Rattle.configuration_places.specs.Places.{input_place, input_number, output_number}
 use Rattle.configuration_places.proofs.Facts.{numbers-places, places-numbers}
-use Rattle.configuration.specs.Claims.{Stands, ConsistentAsWorded, input_at}
+use Rattle.configuration.specs.Claims.{ConsistentAsWorded, input_at}
 use Rattle.configuration.specs.Configuration.{Configuration, Position, held_events, place_numbers, position_of, configuration, controllable_symbol, place_stands, buffer_stands, input_stands, inputs_stand, consistent_in, consistent}
-use Rattle.configuration.proofs.Rising.{Rising, Placed, rising-between}
+use Rattle.configuration.proofs.Rising.{Placed, rising-between}
 
 -- a controllable symbol
 abbrev pub ControllableSymbol : Automaton → ℕ → Type 0

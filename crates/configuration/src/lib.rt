@@ -1,3 +1,5 @@
+#![tactic(auto)]
+
 // The configuration of a monitor: its state, the events that it holds back with their places in
 // the input, and how many events came in and went out. (The crate `configuration_check` checks
 // row 13.)
@@ -12,7 +14,7 @@ use configuration_places::{InputPlace, OutputPlace};
 // is the next one's place in the input, and how many symbols were put out. (`repr(C)`: a list of
 // them crosses to C as it lies, crate `jaxhophasi`.)
 #[repr(C)]
-#[derive(Drop)]
+#[derive(Clone, Copy)]
 pub struct Configuration {
     pub state: u8,
     pub held: u8,
@@ -23,7 +25,7 @@ pub struct Configuration {
 }
 
 // What `initial` gives: the initial configuration (refusal 0), or the refusing row with zeros.
-#[derive(Drop)]
+#[derive(Clone, Copy)]
 pub struct FirstConfiguration {
     pub refusal: u8,
     pub configuration: Configuration,
