@@ -1,3 +1,5 @@
+#![tactic(auto)]
+
 // Row 13: the configuration is one of the automaton, of which only what the row reads is passed.
 // The loops are not left early.
 ghost use Rattle.std.specs.Prelude.{◌≡◌, cond, ◌&&◌, ◌||◌, map, ◌+◌, ◌-◌, ◌<◌, eqb, ltb, length, get_or};
