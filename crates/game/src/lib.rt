@@ -1,3 +1,5 @@
+#![tactic(auto)]
+
 // The game (document 01's second judge): may we rest here, and can we come to rest? The two
 // questions are put here; the crate `game_judge` answers both for small automata.
 mod play;
@@ -5,7 +7,7 @@ mod play;
 pub use play::{can_rest, may_rest};
 
 // Both answers (refusal 0), or the refusing row with no and no.
-#[derive(Drop)]
+#[derive(Clone, Copy)]
 pub struct Verdict {
     pub refusal: u8,
     pub may_rest: bool,
