@@ -1,3 +1,5 @@
+#![tactic(auto)]
+
 // The second judge: both questions of the game, for small automata.
 mod limits;
 
