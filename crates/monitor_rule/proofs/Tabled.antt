@@ -90,8 +90,8 @@ module _ (a : Automaton) (v : Valid a) where
 -- what is read of a table, with the automaton's own ranks and next states
 pub reached-over : (a : Automaton) (ranks w : List ℕ) (q : ℕ) → reached (over ranks a.next) q w ≡ reached a q w
 unfolding reached step
-reached-over a ranks [] q = refl
-reached-over a ranks (e ∷ w) q = reached-over a ranks w (step a q e)
+reached-over a _ [] q = refl
+reached-over a r (e ∷ w) q = reached-over a r w (step a q e)
 
 module _ (a : Automaton) (v : Valid a) (t : List ℕ) (w : List ℕ) (c : Controllable a w) (q : ℕ) where
   abbrev ranking : Ranking
