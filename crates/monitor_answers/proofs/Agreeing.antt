@@ -2,17 +2,16 @@
 -- monitor may ask.
 use Prim.Native.Nat.{ℕ}
 use mathlib.Core.Path.{◌≡◌, sym, ◌∙◌}
-use mathlib.Core.List.{List, ◌++◌}
+use mathlib.Core.List.{List}
 use lib.Dec.{eqb}
 use borrow.Author.Tests.{eqb-true, eqb-false}
-use Rattle.base.specs.Rows.{first}
 use Rattle.base.proofs.Bools.{by}
 use Rattle.automaton.specs.declared.Automaton.{Automaton}
 use Rattle.solver_sets.specs.Table.{short}
 use Rattle.solver_sets.proofs.Total.{total}
 use Rattle.configuration.specs.declared.Configuration.{Configuration}
 use Rattle.configuration.specs.Configuration.{held_events, position_of}
-use Rattle.monitor_rule.specs.Step.{by_table, effect_from, advance, event_rows, event_refusal, run_of}
+use Rattle.monitor_rule.specs.Step.{by_table, advance, event_rows, event_refusal, run_of}
 use Rattle.monitor_rule.proofs.Effects.{Agree, refusal-same, advance_occurs, effect-agrees, sources_agree}
 use Rattle.monitor_rule.proofs.Runs.{run-same}
 use Rattle.monitor_answers.specs.Answers.{table_rows, call_rows, is_winning, call_refusal, status, receive_refusal, received, run_refusal, ran, ran_buffer}

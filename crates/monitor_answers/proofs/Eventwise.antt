@@ -1,11 +1,11 @@
 -- A day is its events.
-use Prim.Native.Nat.{ℕ, ◌+◌}
-use mathlib.Core.Path.{◌≡◌, refl, sym, ◌∙◌, ap, ap₂, subst}
-use mathlib.Core.Bool.{true, cond}
+use Prim.Native.Nat.{ℕ}
+use mathlib.Core.Path.{◌≡◌, refl, sym, ◌∙◌, ap, ap₂}
+use mathlib.Core.Bool.{true}
 use mathlib.Core.List.{List, [], ◌∷◌, ◌++◌, map}
 use native.Mathlib.Nat.{zero-add}
 use native.Mathlib.Omega.{arith}
-use lib.ListN.{length, take}
+use lib.ListN.{take}
 use lib.Dec.{eqb}
 use borrow.Author.Tests.{eqb-true, eqb-false, ne_eqb}
 use Rattle.base.specs.Pad.{pad}
@@ -15,13 +15,13 @@ use Rattle.automaton.specs.declared.Automaton.{Automaton}
 use Rattle.configuration_places.specs.Places.{input_number}
 use Rattle.configuration_places.proofs.Facts.{numbers-places}
 use Rattle.configuration.specs.declared.Configuration.{Configuration}
-use Rattle.configuration.specs.Configuration.{Position, position_of, configuration, consistent}
+use Rattle.configuration.specs.Configuration.{position_of, configuration, consistent}
 use Rattle.configuration.proofs.Facts.{position-made}
-use Rattle.monitor_rule.specs.Step.{by_table, Effect, effect_from, sources, advance, event_refusal, Run, run_of}
+use Rattle.monitor_rule.specs.Step.{by_table, effect_from, sources, advance, event_refusal, Run, run_of}
 use Rattle.monitor_rule.proofs.Effects.{places_as_worded}
 use Rattle.monitor_rule.proofs.Runs.{after, passed, run-accepts, run-refuses}
 use Rattle.monitor_answers.specs.declared.Received.{Received}
-use Rattle.monitor_answers.specs.Answers.{received, run_refusal, ran, ran_buffer}
+use Rattle.monitor_answers.specs.Answers.{received, ran, ran_buffer}
 use Rattle.monitor_answers.specs.Turns.{turn_refusal, turn_emitted, turn_sources, turn_next}
 use Rattle.monitor_answers.specs.Claims.{answers_to, last_after, emitted_in, refused_in, RunsAsEvents}
 use Rattle.monitor_answers.proofs.Refusals.{Clear, place}
