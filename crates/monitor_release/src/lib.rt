@@ -1,3 +1,5 @@
+#![tactic(auto)]
+
 // The release, to be read beside κ in Definition 3.10 of source document 001: of the buffer's
 // front parts in turn from the empty one, those that qualify (the paper's G), then the longest.
 ghost use Rattle.std.specs.Prelude.{◌≡◌, cond, [], ℕ, ◌*◌, ◌≤◌, ◌<◌, get_or, length, set, take, replicate};
