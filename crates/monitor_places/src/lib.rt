@@ -1,3 +1,5 @@
+#![tactic(auto)]
+
 // The places in the input of the events at hand when one comes: of what is then emitted, and of
 // what is then held. They stand in the order in which their events go out, the newcomer's at an
 // index of its own: first where it passes, behind those that are held where it waits.
