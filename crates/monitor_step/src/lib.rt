@@ -1,3 +1,5 @@
+#![tactic(auto)]
+
 // One event: the rows that need no search, what an event with room leaves, and what one at a full
 // buffer does. Both calls of the monitor, one event and a whole day, are made of these.
 ghost use Rattle.std.specs.Prelude.{◌≡◌, false, cond, not, ◌&&◌, [], ◌∷◌, ◌++◌, eqb, leb, ◌+◌, ◌*◌, ◌≤◌, ◌<◌, length, get_or, set, take, drop};
@@ -16,7 +18,7 @@ use monitor_release::release;
 // What an event leaves: the row that refuses it (0: none), the state, the buffer and how many it
 // holds, how many of the events in hand were released, and the place after what was written. All
 // is as it was where it is refused.
-#[derive(Drop)]
+#[derive(Clone, Copy)]
 pub struct Stepped {
     pub row: u8,
     pub state: usize,
