@@ -1,3 +1,5 @@
+#![tactic(auto)]
+
 // Rows 11 and 12, which every call on a record and a table checks first. (Row 13 is crate
 // `configuration_check`.)
 ghost use Rattle.std.specs.Prelude.{◌≡◌, true};
@@ -9,7 +11,7 @@ use automaton_symbols::{Ranking, rank_symbols};
 use base::as_usize;
 
 // The refusing row of 11 and 12 (0: none), and the ranking of the symbols of a valid record.
-#[derive(Drop)]
+#[derive(Clone, Copy)]
 pub struct Entry {
     pub refusal: u8,
     pub ranking: Ranking,
