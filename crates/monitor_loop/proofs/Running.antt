@@ -8,9 +8,6 @@ use native.Mathlib.Numerals.{add-one}
 use native.Mathlib.Omega.{arith}
 use lib.ListN.{length, get_or, take, drop, length-append}
 use lib.Seq.{sets, sets-eq, length-sets, drop-cons, drop-length}
-use lib.Dec.{eqb, ltb}
-use borrow.Author.Tests.{eqb-true, eqb-false, ltb-true, ltb-false}
-use Rattle.base.proofs.Bools.{by}
 use Rattle.base.proofs.Stores.{sets_join}
 use Rattle.automaton.specs.declared.Automaton.{Automaton}
 use Rattle.configuration_places.specs.declared.InputPlace.{InputPlace}

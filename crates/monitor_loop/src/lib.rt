@@ -1,3 +1,5 @@
+#![tactic(auto)]
+
 // Events in turn, over the lent parts of an automaton that row 11 let pass and a table that row 12
 // let pass: one event for any configuration, and the loop over a list of events.
 ghost use Rattle.std.specs.Prelude.{◌≡◌, not, ◌&&◌, ℕ, ◌+◌, ◌*◌, ◌≤◌, ◌<◌, eqb, length, get_or};
@@ -15,7 +17,7 @@ use monitor_places::places_after;
 use monitor_step::{early_row, overflow, step};
 
 // How many symbols of an automaton are controllable, and the numbers that an event is held to.
-#[derive(Drop)]
+#[derive(Clone, Copy)]
 pub struct Limits {
     pub controllables: u32,
     pub states: u8,

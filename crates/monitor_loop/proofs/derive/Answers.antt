@@ -1,0 +1,5 @@
+use Rattle.monitor_loop.proofs.derive.Goals as goal
+
+-- src/lib.rt:42:1
+pub returns : goal.returns
+returns c = rw c.as_u32.ensures.0
