@@ -1,3 +1,5 @@
+#![tactic(auto)]
+
 // The enforcement monitor's calls over a lent table: whether a configuration is winning, and one
 // event. (The call of a whole day is crate `monitor_day`.)
 ghost use Rattle.std.specs.Prelude.{◌≡◌, true, false, cond, eqb};
