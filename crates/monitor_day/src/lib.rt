@@ -1,3 +1,5 @@
+#![tactic(auto)]
+
 // A whole day: a list of events from a configuration on. The record, the table and the
 // configuration are checked once.
 ghost use Rattle.std.specs.Prelude.{◌≡◌};
