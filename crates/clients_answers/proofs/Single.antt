@@ -1,23 +1,20 @@
 -- One event for a client is the call on its configuration alone.
 use Prim.Native.Nat.{ℕ, ◌<◌}
 use mathlib.Core.Path.{◌≡◌, refl, sym, ◌∙◌, ap}
-use mathlib.Core.List.{List, map}
+use mathlib.Core.List.{List}
 use native.Mathlib.Omega.{arith}
-use lib.ListN.{length, get_or, take}
+use lib.ListN.{length, get_or}
 use lib.Dec.{eqb}
 use borrow.Author.Tests.{eqb-true, eqb-false, lt-ltb}
 use Rattle.base.specs.Rows.{first}
-use Rattle.base.specs.Pad.{pad}
 use Rattle.base.proofs.Bools.{by}
 use Rattle.base.proofs.Padding.{take-pad, zeros-used}
 use Rattle.automaton.specs.declared.Automaton.{Automaton}
-use Rattle.configuration_places.specs.Places.{input_number}
-use Rattle.configuration_places.proofs.Facts.{numbers-places}
 use Rattle.configuration.specs.declared.Configuration.{Configuration}
 use Rattle.configuration.specs.Configuration.{Position, held_events, position_of, configuration}
-use Rattle.monitor_rule.specs.Step.{by_table, effect_from, sources, advance}
+use Rattle.monitor_rule.specs.Step.{by_table, advance}
 use Rattle.monitor_answers.specs.Answers.{is_winning, received}
-use Rattle.monitor_answers.specs.Turns.{turn_refusal, turn_emitted, turn_sources, turn_next}
+use Rattle.monitor_answers.specs.Turns.{turn_refusal}
 use Rattle.monitor_answers.proofs.Turns.{Opened, receive_turns, turn_emits, turn_traces, turn_moves}
 use Rattle.monitor_answers.proofs.Accepted.{emitted-padded, opened-answers}
 use Rattle.monitor_answers.proofs.Eventwise.{same_row, same-emitted, same-sources, same_next}
