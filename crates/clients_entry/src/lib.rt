@@ -1,3 +1,5 @@
+#![tactic(auto)]
+
 // The calls over a list of clients as far as they need no list: rows 11, 12 and 20, what a
 // configuration holds for row 16 and its mark for row 13, and one event for one configuration, by
 // value.
@@ -24,7 +26,7 @@ pub const MAX_CLIENTS: usize = 500;
 
 // The refusing row of 11, 12 and 20 (0: none), and what an event reads beside the automaton's
 // arrays.
-#[derive(Drop)]
+#[derive(Clone, Copy)]
 pub struct ListEntry {
     pub refusal: u8,
     pub limits: Limits,
@@ -33,7 +35,7 @@ pub struct ListEntry {
 
 // What one event of a day leaves: its client's configuration, the place after what was written,
 // and 1 where it was refused.
-#[derive(Drop)]
+#[derive(Clone, Copy)]
 pub struct Taken {
     pub configuration: Configuration,
     pub written: usize,
@@ -102,7 +104,8 @@ pub fn held_in(
 ) -> usize
     requires { client < max_clients }
     ensures { let lent = classes.now in
-        (result ≡ held_in_by limits lent c) × (marks.new ≡ set marks.old client (mark_by limits lent c)) }
+        (result ≡ held_in_by limits lent c) × (marks.new ≡ set marks.old client (mark_by limits lent c))
+        × (result < 256) }
 {
     if !consistent(limits.states, limits.symbols, limits.capacity, classes, c) {
         marks[client] = 0;
@@ -202,7 +205,7 @@ pub fn take<'a>(
 }
 
 // An event of a day's list: its client and its symbol.
-#[derive(Drop)]
+#[derive(Clone, Copy)]
 pub struct Event {
     pub client: usize,
     pub symbol: u32,
