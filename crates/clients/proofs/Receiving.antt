@@ -6,6 +6,7 @@ use mathlib.Core.List.{List, [], ◌∷◌}
 use native.Mathlib.Omega.{arith}
 use lib.ListN.{length, get_or, set}
 use lib.Seq.{set-get_or}
+use Rattle.std.proofs.lemmas.List.{get_or_default}
 use lib.Dec.{eqb}
 use borrow.Author.Tests.{eqb-true, eqb-false}
 use Rattle.base.specs.Rows.{first}
@@ -65,10 +66,12 @@ module _ (a : Automaton) (t : List ℕ) (cs : List Configuration) (i e : ℕ) wh
     unfolding present_of
     answer-is z x ex = rw (ex, z) (sym (events-alone a t cs (list_clear a t (length cs) z) i e l).answer)
 
-    pub receive_present : (x : Received) → x ≡ present_of a t (length cs) (get_or cs i none) e → (r : ReceivedFor) → r ≡ answer_of x
-        → Answers r (set cs i x.configuration)
+    -- (the code reads the list with a default of its own)
+    pub receive_present : (x : Received) (d : Configuration) → x ≡ present_of a t (length cs) (get_or cs i d) e → (r : ReceivedFor)
+        → r ≡ answer_of x → Answers r (set cs i x.configuration)
     unfolding present_of
-    receive_present x ex r er =
+    receive_present x d ed r er =
+        let ex = ed ∙ ap (λ (c : Configuration). present_of a t (length cs) c e) (get_or_default cs i d none l) in
         by (eqb n 0)
         (λ k. let z = eqb-true n 0 k in (er ∙ answer-is z x ex, next-is z x ex))
         (λ k.

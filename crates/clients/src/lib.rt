@@ -1,3 +1,5 @@
+#![tactic(auto)]
+
 // One event for a client of a lent list of configurations, one for each client: one configuration
 // is read and one stored, above the call by value. (The call of a whole day is crate
 // `clients_day`.)
