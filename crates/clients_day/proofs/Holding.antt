@@ -1,17 +1,15 @@
 -- How many events all of a list hold, and the marks of all, as a loop adds up and stores them, and
 -- by an automaton's own parts.
 use Prim.Native.Nat.{ℕ, ◌+◌, ◌<◌, ◌≤◌}
-use mathlib.Core.Path.{◌≡◌, refl, ◌∙◌, ap}
+use mathlib.Core.Path.{◌≡◌, refl, sym, ◌∙◌, ap}
 use mathlib.Core.List.{List, [], ◌∷◌, map}
 use native.Mathlib.Numerals.{add-one}
 use native.Mathlib.Omega.{arith}
 use lib.ListN.{length, get_or, set, drop, drop_of_length-le, length-map, get_or-append}
 use lib.Seq.{drop-cons, sets, sets-eq}
-use Rattle.base.proofs.Bools.{by}
 use Rattle.base.proofs.Every.{get_d_map}
 use Rattle.automaton.specs.declared.Automaton.{Automaton}
 use Rattle.configuration.specs.declared.Configuration.{Configuration}
-use Rattle.configuration.specs.Configuration.{consistent_in}
 use Rattle.monitor_loop.specs.declared.Limits.{Limits}
 use Rattle.monitor_loop.specs.Lending.{Lends}
 use Rattle.clients_answers.specs.Clients.{none, held_in, held_in_all}
@@ -20,27 +18,32 @@ use Rattle.clients_entry.proofs.Entering.{mark-own}
 use Rattle.clients_day.specs.Days.{held_in_all_by, marks_by, Marked}
 
 module _ (l : Limits) (classes : List ℕ) where
-  pub held-at_most : (c : Configuration) → held_in_by l classes c ≤ c.held
-  unfolding held_in_by
-  held-at_most c =
-      by (consistent_in l.states l.symbols l.capacity classes c) (λ k. rw k (omega arith)) (λ k. rw k (omega arith))
-
-  -- one more of them
-  pub held_more : (cs : List Configuration) (i : ℕ) → i < length cs
-      → held_in_all_by l classes (drop i cs) ≡ held_in_by l classes (get_or cs i none) + held_in_all_by l classes (drop (i + 1) cs)
+  -- one more of them (the code reads the list with a default of its own)
+  pub held_more : (cs : List Configuration) (i : ℕ) (d : Configuration) (sum total one : ℕ) → i < length cs
+      → one ≡ held_in_by l classes (get_or cs i d) → sum + held_in_all_by l classes (drop i cs) ≡ total
+      → (sum + one) + held_in_all_by l classes (drop (i + 1) cs) ≡ total
   unfolding held_in_all_by
-  held_more cs i h = rw (drop-cons cs i none h) (rw (add-one i))
+  held_more cs i d sum total one h e f =
+      let more : held_in_all_by l classes (drop i cs) ≡ held_in_by l classes (get_or cs i d) + held_in_all_by l classes (drop (i + 1) cs) =
+      rw (drop-cons cs i d h) (rw (add-one i))
+      in
+      omega (arith, e, f, more)
 
   pub held_end : (cs : List Configuration) (i : ℕ) → length cs ≤ i → held_in_all_by l classes (drop i cs) ≡ 0
   unfolding held_in_all_by
   held_end cs i h = rw (drop_of_length-le cs h)
 
   -- the mark of one more
-  pub marks_more : (marks : List ℕ) (cs : List Configuration) (i : ℕ) → i < length cs
-      → sets marks i (marks_by l classes (drop i cs))
-      ≡ sets (set marks i (mark_by l classes (get_or cs i none))) (i + 1) (marks_by l classes (drop (i + 1) cs))
+  pub marks_more : (marks : List ℕ) (cs : List Configuration) (i : ℕ) (d : Configuration) (all then : List ℕ) → i < length cs
+      → then ≡ set marks i (mark_by l classes (get_or cs i d)) → sets marks i (marks_by l classes (drop i cs)) ≡ all
+      → sets then (i + 1) (marks_by l classes (drop (i + 1) cs)) ≡ all
   unfolding marks_by
-  marks_more marks cs i h = rw (drop-cons cs i none h) (rw (add-one i))
+  marks_more marks cs i d all then h e f =
+      let more : sets marks i (marks_by l classes (drop i cs))
+      ≡ sets (set marks i (mark_by l classes (get_or cs i d))) (i + 1) (marks_by l classes (drop (i + 1) cs)) =
+      rw (drop-cons cs i d h) (rw (add-one i))
+      in
+      rw e (sym more ∙ f)
 
   pub marks_end : (marks : List ℕ) (cs : List Configuration) (i : ℕ) → length cs ≤ i → sets marks i (marks_by l classes (drop i cs)) ≡ marks
   unfolding marks_by

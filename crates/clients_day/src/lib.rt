@@ -1,3 +1,5 @@
+#![tactic(auto)]
+
 // A whole day over a lent list of configurations, one for each client. One configuration is read
 // for each event, and one stored for each accepted event, above the step by value.
 ghost use Rattle.std.specs.Prelude.{◌≡◌, ◌≤◌, length};
