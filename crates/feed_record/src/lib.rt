@@ -1,3 +1,5 @@
+#![tactic(auto)]
+
 // One record of the feed by itself (document 02, Card 3): its serial, its client and its symbol in
 // seven-bit groups, and whether the serial that is expected lets it in. No automaton, table or
 // client is looked at.
@@ -8,7 +10,7 @@ ghost use Rattle.feed_record.specs.Records.{unread, record_in, turned_away, admi
 use varint::Number;
 
 // The serial that is expected: none before the first record, so that any is let in, or one.
-#[derive(Drop)]
+#[derive(Clone, Copy)]
 pub enum Expected {
     Any,
     Serial(u16),
@@ -16,7 +18,7 @@ pub enum Expected {
 
 // A record's three numbers; or the row (1, 2, 10) and the place of what is wrong with its bytes,
 // and zeros.
-#[derive(Drop)]
+#[derive(Clone, Copy)]
 pub struct Record {
     pub refusal: u8,
     pub place: usize,
@@ -28,7 +30,7 @@ pub struct Record {
 // A record that is let in: its event, how many records were lost before it, and the serial that is
 // expected next. Refused (rows 1, 2, 10, 21, 22): the row and its place, the expected serial as it
 // was given, and zeros.
-#[derive(Drop)]
+#[derive(Clone, Copy)]
 pub struct Admitted {
     pub refusal: u8,
     pub place: usize,
