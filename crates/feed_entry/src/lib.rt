@@ -1,3 +1,5 @@
+#![tactic(auto)]
+
 // A call on one record of the feed as far as it needs no list: the answer to a record that is let
 // in, and to one that is not.
 ghost use Rattle.std.specs.Prelude.{◌≡◌};
