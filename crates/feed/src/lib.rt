@@ -1,3 +1,5 @@
+#![tactic(auto)]
+
 // One record of the feed over a lent list of configurations, one for each client: the record is
 // admitted by value, and its event goes to the call for one event. (The record is looked at first,
 // since that needs no automaton; where it is refused, 11, 12 and 20 still come before its rows.)
