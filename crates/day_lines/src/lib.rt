@@ -1,3 +1,5 @@
+#![tactic(auto)]
+
 // The lines of a day that end in whether the configuration is winning (document 01's guarded): the
 // first line and that of an accepted event. Each function answers the place after its line, and
 // asks for the room that a line can take; a symbol takes four bytes at most.
