@@ -27,8 +27,8 @@ unfoldable pub large : List ℕ
 large = 17 ∷ 1 ∷ 6 ∷ 5 ∷ 0 ∷ 1 ∷ 1 ∷ 1 ∷ 1 ∷ 1 ∷ 1 ∷ 1 ∷ 0 ∷ 0 ∷ 0 ∷ 0 ∷ 0 ∷ 0 ∷ []
 
 -- the lines that V begins with
-abbrev pub vLine : String
-vLine = "sheet 3 2 1 start 0 guarded no"
+abbrev pub v_line : String
+v_line = "sheet 3 2 1 start 0 guarded no"
 
 abbrev pub answer_held : String
 answer_held = "in 1 out - state 0 held 1 guarded yes"
@@ -43,14 +43,14 @@ abbrev pub Prints : List ℕ → List String → Type 0
 Prints input ls = transcript input ≡ lines ls
 
 pub record CasesPrinted : Type 0 where
-  pub sample : Prints (v ++ 1 ∷ 0 ∷ []) (vLine ∷ answer_held ∷ "in 0 out 0 1 state 2 held 0 guarded yes" ∷ "end 2 0" ∷ [])
+  pub sample : Prints (v ++ 1 ∷ 0 ∷ []) (v_line ∷ answer_held ∷ "in 0 out 0 1 state 2 held 0 guarded yes" ∷ "end 2 0" ∷ [])
   -- Answer twice: the second opens the full buffer
-  pub full-opened : Prints (v ++ 1 ∷ 1 ∷ []) (vLine ∷ answer_held ∷ "in 1 out 1 state 0 held 1 guarded yes" ∷ "end 2 0" ∷ [])
+  pub full-opened : Prints (v ++ 1 ∷ 1 ∷ []) (v_line ∷ answer_held ∷ "in 1 out 1 state 0 held 1 guarded yes" ∷ "end 2 0" ∷ [])
   -- Page three times: the third does not
   pub row-15 : Prints (w ++ 2 ∷ 2 ∷ 2 ∷ [])
       ("sheet 4 4 2 start 0 guarded yes" ∷ "in 2 out - state 0 held 1 guarded yes" ∷
       "in 2 out - state 0 held 2 guarded yes" ∷ "in 2 refused 15" ∷ "end 2 1" ∷ [])
-  pub event-unfinished : Prints (v ++ 2 ∷ 128 ∷ []) (vLine ∷ "in 2 refused 14" ∷ "refused 1 at 17" ∷ [])
+  pub event-unfinished : Prints (v ++ 2 ∷ 128 ∷ []) (v_line ∷ "in 2 refused 14" ∷ "refused 1 at 17" ∷ [])
   pub padded-length : Prints (129 ∷ 0 ∷ 33 ∷ []) ("refused 3 at 2" ∷ [])
   pub too_large : Prints (large ++ 128 ∷ []) ("refused 12" ∷ [])
 
