@@ -1,3 +1,5 @@
+#![tactic(auto)]
+
 // The beginning of a day's input: row 18, the number L and L bytes of sheet, the table.
 ghost use Rattle.std.specs.Prelude.{◌≡◌, true, length};
 ghost use Rattle.automaton.specs.Automaton.{valid};
@@ -49,11 +51,14 @@ fn opened(a: Automaton, place: usize, table: &mut [u32; 16384]) -> Progress
     }
 }
 
+// The most bytes of a day's input.
+const MAX_INPUT: usize = 60000;
+
 pub fn begin(input: &[u8], table: &mut [u32; 16384]) -> Progress
     ensures result_after { to_come table.new input.now result ≡ transcript input.now }
     ensures table_after { table.new ≡ table_after input.now table.old }
 {
-    if 60000 < input.len() {
+    if MAX_INPUT < input.len() {
         return without(Phase::Refused(18));
     }
     let opening = automaton_opening::read(input);
