@@ -1,3 +1,5 @@
+#![tactic(auto)]
+
 // One line of the transcript at a time.
 ghost use Rattle.std.specs.Prelude.{◌≡◌, ◌+◌, ◌≤◌, ◌<◌, length};
 ghost use Rattle.text.specs.Decimal.{Appended};
