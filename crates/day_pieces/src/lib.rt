@@ -1,3 +1,5 @@
+#![tactic(auto)]
+
 // The transcript in pieces, each as many lines as a lent buffer has room for.
 
 ghost use Rattle.std.specs.Prelude.{◌≡◌, [], ◌≤◌, length};
