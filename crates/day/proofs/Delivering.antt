@@ -4,10 +4,14 @@ use mathlib.Core.Path.{◌≡◌, refl, sym, ◌∙◌, ap}
 use mathlib.Core.Bool.{true, false}
 use mathlib.Core.List.{List, [], ◌++◌, append_assoc, append-nil}
 use native.Mathlib.Omega.{arith}
-use lib.ListN.{length, take, length-append}
+use lib.ListN.{length, take, drop, length-append}
+use lib.Seq.{take-add, take-append-le, drop_at}
 use borrow.Author.Tests.{eqb-true, eqb-false}
+use Rattle.std.specs.declared.option.Option.{Option}
+use Rattle.std.specs.Io.KnownBytes.{Appends}
 use Rattle.streams.specs.declared.WriteResult.{WriteResult}
 use Rattle.streams.specs.Streams.{Handed}
+use Rattle.streams.proofs.Passing.{appended-more}
 use Rattle.text.proofs.Appending.{front-is, front_length}
 use Rattle.day_transcript.specs.declared.Progress.{Progress}
 use Rattle.day_transcript.specs.Pieces.{to_come, Continued}
@@ -41,6 +45,15 @@ module _ {text t s : List ℕ} {p : Progress} {count : ℕ} (g : Delivering text
       let l = length-append g.before (x.written ++ to_come t s after) in
       let m = length-append x.written (to_come t s after) in
       omega (arith, g.fits, g.counted, part, ap length whole, l, m)
+
+  -- what was handed over of it comes behind what was before
+  pub passes : (first old new : Option (List ℕ)) → Appends first old (take count text) → Appends old new (take w.count (take n out'))
+      → Appends first new (take (count + w.count) text)
+  passes first old new a b =
+      let later = x.written ++ to_come t s after in
+      let behind : take w.count (drop count text) ≡ take w.count x.written =
+      rw (sym whole, drop_at g.before later count (sym g.counted)) (take-append-le w.count x.written (to_come t s after) part) in
+      rw (take-add count w.count text, behind) (appended-more first old new _ _ a (rw (front-is x.stored) at b))
 
   -- the piece was handed over whole
   pub goes_on : w.done ≡ true → Delivering text (to_come t s after) (count + w.count)
