@@ -1,17 +1,19 @@
+#![tactic(auto)]
+
 // Numbers as text: decimal numbers with separators and comments between them, and the same numbers
 // in seven-bit groups. The notation is defined in specs/, and what holds of it is proved here. The
 // crate `notation_tokens` finds the tokens of a text and reads one, `notation_pack` packs the
 // text.
 
 // A place of a text, and how many lines end before it.
-#[derive(Drop)]
+#[derive(Clone, Copy)]
 pub struct Place {
     pub lines: usize,
     pub at: usize,
 }
 
 // A token: how many lines end before it, where it begins and where it ends.
-#[derive(Drop)]
+#[derive(Clone, Copy)]
 pub struct Token {
     pub lines: usize,
     pub from: usize,
@@ -20,7 +22,7 @@ pub struct Token {
 
 // What is wrong: nothing; a token that is no number, or one over 2,097,151; a lent buffer that is
 // too short.
-#[derive(Drop)]
+#[derive(Clone, Copy)]
 pub enum Fault {
     None,
     NotNumber,
@@ -29,14 +31,14 @@ pub enum Fault {
 }
 
 // What a token's bytes are: a number, or a fault, with value 0.
-#[derive(Drop)]
+#[derive(Clone, Copy)]
 pub struct Word {
     pub fault: Fault,
     pub value: u32,
 }
 
 // A token and what its bytes are.
-#[derive(Drop)]
+#[derive(Clone, Copy)]
 pub struct Item {
     pub token: Token,
     pub word: Word,
@@ -44,7 +46,7 @@ pub struct Item {
 
 // What packing answers: how many bytes were written, or the fault, with the number of the line
 // where it stands and the token's beginning and end (0 where there is none).
-#[derive(Drop)]
+#[derive(Clone, Copy)]
 pub struct Packed {
     pub fault: Fault,
     pub line: usize,
