@@ -1,3 +1,5 @@
+#![tactic(auto)]
+
 // The tokens of a text, one after the other, and the number that a token's bytes stand for.
 ghost use Rattle.std.specs.Prelude.{◌≡◌, false, ◌||◌, ◌+◌, ◌≤◌, length, drop};
 ghost use Rattle.notation.specs.Tokens.{ends, comment, newlines, beginning, token_length, token_at};
