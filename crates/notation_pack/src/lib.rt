@@ -1,3 +1,5 @@
+#![tactic(auto)]
+
 // Packing a text: a pass that looks for faults and counts, then one that writes.
 ghost use Rattle.std.specs.Prelude.{◌≡◌, ◌+◌, ◌<◌, ◌≤◌, length};
 ghost use Rattle.varint.specs.Varint.{bytes};
