@@ -1,3 +1,5 @@
+#![tactic(auto)]
+
 // Numbers in seven-bit groups, written out as a line of decimal numbers: a pass that looks for
 // faults and measures, then one that writes.
 ghost use Rattle.std.specs.Prelude.{◌≡◌, false, ◌≤◌, length};
@@ -7,7 +9,7 @@ ghost use Rattle.notation_unpack.specs.Measures.{measured, mark_at, StoreLineReq
 
 // What unpacking answers: how many bytes of text were written, or the refusing row with the place
 // where the faulty number begins (0 for row 16).
-#[derive(Drop)]
+#[derive(Clone, Copy)]
 pub struct Unpacked {
     pub refusal: u8,
     pub place: usize,
