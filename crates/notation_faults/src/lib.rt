@@ -1,3 +1,5 @@
+#![tactic(auto)]
+
 // What the program `pack` says of a fault in a text, stored in a lent buffer.
 ghost use Rattle.std.specs.Prelude.{◌≡◌, ◌+◌, ◌≤◌, length};
 ghost use Rattle.text.specs.Decimal.{Appended};
