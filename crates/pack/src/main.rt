@@ -1,3 +1,5 @@
+#![tactic(auto)]
+
 // The program `pack`: reads decimal numbers as text and writes them in seven-bit groups, or a line
 // on standard error.
 ghost use Rattle.std.specs.Prelude.{◌≡◌, replicate};
@@ -17,11 +19,11 @@ fn byte_room() -> [u8; 262144]
     [0; 262144]
 }
 
-fn main() {
+fn main(rt: HostRuntime) {
     let mut input = text_room();
-    let read = streams::read_all(streams::STANDARD_INPUT, &mut input);
+    let read = streams::read_all(&mut rt.stdin(), &mut input);
     if read.failed {
-        streams::cannot_read(b"pack");
+        streams::cannot_read(&mut rt.stderr(), b"pack");
         return;
     }
     let count = read.length;
@@ -30,10 +32,10 @@ fn main() {
     let output = notation_programs::pack_input(&input[..count], &mut out, &mut note);
     let bytes = output.bytes;
     let said = output.note;
-    let written = streams::write_all(streams::STANDARD_OUTPUT, &out[..bytes]);
+    let written = streams::write_all(&mut rt.stdout(), &out[..bytes]);
     if !written.done {
-        streams::cannot_write(b"pack");
+        streams::cannot_write(&mut rt.stderr(), b"pack");
         return;
     }
-    streams::write_all(streams::STANDARD_ERROR, &note[..said]);
+    streams::write_all(&mut rt.stderr(), &note[..said]);
 }
