@@ -1,3 +1,5 @@
+#![tactic(auto)]
+
 // The program `unpack`: reads numbers in seven-bit groups and writes them in decimal, or a line on
 // standard error.
 ghost use Rattle.std.specs.Prelude.{◌≡◌, replicate};
@@ -17,11 +19,11 @@ fn text_room() -> [u8; 240000]
     [0; 240000]
 }
 
-fn main() {
+fn main(rt: HostRuntime) {
     let mut input = byte_room();
-    let read = streams::read_all(streams::STANDARD_INPUT, &mut input);
+    let read = streams::read_all(&mut rt.stdin(), &mut input);
     if read.failed {
-        streams::cannot_read(b"unpack");
+        streams::cannot_read(&mut rt.stderr(), b"unpack");
         return;
     }
     let count = read.length;
@@ -30,10 +32,10 @@ fn main() {
     let output = notation_programs::unpack_input(&input[..count], &mut out, &mut note);
     let bytes = output.bytes;
     let said = output.note;
-    let written = streams::write_all(streams::STANDARD_OUTPUT, &out[..bytes]);
+    let written = streams::write_all(&mut rt.stdout(), &out[..bytes]);
     if !written.done {
-        streams::cannot_write(b"unpack");
+        streams::cannot_write(&mut rt.stderr(), b"unpack");
         return;
     }
-    streams::write_all(streams::STANDARD_ERROR, &note[..said]);
+    streams::write_all(&mut rt.stderr(), &note[..said]);
 }
