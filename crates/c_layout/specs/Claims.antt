@@ -216,7 +216,8 @@ pub record LeftForAsAnswered (record-bytes t : List ℕ) (cs : List Configuratio
 -- one record of the feed, lent the bytes of an expected serial
 pub record FedAsAnswered (record-bytes t : List ℕ) (cs : List Configuration) (s lent : List ℕ) : Type 0 where
   pub refusal : (feed_leaves record-bytes t cs s lent).refusal ≡ feed_refusal (automaton_of record-bytes) t cs s (expected_of lent)
-  pub list : (feed_leaves record-bytes t cs s lent).configurations ≡ fed_clients (automaton_of record-bytes) t cs s (expected_of lent)
+  pub list : (feed_leaves record-bytes t cs s lent).configurations
+      ≡ fed_clients (automaton_of record-bytes) t cs s (expected_of lent)
   pub answer : FedIn (fed_for (automaton_of record-bytes) t cs s (expected_of lent)) (feed_leaves record-bytes t cs s lent).answer
   -- refused before its event is looked at, the bytes of the expected serial stay as they were,
   -- whatever they were, and of the loss every byte is 0

@@ -1,3 +1,5 @@
+#![tactic(auto)]
+
 // How the record, the configuration, numbers and answers lie in the bytes that a caller from
 // another language lends: the layout is defined in specs/, and what holds of it is proved here.
 // The crates `c_records` and `c_answers` lay values into bytes and take them out, with the sizes
