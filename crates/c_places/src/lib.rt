@@ -1,3 +1,5 @@
+#![tactic(auto)]
+
 // How places in the input and in the output lie in the bytes that a caller lends: four bytes each,
 // low byte first.
 ghost use Rattle.std.specs.Prelude.{◌≡◌, map, ◌+◌, ◌≤◌, length};
