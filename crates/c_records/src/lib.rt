@@ -1,3 +1,5 @@
+#![tactic(auto)]
+
 // How an automaton, a configuration and the expected serial of a feed lie in the bytes that a
 // caller lends: into bytes and out of them.
 ghost use Rattle.std.specs.Prelude.{◌≡◌};
