@@ -1,3 +1,5 @@
+#![tactic(auto)]
+
 // How numbers and answers lie in the bytes that a caller lends: what a call hands back beside its
 // refusal and the configuration.
 ghost use Rattle.std.specs.Prelude.{◌≡◌};
@@ -68,8 +70,7 @@ pub fn received_bytes(r: Received) -> [u8; RECEIVED_SIZE]
     event_bytes(emitted, r.count, r.winning, places)
 }
 
-// Lays the answer to an event for a client, and gives its refusal: both in one call, since the
-// export above it is proved by hand.
+// Lays the answer to an event for a client, and gives its refusal.
 pub fn lay_received_for(r: ReceivedFor, answer: &mut [u8; RECEIVED_SIZE]) -> u8
     ensures { (result ≡ r.refusal) × (answer.new ≡ received_for_bytes r) }
 {
@@ -97,7 +98,7 @@ pub fn ran_bytes(r: Ran) -> [u8; RAN_SIZE]
     day_bytes(r.length, r.refused)
 }
 
-// Lays the answer to a day over a list of clients, and gives its refusal, likewise.
+// Lays the answer to a day over a list of clients, and gives its refusal.
 pub fn lay_ran_for(r: RanFor, answer: &mut [u8; RAN_SIZE]) -> u8
     ensures { (result ≡ r.refusal) × (answer.new ≡ ran_for_bytes r) }
 {
@@ -122,7 +123,7 @@ fn fed_bytes(r: Fed) -> [u8; FED_SIZE]
     bytes
 }
 
-// Lays the answer to a record and the expected serial, and gives the refusal, likewise.
+// Lays the answer to a record and the expected serial, and gives the refusal.
 pub fn lay_fed(r: Fed, expected: &mut [u8; EXPECTED_SIZE], answer: &mut [u8; FED_SIZE]) -> u8
     ensures { (result ≡ r.answer.refusal) × (expected.new ≡ expected_laid r.expected expected.old)
         × (answer.new ≡ fed_bytes r) }
