@@ -1,2 +1,1 @@
 pub mod Over
-pub mod Reading

@@ -1,3 +1,5 @@
+#![tactic(auto)]
+
 // The interface for C and for whatever calls C: each call of the monitor over lent bytes. Each
 // function is a thin layer over the call that it names: it takes the record and the configuration
 // out of their bytes, calls, and lays the answer into bytes. It returns the number of refusal, 0
@@ -179,7 +181,7 @@ pub extern "C" fn jaxhophasi_run(
     out: &mut [u8],
     answer: &mut [u8; RAN_SIZE],
 ) -> u8
-    ensures { let t = table.now in let events = events.entry.now in
+    ensures { let t = table.now in let events = events.now in
         let x = run_leaves automaton.now t configuration.old events out.old in
         (result ≡ x.refusal) × (configuration.new ≡ x.configuration) × (answer.new ≡ x.answer)
         × (out.new ≡ x.output) }
@@ -221,7 +223,7 @@ pub extern "C" fn jaxhophasi_run_for(
     out: &mut [u8],
     answer: &mut [u8; RAN_SIZE],
 ) -> u8
-    ensures { let t = table.now in let events = events.entry.now in
+    ensures { let t = table.now in let events = events.now in
         let x = run_for_leaves automaton.now t configurations.old events out.old in
         (result ≡ x.refusal) × (configurations.new ≡ x.configurations) × (out.new ≡ x.output)
         × (answer.new ≡ x.answer) }
