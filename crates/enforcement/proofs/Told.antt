@@ -80,8 +80,8 @@ module _ (a : Automaton) (accepted : List ℕ) (s : Store) (k : Traced accepted 
   received-told : input_number c.received ≡ length accepted
   received-told = ap (λ x. x.received) p ∙ k.counted
 
-  emitted-told : (out : List ℕ) → out ≡ s.output → output_number c.emitted ≡ length out
-  emitted-told out h = ap (λ x. x.emitted) p ∙ ap length (sym h)
+  emitted-told : (symbols : List ℕ) → symbols ≡ s.output → output_number c.emitted ≡ length symbols
+  emitted-told symbols h = ap (λ x. x.emitted) p ∙ ap length (sym h)
 
 pub places-told : (a : Automaton) (t : List ℕ) → valid a ≡ true → Solved a t → (calls : List Call)
     → PlacesTold a t calls (accepted_events a t calls) (configuration_after a t (initial_of a) calls)
