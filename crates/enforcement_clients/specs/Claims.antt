@@ -68,7 +68,8 @@ pub record EventsBrought (a : Automaton) (t : List ℕ) (cs : List Configuration
       → g < length (take n cs) → InTime s x serial g e → own_all a t cs g (feed_for n s x ∷ []) ≡ e ∷ []
   pub other-record : (n : ℕ) (s : List ℕ) (x : Expected) (serial i e : ℕ) → (i ≡ g → ⊥) → InTime s x serial i e
       → own_all a t cs g (feed_for n s x ∷ []) ≡ []
-  pub refused-event : (n i e : ℕ) → (list_refusal a t (length (take n cs)) ≡ 0 → ⊥) → own_all a t cs g (receive_for n i e ∷ []) ≡ []
+  pub refused-event : (n i e : ℕ) → (list_refusal a t (length (take n cs)) ≡ 0 → ⊥)
+      → own_all a t cs g (receive_for n i e ∷ []) ≡ []
   pub refused-day : (n : ℕ) (vs out : List ℕ) → (run_for_refusal a t (take n cs) vs out ≡ 0 → ⊥)
       → own_all a t cs g (run_for n vs out ∷ []) ≡ []
   pub refused-record : (n : ℕ) (s : List ℕ) (x : Expected) → (entry_refusal a t (length (take n cs)) s x ≡ 0 → ⊥)
@@ -121,7 +122,8 @@ ClientsOthersIgnored =
 abbrev pub ClientsFlagIsStatus : Type 0
 ClientsFlagIsStatus =
     (a : Automaton) (t : List ℕ) (cs : List Configuration) (g e : ℕ) → (received_for a t cs g e).refusal ≡ 0
-    → status a t (get_or (received_clients a t cs g e) g none) ≡ record { refusal = 0; winning = (received_for a t cs g e).winning }
+    → status a t (get_or (received_clients a t cs g e) g none)
+    ≡ record { refusal = 0; winning = (received_for a t cs g e).winning }
 
 -- Over a solved table: once `status` answers winning for a client, it does so after any calls on
 -- the list, and so does each event of that client that is accepted then.

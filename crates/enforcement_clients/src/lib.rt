@@ -1,1 +1,3 @@
+#![tactic(auto)]
+
 // Theorems about the calls over a list of clients: demand 3, with one published function for each.
