@@ -19,7 +19,8 @@ use Rattle.enforcement.specs.Claims.{winning_after, output_after}
 -- table and also inside a day. (A record that row 11 refuses puts nothing out.)
 abbrev pub EmittedAreSymbols : Type 0
 EmittedAreSymbols =
-    (a : Automaton) (t : List ℕ) (calls : List Call) → AllOf (λ m. Symbols a (output_after a t m)) (moments a t (initial_of a) calls)
+    (a : Automaton) (t : List ℕ) (calls : List Call)
+    → AllOf (λ m. Symbols a (output_after a t m)) (moments a t (initial_of a) calls)
 
 -- the accepted events of calls to the monitor of the product (document 02's merged gate)
 abbrev pub merged_moments : Automaton → Automaton → List ℕ → List Call → List Moment
