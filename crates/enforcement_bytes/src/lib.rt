@@ -1,2 +1,4 @@
+#![tactic(auto)]
+
 // Theorems only: a list of calls through the interface for C, where a configuration lies in lent
 // bytes from call to call.
