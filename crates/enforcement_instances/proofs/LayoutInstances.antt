@@ -123,13 +123,20 @@ accepted-w : (initial_answer (automaton_of record_w)).refusal ≡ 0
 unfolding initial_answer
 accepted-w = rw (kept-w, valid-w)
 
-refused_14 : (received (automaton_of record_w) table_w (configuration_of at_zero) 4).refusal ≡ 14
+-- the same, of W's record
+event-14 : (received automaton_w table_w (configuration_of at_zero) 4).refusal ≡ 14
 unfolding computing part configuration_of places_of number_of
-refused_14 = rw kept-w refl
+event-14 = refl
+
+run-16 : (ran automaton_w table_w (configuration_of at_zero) (0 ∷ []) []).refusal ≡ 16
+unfolding computing part configuration_of places_of number_of
+run-16 = refl
+
+refused_14 : (received (automaton_of record_w) table_w (configuration_of at_zero) 4).refusal ≡ 14
+refused_14 = rw kept-w event-14
 
 refused_16 : (ran (automaton_of record_w) table_w (configuration_of at_zero) (0 ∷ []) []).refusal ≡ 16
-unfolding computing part configuration_of places_of number_of
-refused_16 = rw kept-w refl
+refused_16 = rw kept-w run-16
 
 pub layouts : Layouts
 unfolding pad

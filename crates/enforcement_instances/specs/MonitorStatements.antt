@@ -227,12 +227,14 @@ pub record Fields : Type 0 where
   pub history : (withdraw.past ≡ map (λ (m : Moment). m.event) (page ∷ sign ∷ []))
       × (withdraw.output ≡ emitted_at automaton_w table_w (page ∷ sign ∷ []))
   pub leads : reached automaton_w 0 (0 ∷ []) ≡ 1
-  pub fed : let z = store_all automaton_w empty (2 ∷ 0 ∷ []) in (z.output ≡ 0 ∷ []) × (position_at automaton_w z ≡ withdraw.position)
+  pub fed : let z = store_all automaton_w empty (2 ∷ 0 ∷ []) in (z.output ≡ 0 ∷ [])
+      × (position_at automaton_w z ≡ withdraw.position)
   -- winning at first, and after Page, W is so after Withdraw, and its output, Sign and Withdraw,
   -- leads to an accepting state
   pub initially : (winning_after automaton_w table_w withdraw ≡ true)
       × (accepts automaton_w (reached automaton_w 0 (0 ∷ 1 ∷ [])) ≡ true)
-  pub later : (winning_after automaton_w table_w withdraw ≡ true) × (accepts automaton_w (reached automaton_w 0 (0 ∷ 1 ∷ [])) ≡ true)
+  pub later : (winning_after automaton_w table_w withdraw ≡ true)
+      × (accepts automaton_w (reached automaton_w 0 (0 ∷ 1 ∷ [])) ≡ true)
   -- whoever lets the Page go after Sign, inside the day, is driven out by at most two events
   pub strategies : (us : List ℕ)
       × AllUncontrollable automaton_w us
@@ -243,7 +245,8 @@ pub record Fields : Type 0 where
 -- with room for ten; a day of Sign, with room for two; Sign
 abbrev pub long_calls : List Call
 long_calls =
-    receive_call 2 ∷ run_call (3 ∷ 0 ∷ 2 ∷ 1 ∷ 2 ∷ 2 ∷ 4 ∷ 1 ∷ []) (filled 10 9) ∷ run_call (0 ∷ []) (filled 2 9) ∷ receive_call 0 ∷ []
+    receive_call 2 ∷ run_call (3 ∷ 0 ∷ 2 ∷ 1 ∷ 2 ∷ 2 ∷ 4 ∷ 1 ∷ []) (filled 10 9) ∷ run_call (0 ∷ []) (filled 2 9) ∷
+    receive_call 0 ∷ []
 
 -- the position after the first day, and after all of them
 abbrev pub long_day : Position
