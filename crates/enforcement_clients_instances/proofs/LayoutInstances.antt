@@ -31,42 +31,69 @@ use Rattle.enforcement_clients_instances.specs.FeedStatements.{fed_as, feed_call
 use Rattle.enforcement_clients_instances.specs.LayoutStatements.{late_answer, lent_here, lent_calls, ClientLayouts, long_loss, at_fourth, lent_feed_calls, serials_left, FeedLayouts}
 
 -- what the calls by value say of W and the list of two
+sign-row-w : receive_for_refusal automaton_w table_w two 1 0 ≡ 0
+unfolding listing
+sign-row-w = rw valid-w refl
+
+sign-list-w : received_clients automaton_w table_w two 1 0 ≡ signed
+unfolding listing
+sign-list-w = rw valid-w refl
+
+sign-answer-w : (received_for automaton_w table_w two 1 0).count ≡ 1
+unfolding listing
+sign-answer-w = rw valid-w refl
+
+absent-row-w : receive_for_refusal automaton_w table_w two 2 0 ≡ 19
+unfolding listing
+absent-row-w = rw valid-w refl
+
+day-row-w : run_for_refusal automaton_w table_w two (sent 1 0 ∷ []) (filled 4 9) ≡ 0
+unfolding listing
+day-row-w = rw valid-w refl
+
+day-list-w : ran_clients automaton_w table_w two (sent 1 0 ∷ []) (filled 4 9) ≡ signed
+unfolding listing
+day-list-w = rw valid-w refl
+
+day-written-w : (ran_for automaton_w table_w two (sent 1 0 ∷ []) (filled 4 9)).length ≡ 1
+unfolding listing
+day-written-w = rw valid-w refl
+
+day-output-w : ran_for_buffer automaton_w table_w two (sent 1 0 ∷ []) (filled 4 9) ≡ 0 ∷ 9 ∷ 9 ∷ 9 ∷ []
+unfolding listing
+day-output-w = rw valid-w refl
+
+short_row-w : run_for_refusal automaton_w table_w two (sent 1 0 ∷ []) (filled 3 9) ≡ 16
+unfolding listing
+short_row-w = rw valid-w refl
+
 module _ (a : Automaton) (own : a ≡ automaton_w) where
   sign-row : receive_for_refusal a table_w two 1 0 ≡ 0
-  unfolding listing
-  sign-row = rw own (rw valid-w refl)
+  sign-row = rw own sign-row-w
 
   sign-list : received_clients a table_w two 1 0 ≡ signed
-  unfolding listing
-  sign-list = rw own (rw valid-w refl)
+  sign-list = rw own sign-list-w
 
   sign-answer : (received_for a table_w two 1 0).count ≡ 1
-  unfolding listing
-  sign-answer = rw own (rw valid-w refl)
+  sign-answer = rw own sign-answer-w
 
   absent-row : receive_for_refusal a table_w two 2 0 ≡ 19
-  unfolding listing
-  absent-row = rw own (rw valid-w refl)
+  absent-row = rw own absent-row-w
 
   day-row : run_for_refusal a table_w two (sent 1 0 ∷ []) (filled 4 9) ≡ 0
-  unfolding listing
-  day-row = rw own (rw valid-w refl)
+  day-row = rw own day-row-w
 
   day-list : ran_clients a table_w two (sent 1 0 ∷ []) (filled 4 9) ≡ signed
-  unfolding listing
-  day-list = rw own (rw valid-w refl)
+  day-list = rw own day-list-w
 
   day-written : (ran_for a table_w two (sent 1 0 ∷ []) (filled 4 9)).length ≡ 1
-  unfolding listing
-  day-written = rw own (rw valid-w refl)
+  day-written = rw own day-written-w
 
   day-output : ran_for_buffer a table_w two (sent 1 0 ∷ []) (filled 4 9) ≡ 0 ∷ 9 ∷ 9 ∷ 9 ∷ []
-  unfolding listing
-  day-output = rw own (rw valid-w refl)
+  day-output = rw own day-output-w
 
   short_row : run_for_refusal a table_w two (sent 1 0 ∷ []) (filled 3 9) ≡ 16
-  unfolding listing
-  short_row = rw own (rw valid-w refl)
+  short_row = rw own short_row-w
 
 pub client_layouts : ClientLayouts
 unfolding pad call_of laid_for laid_all
@@ -112,15 +139,36 @@ lent_is : map call_of lent_feed_calls ≡ feed_calls
 unfolding call_of expected_of part number_of
 lent_is = refl
 
+-- Sign of client 1, where 2 is expected
+fed_entry-w : entry_refusal automaton_w table_w 2 (in_turn 1 0) (expected_of (1 ∷ 2 ∷ 0 ∷ [])) ≡ 0
+unfolding listing expected_of part number_of
+fed_entry-w = rw valid-w refl
+
+fed-row-w : feed_refusal automaton_w table_w two (in_turn 1 0) (expected_of (1 ∷ 2 ∷ 0 ∷ [])) ≡ 0
+unfolding listing expected_of part number_of
+fed-row-w = rw valid-w refl
+
+-- a kind that there is not, where 1 is
+gap_entry-w : entry_refusal automaton_w table_w 2 after_gap (expected_of (1 ∷ 1 ∷ 0 ∷ [])) ≡ 0
+unfolding listing expected_of part number_of
+gap_entry-w = rw valid-w refl
+
+gap_row-w : feed_refusal automaton_w table_w two after_gap (expected_of (1 ∷ 1 ∷ 0 ∷ [])) ≡ 14
+unfolding listing expected_of part number_of
+gap_row-w = rw valid-w refl
+
+-- a repeat
+late_entry-w : entry_refusal automaton_w table_w 2 repeated (expected_of (9 ∷ 7 ∷ 0 ∷ [])) ≡ 22
+unfolding listing expected_of part number_of
+late_entry-w = rw valid-w refl
+
 module _ (a : Automaton) (own : a ≡ automaton_w) where
   -- Sign of client 1, where 2 is expected
   fed_entry : entry_refusal a table_w 2 (in_turn 1 0) (expected_of (1 ∷ 2 ∷ 0 ∷ [])) ≡ 0
-  unfolding listing expected_of part number_of
-  fed_entry = rw own (rw valid-w refl)
+  fed_entry = rw own fed_entry-w
 
   fed-row : feed_refusal a table_w two (in_turn 1 0) (expected_of (1 ∷ 2 ∷ 0 ∷ [])) ≡ 0
-  unfolding listing expected_of part number_of
-  fed-row = rw own (rw valid-w refl)
+  fed-row = rw own fed-row-w
 
   fed-list : fed_clients a table_w two (in_turn 1 0) (expected_of (1 ∷ 2 ∷ 0 ∷ [])) ≡ signed
   unfolding expected_of part number_of
@@ -132,17 +180,14 @@ module _ (a : Automaton) (own : a ≡ automaton_w) where
 
   -- a kind that there is not, where 1 is
   gap_entry : entry_refusal a table_w 2 after_gap (expected_of (1 ∷ 1 ∷ 0 ∷ [])) ≡ 0
-  unfolding listing expected_of part number_of
-  gap_entry = rw own (rw valid-w refl)
+  gap_entry = rw own gap_entry-w
 
   gap_row : feed_refusal a table_w two after_gap (expected_of (1 ∷ 1 ∷ 0 ∷ [])) ≡ 14
-  unfolding listing expected_of part number_of
-  gap_row = rw own (rw valid-w refl)
+  gap_row = rw own gap_row-w
 
   -- a repeat
   late_entry : entry_refusal a table_w 2 repeated (expected_of (9 ∷ 7 ∷ 0 ∷ [])) ≡ 22
-  unfolding listing expected_of part number_of
-  late_entry = rw own (rw valid-w refl)
+  late_entry = rw own late_entry-w
 
 lent-sign : InTime (in_turn 1 0) (expected_of (1 ∷ 2 ∷ 0 ∷ [])) 7 1 0
 unfolding expected_of part number_of

@@ -106,7 +106,8 @@ pub record OwnFields : Type 0 where
   pub last-consistent : consistent automaton_w (get_or (leaves_all automaton_w table_w (start_w 2) calls) 1 none) ≡ true
   pub met : moments automaton_w table_w (initial_of automaton_w) (map receive_call own_events) ≡ page ∷ receipt ∷ sign ∷ again ∷ []
   pub enforced :
-      emitted_all (Rattle.enforcement.specs.Calls.replies automaton_w table_w (initial_of automaton_w) (map receive_call own_events))
+      emitted_all
+      (Rattle.enforcement.specs.Calls.replies automaton_w table_w (initial_of automaton_w) (map receive_call own_events))
       ≡ 0 ∷ 2 ∷ 3 ∷ []
 
 -- and of its accepted events, as they are met in the list
@@ -118,7 +119,8 @@ pub record MetFields : Type 0 where
   -- at first, and after Sign
   pub initially : (winning_after automaton_w table_w again ≡ true)
       × (accepts automaton_w (reached automaton_w 0 (0 ∷ 2 ∷ 3 ∷ [])) ≡ true)
-  pub later : (winning_after automaton_w table_w again ≡ true) × (accepts automaton_w (reached automaton_w 0 (0 ∷ 2 ∷ 3 ∷ [])) ≡ true)
+  pub later : (winning_after automaton_w table_w again ≡ true)
+      × (accepts automaton_w (reached automaton_w 0 (0 ∷ 2 ∷ 3 ∷ [])) ≡ true)
   pub said-initially : (status automaton_w table_w last_one).winning ≡ true
   -- .. and so does the answer to Receipt, which is accepted then
   pub flagged-initially : (Rattle.monitor_answers.specs.Answers.received automaton_w table_w last_one 3).winning ≡ true
@@ -128,7 +130,8 @@ pub record MetFields : Type 0 where
   pub strategies : (us : List ℕ)
       × AllUncontrollable automaton_w us
       × (length us ≤ 2)
-      × (accepts automaton_w (reached automaton_w 0 (play automaton_w eager (2 ∷ 3 ∷ 0 ∷ 2 ∷ []) (0 ∷ 2 ∷ 3 ∷ 2 ∷ []) [] us)) ≡ false)
+      × (accepts automaton_w (reached automaton_w 0 (play automaton_w eager (2 ∷ 3 ∷ 0 ∷ 2 ∷ []) (0 ∷ 2 ∷ 3 ∷ 2 ∷ []) [] us))
+      ≡ false)
 
 -- client 1's accepted events
 abbrev pub taken : List ℕ
@@ -179,8 +182,10 @@ pub record LaterWinning : Type 0 where
   pub not-initially : is_winning automaton_v table_v (initial_of automaton_v) ≡ false
   pub each-reply : replies automaton_v table_v (initial_clients automaton_v 1) calls_v
       ≡ receive (answer_for [] []) ∷ ran 0 2 0 (0 ∷ 1 ∷ []) ∷ []
-  pub later : (winning_after automaton_v table_v query_v ≡ true) × (accepts automaton_v (reached automaton_v 0 (0 ∷ 1 ∷ [])) ≡ true)
-  pub said : (status automaton_v table_v (get_or (leaves_all automaton_v table_v (initial_clients automaton_v 1) calls_v) 0 none)).winning
+  pub later : (winning_after automaton_v table_v query_v ≡ true)
+      × (accepts automaton_v (reached automaton_v 0 (0 ∷ 1 ∷ [])) ≡ true)
+  pub said :
+      (status automaton_v table_v (get_or (leaves_all automaton_v table_v (initial_clients automaton_v 1) calls_v) 0 none)).winning
       ≡ true
 
 -- lists that are too long, and none at all

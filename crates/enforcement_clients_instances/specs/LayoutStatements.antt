@@ -69,7 +69,8 @@ pub record ClientLayouts : Type 0 where
   -- a day of Sign of client 1, with room and without
   pub run-refusal : (run_for_leaves record_w table_w two (sent 1 0 ∷ []) (filled 4 9)).refusal ≡ 0
   pub run-list : (run_for_leaves record_w table_w two (sent 1 0 ∷ []) (filled 4 9)).configurations ≡ signed
-  pub run-answer : number_of (part ran_length number_size (run_for_leaves record_w table_w two (sent 1 0 ∷ []) (filled 4 9)).answer) ≡ 1
+  pub run-answer :
+      number_of (part ran_length number_size (run_for_leaves record_w table_w two (sent 1 0 ∷ []) (filled 4 9)).answer) ≡ 1
   pub run-output : (run_for_leaves record_w table_w two (sent 1 0 ∷ []) (filled 4 9)).output ≡ 0 ∷ 9 ∷ 9 ∷ 9 ∷ []
   pub run-refused : ((run_for_leaves record_w table_w two (sent 1 0 ∷ []) (filled 3 9)).configurations ≡ two)
       × ((run_for_leaves record_w table_w two (sent 1 0 ∷ []) (filled 3 9)).answer ≡ replicate ran_size 0)
@@ -147,7 +148,8 @@ pub record FeedLayouts : Type 0 where
   pub refusal : (feed_leaves record_w table_w two (in_turn 1 0) (1 ∷ 2 ∷ 0 ∷ [])).refusal ≡ 0
   pub list : (feed_leaves record_w table_w two (in_turn 1 0) (1 ∷ 2 ∷ 0 ∷ [])).configurations ≡ signed
   pub answer : byte_at (feed_leaves record_w table_w two (in_turn 1 0) (1 ∷ 2 ∷ 0 ∷ [])).answer received_count ≡ 1
-  pub answer-loss : number_of (part fed_loss number_size (feed_leaves record_w table_w two (in_turn 1 0) (1 ∷ 2 ∷ 0 ∷ [])).answer) ≡ 5
+  pub answer-loss :
+      number_of (part fed_loss number_size (feed_leaves record_w table_w two (in_turn 1 0) (1 ∷ 2 ∷ 0 ∷ [])).answer) ≡ 5
   pub next : (feed_leaves record_w table_w two (in_turn 1 0) (1 ∷ 2 ∷ 0 ∷ [])).expected ≡ 1 ∷ 8 ∷ 0 ∷ []
   -- a kind that there is not: the list stays, and the next serial is expected
   pub refused : ((feed_leaves record_w table_w two after_gap (1 ∷ 1 ∷ 0 ∷ [])).configurations ≡ two)
@@ -159,11 +161,13 @@ pub record FeedLayouts : Type 0 where
   pub kept : ((feed_leaves record_w table_w two repeated (9 ∷ 7 ∷ 0 ∷ [])).expected ≡ 9 ∷ 7 ∷ 0 ∷ [])
       × (part fed_loss number_size (feed_leaves record_w table_w two repeated (9 ∷ 7 ∷ 0 ∷ [])).answer ≡ replicate number_size 0)
   -- the list of calls, over clients made by the interface
-  pub enforced-replies : beside_all record_w table_w (initial_list record_w (any_bytes ∷ any_bytes ∷ any_bytes ∷ [])) lent_feed_calls
+  pub enforced-replies :
+      beside_all record_w table_w (initial_list record_w (any_bytes ∷ any_bytes ∷ any_bytes ∷ [])) lent_feed_calls
       ≡ laid_all lent_feed_calls feed_replies
   pub enforced-rows : map (λ (x : BesideList). x.refusal) (laid_all lent_feed_calls feed_replies)
       ≡ 0 ∷ 0 ∷ 0 ∷ 14 ∷ 22 ∷ 0 ∷ 10 ∷ 21 ∷ 19 ∷ 20 ∷ []
   pub enforced-serials : map (λ (x : BesideList). x.expected) (laid_all lent_feed_calls feed_replies) ≡ serials_left
-  pub enforced-list : next_for_all record_w table_w (initial_list record_w (any_bytes ∷ any_bytes ∷ any_bytes ∷ [])) lent_feed_calls
+  pub enforced-list :
+      next_for_all record_w table_w (initial_list record_w (any_bytes ∷ any_bytes ∷ any_bytes ∷ [])) lent_feed_calls
       ≡ feed_clients
   pub enforced : ClientsEnforced (automaton_of record_w) table_w 3 feed_calls

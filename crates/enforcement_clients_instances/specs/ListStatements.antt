@@ -116,7 +116,8 @@ pub record Isolating : Type 0 where
   pub part : part_of 2 (named day_there) (day_outcomes automaton_w table_w there day_there (filled 13 9)) ≡ own_outcomes
   pub last : get_or (ran_clients automaton_w table_w there day_there (filled 13 9)) 2 none ≡ after_day
   -- the broken one itself, over a table that nobody solved: its Page is refused alike
-  pub broken-here : part_of 1 (named day_here) (day_outcomes automaton_w (filled 14 9) here day_here (filled 10 9)) ≡ brings 13 ∷ []
+  pub broken-here : part_of 1 (named day_here) (day_outcomes automaton_w (filled 14 9) here day_here (filled 10 9))
+      ≡ brings 13 ∷ []
   pub broken-part : part_of 0 (named day_beside) (day_outcomes automaton_w (filled 14 9) beside day_beside (filled 5 9))
       ≡ brings 13 ∷ []
   pub broken-last : get_or (ran_clients automaton_w (filled 14 9) beside day_beside (filled 5 9)) 0 none ≡ broken

@@ -108,7 +108,8 @@ pub record DayFields : Type 0 where
   -- accepted
   pub fed : fed_in automaton_w 2 family (run_for 2 (sent 1 2 ∷ sent 1 3 ∷ []) (filled 4 9)) 1
       ≡ store_of (0 ∷ 2 ∷ 3 ∷ []) (0 ∷ 1 ∷ 2 ∷ []) [] [] 3
-  pub answer : expected_in automaton_w 2 family (run_for 2 (sent 1 2 ∷ sent 1 3 ∷ []) (filled 4 9)) ≡ ran 0 2 0 (2 ∷ 3 ∷ 9 ∷ 9 ∷ [])
+  pub answer : expected_in automaton_w 2 family (run_for 2 (sent 1 2 ∷ sent 1 3 ∷ []) (filled 4 9))
+      ≡ ran 0 2 0 (2 ∷ 3 ∷ 9 ∷ 9 ∷ [])
 
 -- the row by which they refuse a record of the feed
 abbrev pub feed_row_of : ℕ → List ℕ → Expected → ℕ
@@ -133,5 +134,6 @@ pub record FeedFields : Type 0 where
   pub fed : fed_in automaton_w 2 family (feed_for 2 (in_turn 1 2) (Serial 2)) 1 ≡ paged_store
   pub others : fed_in automaton_w 2 family (feed_for 2 (in_turn 1 2) (Serial 2)) 0 ≡ two_held
   -- client 1's Receipt goes at once; client 0's finds the buffer full, and does not open it
-  pub let-in : expected_in automaton_w 2 family (feed_for 2 (in_turn 1 3) (Serial 2)) ≡ feed (fed_as (answer_for (3 ∷ []) (1 ∷ [])) 8 5)
+  pub let-in : expected_in automaton_w 2 family (feed_for 2 (in_turn 1 3) (Serial 2))
+      ≡ feed (fed_as (answer_for (3 ∷ []) (1 ∷ [])) 8 5)
   pub let-in-refused : expected_in automaton_w 2 family (feed_for 2 (in_turn 0 3) (Serial 2)) ≡ feed (fed_as (refused_for 15) 8 5)
