@@ -28,7 +28,6 @@ use Rattle.monitor_answers.specs.Answers.{table_rows, configuration_rows, call_r
 use Rattle.enforcement.specs.Calls.{receive_call, handed_back, reply}
 use Rattle.enforcement.specs.Moments.{Moment, position_after, effect_at, within, brought_by, brought_all, moments}
 use Rattle.enforcement.specs.Claims.{winning_after, output_after}
-use Rattle.enforcement_cases.specs.Cases.{at}
 use Rattle.enforcement_product.specs.Claims.{merged_moments, PairAfter}
 use Rattle.enforcement_product.proofs.Emitted.{emitted_are_symbols}
 use Rattle.enforcement_product.proofs.Obeying.{obeys_both, state-is-pair}
