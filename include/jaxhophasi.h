@@ -1,7 +1,7 @@
 /*
  * The release gate for C and for whatever calls C.
  *
- * Link target/staticlib/libjaxhophasi.a, which `rt staticlib jaxhophasi` writes (Linux on x86-64).
+ * Link target/staticlib/libjaxhophasi.a, which `./build jaxhophasi` writes (Linux on x86-64).
  *
  * Every function returns the number of refusal, 0 where nothing is refused. In a refused call's
  * answer every count, length, place in the input and yes-or-no is 0; the lent carried state or

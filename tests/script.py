@@ -30,26 +30,31 @@ unpack: text
 NAMES = "day", "pack", "unpack", "merge"  # the programs
 
 RT = """#!/bin/sh
-echo "$*" >>"$CALLS"
-echo "rt: base proved (unchanged since it was last proved)"
-[ ! -e "$HELD" ] || read -r line <"$HELD"
+exec >&2
+name=${PWD##*/}
+echo "$name $*" >>"$CALLS"
+if [ ! -e "$CALLS.$PPID" ]; then
+    : >"$CALLS.$PPID"
+    echo "rt: base: begins with what a check kept"
+    echo "crate base: modules loaded=1 checked=0"
+    echo "logic=proved functions=1"
+    [ ! -e "$HELD" ] || read -r line <"$HELD"
+    echo "library base: modules loaded=0 checked=0"
+    echo "crate text: modules loaded=0 checked=1"
+    echo "logic=proved functions=2"
+fi
+mkdir -p out
+echo "crate $name: modules loaded=0 checked=1"
 echo "logic=proved functions=1"
-echo "rt: text proved (3 s)"
-mkdir -p target/bin
-shift
-for name; do
-    echo "rt: $name proved (4 s)" >&2
-    cp -p "$PROGRAMS/$name" target/bin/
-done
-echo "rt: day ran as nobody, and wrote what its file 'stdout' has (0 s)"
-echo "rt: ok, 4 crates proved"
+cp -p "$PROGRAMS/$name" out/
+echo "rt: running out/$name; to give it other input, run that file yourself"
 """
 
 FAILING_RT = """#!/bin/sh
+exec >&2
 i=0
 while [ "$i" -lt 30 ]; do i=$((i + 1)); echo "error $i"; done
-echo "rt: base NOT PROVED (exit 1, 2 s)"
-echo "rt: text NOT PROVED: its dependency base is not proved"
+printf 'crate %s: modules loaded=0 checked=1\\nlogic=not-proved\\n' base text
 exit 1
 """
 
@@ -223,9 +228,11 @@ class House:
         self.script = folder / "the house" / "day"
         self.programs, self.start, self.temporary = folder / "programs", folder / "start", folder / "temporary"
         self.calls, self.held = folder / "calls", folder / "held"
-        for place in self.script.parent / "crates" / "day", self.programs, self.start, self.temporary, folder / "rt":
+        crates = [self.script.parent / "crates" / name for name in NAMES]
+        for place in *crates, self.programs, self.start, self.temporary, folder / "rt":
             place.mkdir(parents=True)
         shutil.copy(root / "day", self.script)
+        shutil.copy(root / "build", self.script.parent)
         shutil.copy(root / "crates" / "day" / "stdin", self.script.parent / "crates" / "day")
         (self.script.parent / "crates.txt").write_text(CRATES)
         for name, data in FILES.items():
@@ -459,7 +466,7 @@ def try_builds(house):
     two = ["a sheet", "-events"]
     house.check("the first build", house.run(two), 0, "PRINTED", built(["day", "pack"], 4))
     house.check("built", house.run(two), 0, "PRINTED")
-    house.called("the first build", ["check day pack"])
+    house.called("the first build", ["day run", "pack run"])
     for newer in house.script.parent / "crates.txt", house.script.parent / "crates" / "day" / "stdin":
         os.utime(newer)
         house.check("a newer file", house.run(["v.bytes"]), 0, "PRINTED", built(["day"], 3))
@@ -467,13 +474,13 @@ def try_builds(house):
     house.remove_programs()
     house.check("the first build, bytes", house.run(["v.bytes"]), 0, "PRINTED", built(["day"], 3))
     house.check("one program is missing", house.run(two), 0, "PRINTED", built(["day", "pack"], 4))
-    house.called("one program is missing", ["check day", "check day pack"])
+    house.called("one program is missing", ["day run", "day run", "pack run"])
     house.remove_programs()
     house.check("the first build, two sheets", house.run(["a sheet", "silent", "-events"]), 0, MERGED_DAY,
         built(["day", "pack", "merge"], 5))
     house.check("unpack is missing", house.run(["--product", "a sheet", "silent"]), 0, MERGED,
         built(["pack", "merge", "unpack"], 5))
-    house.called("two sheets", ["check day pack merge", "check pack merge unpack"])
+    house.called("two sheets", ["day run", "pack run", "merge run", "pack run", "merge run", "unpack run"])
     try_lines_as_they_come(house, two)
     try_build_on_terminal(house)
     try_failed_builds(house)
@@ -514,16 +521,18 @@ def try_failed_builds(house):
     house.remove_programs()
     house.write(house.rt, FAILING_RT)
     log = house.script.parent / "target" / "build.log"
-    whole = ["error {}\n".format(i + 1) for i in range(30)] + [
-        "rt: base NOT PROVED (exit 1, 2 s)\n", "rt: text NOT PROVED: its dependency base is not proved\n"]
+    whole = ["error {}\n".format(i + 1) for i in range(30)]
+    for name in "base", "text":
+        whole += ["crate {}: modules loaded=0 checked=1\n".format(name), "logic=not-proved\n"]
     said = BUILDING.format("day") + "day: crate 1 of 3: base NOT PROVED\nday: crate 2 of 3: text NOT PROVED\n"
     end = "".join(whole[-20:]) + "day: day not built; {} has the whole\n".format(log)
     house.check("a failed build", house.run(["v.bytes"]), 1, "", said + end)
     if log.read_text() != "".join(whole):
         fail("a failed build", "its log is not whole")
     house.write(house.rt, "#!/bin/sh\n")
-    nothing = "day: rt left no {}; remove {} and try again\n".format(
-        house.script.parent / "target" / "bin" / "day", house.script.parent / "target")
+    shutil.rmtree(house.script.parent / "crates" / "day" / "out", ignore_errors=True)
+    nothing = "build: rt left no {}\nday: day not built; {} has the whole\n".format(
+        house.script.parent / "crates" / "day" / "out" / "day", log)
     house.check("a build that leaves nothing", house.run(["v.bytes"]), 1, "", BUILDING.format("day") + nothing)
     house.rt.unlink()
     if not shutil.which("rt", path="/usr/bin:/bin"):
@@ -543,7 +552,7 @@ def try_signals(house):
         child = int(process.stderr.readline())
         end_while(house, process, number, "the program runs", child)
         house.remove_programs()
-        house.write(house.rt, "#!/bin/sh\nsleep 100 &\necho $!\necho 'rt: base proved (1 s)'\nwait\n")
+        house.write(house.rt, "#!/bin/sh\nexec >&2\nsleep 100 &\necho $!\necho 'crate base: 1'\necho logic=proved\nwait\n")
         process = house.begin(["v.bytes"], stdout=subprocess.PIPE, stderr=subprocess.PIPE)
         process.stderr.readline(), process.stderr.readline()
         child = int((house.script.parent / "target" / "build.log").read_text().split()[0])

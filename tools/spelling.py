@@ -16,9 +16,10 @@ import sys
 ROOT = pathlib.Path.cwd()
 CRATES = ROOT / "crates"
 WORD = re.compile(r"[A-Za-z_Ͱ-Ͽ◌][\w'′-]*")
-DEFINED = re.compile(r"(?m)^[ ]*(?:unfoldable |abbrev )?(?:pub )?(?!use\b|let\b|in\b|λ)([A-Za-z][\w'′-]*)(?: \{ℓ\})? :(?=\s)")
+DEFINED = re.compile(
+    r"(?m)^[ ]*(?:unfoldable |abbrev )?(?:pub )?(?!use\b|let\b|in\b|λ)([A-Za-z][\w'′-]*)(?: \{ℓ\})? :(?=\s)")
 CAMEL = re.compile(r"^[a-z][\w'′-]*[a-z0-9][A-Z]")
-# names that a dash may join beside the repository's own definitions: of the library, and constructors
+# what a dash may join beside the repository's own definitions: the library's names, constructors
 LIBRARY = """length take drop set sets append cons nil map replicate zero suc one add mul sub mod div pow min max get_or
 cond and or not eqb ltb leb some none list pad tabulate filter sum reverse all any""".split()
 
