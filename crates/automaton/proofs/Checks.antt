@@ -1,16 +1,12 @@
 -- Laws of the record's check.
-use Prim.Native.Nat.{ℕ, zero, suc, ◌+◌, ◌-◌, ◌<◌, ◌≤◌}
-use mathlib.Core.Path.{◌≡◌, refl, ◌∙◌, ap}
+use Prim.Native.Nat.{ℕ, ◌+◌, ◌<◌, ◌≤◌}
+use mathlib.Core.Path.{◌≡◌}
 use mathlib.Core.Bool.{Bool, true, false}
-use mathlib.Core.List.{List, ◌∷◌, ◌++◌}
-use native.Mathlib.Numerals.{add-one}
-use native.Mathlib.Omega.{arith}
-use lib.ListN.{get_or, set, replicate, length-replicate}
-use lib.Seq.{set_at}
+use mathlib.Core.List.{List}
+use lib.ListN.{get_or}
 use lib.Dec.{ltb}
 use borrow.Author.Tests.{lt-ltb, le-ltb, eq-eqb, ne_eqb}
 use Rattle.base.specs.Each.{each}
-use Rattle.base.proofs.Padding.{repeat_end}
 use Rattle.base.proofs.Ranges.{each_falls, each_keeps, count_adds, count_skips}
 use Rattle.automaton.specs.Arrays.{controllable_at, controllable_in, goes, below_from, state_below, states_below}
 
@@ -57,11 +53,3 @@ module _ (classes : List ℕ) (e n : ℕ) (so_far : n ≡ controllable_in classe
   pub passed : (get_or classes e 0 ≡ 1 → ⊥) → n ≡ controllable_in classes (e + 1)
   unfolding controllable_in
   passed h = count_skips (controllable_at classes) e n so_far (ne_eqb (get_or classes e 0) 1 h)
-
--- one more limit
-pub limits_more : (e n : ℕ) → e < 16
-    → set (replicate e n ++ replicate (16 - e) 1) e n ≡ replicate (e + 1) n ++ replicate (16 - (e + 1)) 1
-limits_more e n h =
-    let a : 16 - e ≡ suc (16 - (e + 1)) = omega arith in
-    rw (a, add-one e)
-    (set_at (replicate e n) 1 (replicate (16 - suc e) 1) n e (length-replicate e n) ∙ repeat_end e n (replicate (16 - suc e) 1))

@@ -13,7 +13,7 @@ use Rattle.base.proofs.Ranges.{each_at, each_all}
 use Rattle.automaton.specs.Arrays.{goes, stands, places_stand}
 pub use Rattle.automaton.specs.Claims.{Valid}
 use Rattle.automaton.specs.Claims.{ValidAsWorded}
-use Rattle.automaton.specs.Automaton.{Automaton, class, controllables, flag, step, shaped, ranged, classes_stand, flags_stand, next_stand, max_class, valid}
+use Rattle.automaton.specs.Automaton.{Automaton, controllables, step, shaped, ranged, classes_stand, flags_stand, next_stand, max_class, valid}
 
 -- a place that is used, and one that is not
 module _ (used : Bool) (limit v : ℕ) where

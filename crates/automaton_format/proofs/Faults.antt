@@ -1,6 +1,6 @@
 -- Where reading a sheet ends: a fault has a row of 1 to 10 and a place within the bytes; a record
 -- that was read comes with place 0.
-use Prim.Native.Nat.{ℕ, zero, suc, ◌+◌, ◌*◌, ◌-◌, ◌<◌, ◌≤◌}
+use Prim.Native.Nat.{ℕ, zero, suc, ◌+◌, ◌*◌, ◌-◌, ◌≤◌}
 use mathlib.Core.Path.{◌≡◌, refl}
 use mathlib.Core.Bool.{◌&&◌}
 use mathlib.Core.List.{List, [], ◌∷◌, ◌++◌}
@@ -11,10 +11,9 @@ use borrow.Author.Tests.{ltb-true, eqb-false}
 use Rattle.base.specs.Rows.{first}
 use Rattle.base.specs.Pad.{pad}
 use Rattle.base.proofs.Bools.{by}
-use Rattle.varint.specs.declared.Number.{Number}
-use Rattle.varint.specs.Varint.{groups, read}
+use Rattle.varint.specs.Varint.{Number, groups, read}
 use Rattle.automaton.specs.Automaton.{max_class, blank}
-use Rattle.automaton_format.specs.declared.Parsed.{Parsed}
+use Rattle.automaton_format.specs.Reading.{Parsed}
 use Rattle.automaton_format.specs.Claims.{RefusedInside, RefusedBlank}
 use Rattle.automaton_format.specs.Reading.{checked, between, tally, item_row, class_row, Numbers, numbers, next_states, parsed, refused, after_number, after_numbers, tables, automaton_from, parse}
 

@@ -10,8 +10,7 @@ use lib.Dec.{eqb}
 use native.Mathlib.Omega.{arith}
 use borrow.Author.Tests.{eqb-true, eqb-false}
 use Rattle.base.proofs.Bools.{by}
-use Rattle.varint.specs.declared.Number.{Number}
-use Rattle.varint.specs.Varint.{value}
+use Rattle.varint.specs.Varint.{Number, value}
 use Rattle.automaton.specs.declared.Automaton.{Automaton}
 use Rattle.automaton_format.specs.Reading.{Parsed, Numbers, checked, numbers, after_number, after_numbers, parsed}
 use Rattle.automaton_format.proofs.Items.{checked-fits, passed}

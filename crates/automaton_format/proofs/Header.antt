@@ -3,8 +3,7 @@ use Prim.Native.Nat.{ℕ, ◌<◌, ◌≤◌}
 use mathlib.Core.Path.{◌≡◌, refl, sym, ◌∙◌, ap}
 use mathlib.Core.List.{List}
 use lib.ListN.{length}
-use Rattle.varint.specs.declared.Number.{Number}
-use Rattle.varint.specs.Varint.{read}
+use Rattle.varint.specs.Varint.{Number, read}
 use Rattle.automaton.specs.Automaton.{max_class}
 use Rattle.automaton_format.specs.Reading.{checked, between, after_number, tables, automaton_from, parse, refused, Parsed}
 use Rattle.automaton_format.proofs.Items.{passed, range_of}

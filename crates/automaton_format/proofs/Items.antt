@@ -2,6 +2,7 @@
 use Prim.Native.Nat.{ℕ, suc, ◌+◌, ◌-◌, ◌<◌, ◌≤◌}
 use mathlib.Core.Path.{◌≡◌, refl, sym, ◌∙◌, ap}
 use mathlib.Core.List.{List, [], ◌∷◌, ◌++◌}
+use native.Mathlib.Nat.{zero-add}
 use native.Mathlib.Numerals.{add-one}
 use native.Mathlib.Omega.{arith}
 use lib.ListN.{length, set, length-append}
@@ -12,8 +13,7 @@ use Rattle.base.specs.Each.{count}
 use Rattle.base.specs.Rows.{first}
 use Rattle.base.proofs.Bools.{by}
 use Rattle.base.proofs.Stores.{sets_more}
-use Rattle.varint.specs.declared.Number.{Number}
-use Rattle.varint.specs.Varint.{fault, read}
+use Rattle.varint.specs.Varint.{Number, fault, read}
 use Rattle.automaton.specs.Arrays.{controllable_in}
 use Rattle.automaton_format.specs.Reading.{checked, between, tally, item_row, Numbers, numbers}
 use Rattle.automaton_format.specs.Outcomes.{outcome, one_more}
@@ -132,19 +132,19 @@ module _ (from : ℕ → Number) (check : List ℕ → ℕ → ℕ) (k : ℕ) (b
   number-passes n e z = rw (e, eq-eqb n.refusal 0 z)
 
 -- the loop over a list of numbers
-pub record Filling (s out₀ : List ℕ) (at from count limit row most : ℕ) (out : List ℕ) (place ones i : ℕ) : Type 0 where
+pub record Filling (s out₀ : List ℕ) (at count limit row most : ℕ) (out : List ℕ) (place ones i : ℕ) : Type 0 where
   pub before : List ℕ
   pub long : length before ≡ i
   pub within : i ≤ count
   pub tallied : ones ≡ tally before
   pub few : ones ≤ i
-  pub stored : out ≡ sets out₀ from before
+  pub stored : out ≡ sets out₀ 0 before
   pub kept : length out ≡ length out₀
   pub whole : numbers (read s) (item_row limit row most) count [] at ≡ numbers (read s) (item_row limit row most) (count - i) before place
 
-pub filling_begins : (s out : List ℕ) (at from count limit row most : ℕ) → Filling s out at from count limit row most out at 0 0
+pub filling_begins : (s out : List ℕ) (at count limit row most : ℕ) → Filling s out at count limit row most out at 0 0
 unfolding controllable_in count
-filling_begins s out at from count limit row most =
+filling_begins s out at count limit row most =
     let e : count ≡ count - 0 = omega arith in
     record {
       before = [];
@@ -157,8 +157,8 @@ filling_begins s out at from count limit row most =
       whole = ap (λ k. numbers (read s) (item_row limit row most) k [] at) e;
     }
 
-module _ {s out₀ : List ℕ} {at from count limit row most : ℕ} {out : List ℕ} {place ones i : ℕ}
-    (g : Filling s out₀ at from count limit row most out place ones i) (pos : 0 < row) where
+module _ {s out₀ : List ℕ} {at count limit row most : ℕ} {out : List ℕ} {place ones i : ℕ}
+    (g : Filling s out₀ at count limit row most out place ones i) (pos : 0 < row) where
   all : Numbers
   all = numbers (read s) (item_row limit row most) count [] at
 
@@ -166,14 +166,14 @@ module _ {s out₀ : List ℕ} {at from count limit row most : ℕ} {out : List 
   unfolding all
   now_at h = let e : count - i ≡ suc (count - suc i) = omega arith in g.whole ∙ ap (λ k. numbers (read s) (item_row limit row most) k g.before place) e
 
-  ends : (ns : Numbers) → all ≡ ns → ns.values ≡ g.before → (outcome ns ≡ outcome all) × (out ≡ sets out₀ from all.values)
+  ends : (ns : Numbers) → all ≡ ns → ns.values ≡ g.before → (outcome ns ≡ outcome all) × (out ≡ sets out₀ 0 all.values)
   unfolding all
-  ends ns e v = (ap outcome (sym e), g.stored ∙ ap (λ l. sets out₀ from l) (sym (ap (λ (m : Numbers). m.values) e ∙ v)))
+  ends ns e v = (ap outcome (sym e), g.stored ∙ ap (λ l. sets out₀ 0 l) (sym (ap (λ (m : Numbers). m.values) e ∙ v)))
 
   module _ (n : Number) (e : n ≡ checked (between 0 limit row) place (read s place)) (h : i < count) where
     pub filling_refused : (n.refusal ≡ 0 → ⊥)
         → (fault n.refusal n.place ≡ outcome (numbers (read s) (item_row limit row most) count [] at))
-        × (out ≡ sets out₀ from (numbers (read s) (item_row limit row most) count [] at).values)
+        × (out ≡ sets out₀ 0 (numbers (read s) (item_row limit row most) count [] at).values)
     unfolding outcome all
     filling_refused z =
         ends _ (now_at h ∙ number-refused (read s) (item_row limit row most) (count - suc i) g.before place n (item_refused limit row most g.before place (read s place) n pos e z) z) refl
@@ -181,20 +181,21 @@ module _ {s out₀ : List ℕ} {at from count limit row most : ℕ} {out : List 
     module _ (z : n.refusal ≡ 0) where
       pub filling_many : most < one_more ones n.value
           → (fault 8 place ≡ outcome (numbers (read s) (item_row limit row most) count [] at))
-          × (out ≡ sets out₀ from (numbers (read s) (item_row limit row most) count [] at).values)
+          × (out ≡ sets out₀ 0 (numbers (read s) (item_row limit row most) count [] at).values)
       unfolding outcome all
       filling_many l =
           ends _ (now_at h ∙ number-refused (read s) (item_row limit row most) (count - suc i) g.before place (fault 8 place)
           (item_many limit row most g.before place (read s place) n pos e z (rw g.tallied at l)) (λ x. omega arith)) refl
 
       pub filling_goes_on : one_more ones n.value ≤ most
-          → Filling s out₀ at from count limit row most (set out (from + i) n.value) n.place (one_more ones n.value) (i + 1)
+          → Filling s out₀ at count limit row most (set out i n.value) n.place (one_more ones n.value) (i + 1)
       unfolding one_more all
       filling_goes_on l =
           let p = item_passes limit row most g.before place (read s place) n pos e z (rw g.tallied at l) in
           let t : one_more ones n.value ≡ tally (g.before ++ n.value ∷ []) = ap (λ x. one_more x n.value) g.tallied ∙ sym (tally-more g.before n.value) in
           let m : length (g.before ++ n.value ∷ []) ≡ i + 1 = simp length-append (omega (arith, g.long)) in
-          let st : set out (from + i) n.value ≡ sets out₀ from (g.before ++ n.value ∷ []) = ap (λ x. set x (from + i) n.value) g.stored ∙ sets_more out₀ from i n.value g.before g.long in
+          let st : set out i n.value ≡ sets out₀ 0 (g.before ++ n.value ∷ []) =
+          ap (λ x. set x i n.value) g.stored ∙ (rw (zero-add i) at (sets_more out₀ 0 i n.value g.before g.long)) in
           record {
             before = g.before ++ n.value ∷ [];
             long = m;
@@ -202,13 +203,13 @@ module _ {s out₀ : List ℕ} {at from count limit row most : ℕ} {out : List 
             tallied = t;
             few = omega (arith, t, tally-max (g.before ++ n.value ∷ []));
             stored = st;
-            kept = ap length st ∙ length-sets out₀ from (g.before ++ n.value ∷ []);
+            kept = ap length st ∙ length-sets out₀ 0 (g.before ++ n.value ∷ []);
             whole = rw (add-one i) (now_at h ∙ number-passes (read s) (item_row limit row most) (count - suc i) g.before place n p z);
           }
 
   pub filling_done : count ≤ i
       → (record { refusal = 0; value = 0; place = place } ≡ outcome (numbers (read s) (item_row limit row most) count [] at))
-      × (out ≡ sets out₀ from (numbers (read s) (item_row limit row most) count [] at).values)
+      × (out ≡ sets out₀ 0 (numbers (read s) (item_row limit row most) count [] at).values)
   unfolding outcome numbers all
   filling_done h = let e : count - i ≡ 0 = omega (arith, g.within) in ends _ (g.whole ∙ ap (λ k. numbers (read s) (item_row limit row most) k g.before place) e) refl
 

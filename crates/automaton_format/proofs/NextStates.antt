@@ -10,7 +10,7 @@ use borrow.Author.Tests.{eqb-false}
 use Rattle.base.specs.Pad.{pad}
 use Rattle.base.proofs.Bools.{by}
 use Rattle.base.proofs.Padding.{pad-length, pad-inside, pad-outside, pad-take, take-pad}
-use Rattle.varint.specs.declared.Number.{Number}
+use Rattle.varint.specs.Varint.{Number}
 use Rattle.automaton_format.specs.Reading.{Numbers, numbers, next_states}
 use Rattle.automaton_format.specs.Writing.{next_numbers}
 use Rattle.automaton_format.proofs.Follows.{done, Follows, Passes, all_unrefused, follows_append, follows_split, numbers-done, numbers-all}

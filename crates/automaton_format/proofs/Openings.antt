@@ -8,10 +8,9 @@ use lib.ListN.{length, take, drop, length-take}
 use lib.Dec.{eqb, ltb}
 use borrow.Author.Tests.{lt-ltb, le-ltb, ltb-false, eq-eqb, ne_eqb, eqb-true, eqb-false}
 use Rattle.base.proofs.Bools.{by}
-use Rattle.varint.specs.declared.Number.{Number}
-use Rattle.varint.specs.Varint.{read}
+use Rattle.varint.specs.Varint.{Number, read}
 use Rattle.automaton.specs.Automaton.{valid}
-use Rattle.automaton_format.specs.declared.Parsed.{Parsed}
+use Rattle.automaton_format.specs.Reading.{Parsed}
 use Rattle.automaton_format.specs.Reading.{refused, parse}
 use Rattle.automaton_format.specs.Opening.{automaton_at, opening}
 use Rattle.automaton_format.proofs.Trips.{read-is-valid}

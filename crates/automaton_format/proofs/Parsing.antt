@@ -11,7 +11,7 @@ use borrow.Author.Tests.{ltb-true, ltb-false, le-ltb}
 use Rattle.base.specs.Pad.{pad}
 use Rattle.base.proofs.Bools.{by}
 use Rattle.base.proofs.Padding.{pad-length, pad-inside, pad-outside, pad-take, pad_every, take-pad}
-use Rattle.varint.specs.declared.Number.{Number}
+use Rattle.varint.specs.Varint.{Number}
 use Rattle.automaton.specs.declared.Automaton.{Automaton}
 use Rattle.automaton.specs.Automaton.{controllables, flag, step, max_class}
 use Rattle.automaton_format.specs.Reading.{between, class_row, tally, numbers, next_states, parsed, tables, automaton_from}

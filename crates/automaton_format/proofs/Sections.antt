@@ -12,8 +12,7 @@ use Rattle.base.specs.Rows.{first}
 use Rattle.base.specs.Pad.{pad}
 use Rattle.base.proofs.Bools.{by}
 use Rattle.base.proofs.Padding.{pad-length, pad-sets, pad-more}
-use Rattle.varint.specs.declared.Number.{Number}
-use Rattle.varint.specs.Varint.{fault, read}
+use Rattle.varint.specs.Varint.{Number, fault, read}
 use Rattle.automaton_format.specs.Reading.{checked, between, tally, item_row, Numbers, numbers, next_states, after_numbers, after_number, refused, Parsed}
 use Rattle.automaton_format.specs.Outcomes.{outcome}
 use Rattle.automaton_format.proofs.Tally.{tally-max}

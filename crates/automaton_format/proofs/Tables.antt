@@ -10,8 +10,7 @@ use lib.Dec.{ltb}
 use borrow.Author.Tests.{lt-ltb, le-ltb}
 use Rattle.base.specs.Pad.{pad}
 use Rattle.base.proofs.Padding.{pad-stored}
-use Rattle.varint.specs.declared.Number.{Number}
-use Rattle.varint.specs.Varint.{read}
+use Rattle.varint.specs.Varint.{Number, read}
 use Rattle.automaton.specs.declared.Automaton.{Automaton}
 use Rattle.automaton.specs.Automaton.{max_class}
 use Rattle.automaton_format.specs.Reading.{between, item_row, class_row, Numbers, numbers, next_states, after_numbers, tables, parsed, refused, Parsed}

@@ -1,7 +1,7 @@
 -- How reading a list of numbers ended, and how many of them are 1: what the inner functions of
 -- reading hand back.
 use Rattle.std.specs.Prelude.{ℕ, ◌+◌, cond, eqb}
-use Rattle.varint.specs.declared.Number.{Number}
+use Rattle.varint.specs.Varint.{Number}
 use Rattle.automaton_format.specs.Reading.{Numbers}
 
 -- a list of numbers that was read, without its values

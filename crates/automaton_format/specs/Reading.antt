@@ -1,14 +1,19 @@
 -- Reading a sheet from bytes: left to right, the first fault stands (document 01, "The sheet" and
 -- "Numbers of refusal").
-use Rattle.std.specs.Prelude.{ℕ, zero, suc, ◌+◌, cond, not, ◌&&◌, List, [], ◌∷◌, ◌++◌, length, replicate, eqb, leb, ltb}
+use Rattle.std.specs.Prelude.{ℕ, zero, suc, ◌+◌, cond, not, ◌&&◌, List, [], ◌∷◌, ◌++◌, length, eqb, leb, ltb}
 use Rattle.base.specs.Rows.{first}
 use Rattle.base.specs.Pad.{pad}
-use Rattle.varint.specs.declared.Number.{Number}
-use Rattle.varint.specs.Varint.{fault, read}
+use Rattle.varint.specs.Varint.{Number, fault, read}
 use Rattle.automaton.specs.declared.Automaton.{Automaton}
 use Rattle.automaton.specs.Arrays.{controllable_in}
 use Rattle.automaton.specs.Automaton.{max_class, blank}
-pub use Rattle.automaton_format.specs.declared.Parsed.{Parsed}
+
+-- What reading gives: the record (refusal 0, place 0), or the first fault's row and place with an
+-- all-zero record.
+pub record Parsed : Type 0 where
+  pub refusal : ℕ
+  pub place : ℕ
+  pub automaton : Automaton
 
 -- a number that was read at a place, with the row that `check` gives its value (0: none)
 unfoldable pub checked : (ℕ → ℕ) → ℕ → Number → Number

@@ -5,7 +5,6 @@ use Rattle.base.specs.Rows.{first}
 unfoldable pub use Rattle.varint.specs.Varint.{encoded}
 use Rattle.automaton.specs.declared.Automaton.{Automaton}
 use Rattle.automaton.specs.Automaton.{valid}
-pub use Rattle.automaton_format.specs.declared.Written.{Written}
 
 -- the next states of the first k states, m each
 unfoldable pub next_numbers : List ℕ → ℕ → ℕ → List ℕ
@@ -22,6 +21,17 @@ record_numbers a =
 
 unfoldable pub record_bytes : Automaton → List ℕ
 record_bytes a = encoded (record_numbers a)
+
+-- What writing gives: the length written (refusal 0), or the refusing row with length 0.
+pub record Written : Type 0 where
+  pub refusal : ℕ
+  pub length : ℕ
+
+abbrev pub written : ℕ → Written
+written n = record { refusal = 0; length = n }
+
+abbrev pub refused : ℕ → Written
+refused row = record { refusal = row; length = 0 }
 
 -- the rows that writing checks
 unfoldable pub write_refusal : Automaton → List ℕ → ℕ

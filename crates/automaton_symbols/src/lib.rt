@@ -6,8 +6,6 @@ ghost use Rattle.std.specs.Prelude.{◌≡◌, ◌≤◌};
 ghost use Rattle.automaton.specs.Arrays.{controllable_in};
 ghost use Rattle.automaton_symbols.specs.Symbols.{ranking_of, free_of};
 
-use base::{as_u32, as_usize};
-
 // The controllable symbols: how many there are, and the rank of each from 1 (0: uncontrollable).
 #[derive(Clone, Copy)]
 pub struct Ranking {
@@ -27,15 +25,7 @@ pub fn controllable_in(classes: &[u8; 16], m: usize) -> usize
     requires { m ≤ 16 }
     ensures { result ≡ controllable_in classes.now m }
 {
-    let mut found: usize = 0;
-    let mut e: usize = 0;
-    while e < m {
-        if classes[e] == 1 {
-            found = found + 1;
-        }
-        e = e + 1;
-    }
-    found
+    classes[..m].iter().filter(|&&c| c == 1).count()
 }
 
 // How many of the first m symbols are controllable, and the rank of each.
@@ -45,16 +35,14 @@ pub fn rank_symbols(classes: &[u8; 16], m: usize) -> Ranking
 {
     let mut ranks = [0u8; 16];
     let mut count: u8 = 0;
-    let mut e: usize = 0;
-    while e < m {
+    for e in 0..m {
         if classes[e] == 1 {
             count = count + 1;
             ranks[e] = count;
         }
-        e = e + 1;
     }
     Ranking {
-        count: as_u32(count),
+        count: u32::from(count),
         ranks,
     }
 }
@@ -66,13 +54,11 @@ pub fn uncontrollable(classes: &[u8; 16], m: usize) -> Symbols
 {
     let mut list = [0u8; 16];
     let mut count: usize = 0;
-    let mut e: u8 = 0;
-    while as_usize(e) < m {
-        if classes[as_usize(e)] != 1 {
-            list[count] = e;
+    for e in 0..m {
+        if classes[e] != 1 {
+            list[count] = e as u8;
             count = count + 1;
         }
-        e = e + 1;
     }
     Symbols { count, list }
 }

@@ -1,12 +1,11 @@
 -- Lists stored into a list.
-use Prim.Native.Nat.{ℕ, suc, ◌+◌, ◌-◌, ◌<◌}
-use mathlib.Core.Path.{◌≡◌, ◌∙◌}
+use Prim.Native.Nat.{ℕ, suc, ◌+◌, ◌-◌}
+use mathlib.Core.Path.{◌≡◌}
 use mathlib.Core.List.{List, [], ◌∷◌, ◌++◌}
 use native.Mathlib.Nat.{add-zero}
-use native.Mathlib.Numerals.{add-one}
 use native.Mathlib.Omega.{arith}
-use lib.ListN.{length, get_or, set, take, drop, length-drop}
-use lib.Seq.{sets, take-suc, get_or-drop, length-take-le}
+use lib.ListN.{length, set}
+use lib.Seq.{sets}
 
 -- a store after a list of stores
 pub sets_more : (out : List ℕ) (from i v : ℕ) (before : List ℕ) → length before ≡ i → set (sets out from before) (from + i) v ≡ sets out from (before ++ v ∷ [])
@@ -19,11 +18,3 @@ sets_more out from i v (b ∷ before) h =
 pub sets_join : (out : List ℕ) (at : ℕ) (p r : List ℕ) → sets (sets out at p) (at + length p) r ≡ sets out at (p ++ r)
 sets_join out at [] r = rw (add-zero at)
 sets_join out at (x ∷ p) r = let e : at + suc (length p) ≡ suc at + length p = omega arith in rw e (sets_join (set out at x) (suc at) p r)
-
--- one more byte of a copy
-pub copy_more : (out list : List ℕ) (at from i : ℕ) → from + i < length list
-    → set (sets out at (take i (drop from list))) (at + i) (get_or list (from + i) 0) ≡ sets out at (take (i + 1) (drop from list))
-copy_more out list at from i h =
-    let l : i < length (drop from list) = rw (length-drop from list) (omega arith) in
-    sets_more out at i (get_or list (from + i) 0) (take i (drop from list)) (length-take-le i (drop from list) (omega arith)) ∙
-    rw (add-one i, take-suc (drop from list) i 0 l, get_or-drop from list i 0)

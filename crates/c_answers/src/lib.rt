@@ -3,6 +3,7 @@
 // How numbers and answers lie in the bytes that a caller lends: what a call hands back beside its
 // refusal and the configuration.
 ghost use Rattle.std.specs.Prelude.{◌≡◌};
+ghost use Rattle.game.specs.Game.{answered};
 ghost use Rattle.c_layout.specs.Offsets.{number_size};
 ghost use Rattle.c_layout.specs.Layout.{number_bytes, expected_laid};
 ghost use Rattle.c_layout.specs.Answers.{status_bytes, event_bytes, day_bytes, received_bytes, received_for_bytes};
@@ -14,7 +15,7 @@ use c_layout::{
     RAN_REFUSED, RAN_SIZE, RECEIVED_COUNT, RECEIVED_EMITTED, RECEIVED_PLACES, RECEIVED_SIZE,
     RECEIVED_WINNING, STATUS_SIZE, VERDICT_SIZE,
 };
-use c_places::{EMITTED_SIZE, emitted_bytes};
+use c_places::lay_places;
 use c_records::lay_expected;
 use clients_answers::{RanFor, ReceivedFor};
 use configuration_places::InputPlace;
@@ -26,15 +27,7 @@ use monitor_answers::{Ran, Received, Status};
 pub fn number_bytes(value: usize) -> [u8; NUMBER_SIZE]
     ensures { result ≡ number_bytes number_size value }
 {
-    let mut bytes = [0u8; NUMBER_SIZE];
-    let mut left = value;
-    let mut i: usize = 0;
-    while i < NUMBER_SIZE {
-        bytes[i] = (left % 256) as u8;
-        left = left / 256;
-        i = i + 1;
-    }
-    bytes
+    value.to_le_bytes()
 }
 
 pub fn status_bytes(s: Status) -> [u8; STATUS_SIZE]
@@ -57,26 +50,21 @@ fn event_bytes(
     copy(&emitted, 0, MAX_EMITTED, &mut bytes, RECEIVED_EMITTED);
     bytes[RECEIVED_COUNT] = count;
     bytes[RECEIVED_WINNING] = winning as u8;
-    let from = emitted_bytes(places);
-    copy(&from, 0, EMITTED_SIZE, &mut bytes, RECEIVED_PLACES);
+    lay_places(&places, &mut bytes, RECEIVED_PLACES);
     bytes
 }
 
 pub fn received_bytes(r: Received) -> [u8; RECEIVED_SIZE]
     ensures { result ≡ received_bytes r }
 {
-    let emitted = r.emitted;
-    let places = r.places;
-    event_bytes(emitted, r.count, r.winning, places)
+    event_bytes(r.emitted, r.count, r.winning, r.places)
 }
 
 // Lays the answer to an event for a client, and gives its refusal.
 pub fn lay_received_for(r: ReceivedFor, answer: &mut [u8; RECEIVED_SIZE]) -> u8
     ensures { (result ≡ r.refusal) × (answer.new ≡ received_for_bytes r) }
 {
-    let emitted = r.emitted;
-    let places = r.places;
-    *answer = event_bytes(emitted, r.count, r.winning, places);
+    *answer = event_bytes(r.emitted, r.count, r.winning, r.places);
     r.refusal
 }
 
@@ -111,9 +99,7 @@ fn fed_bytes(r: Fed) -> [u8; FED_SIZE]
     ensures { result ≡ fed_bytes r }
 {
     let answer = r.answer;
-    let emitted = answer.emitted;
-    let places = answer.places;
-    let event = event_bytes(emitted, answer.count, answer.winning, places);
+    let event = event_bytes(answer.emitted, answer.count, answer.winning, answer.places);
     let loss = number_bytes(r.loss as usize);
     let place = number_bytes(r.place);
     let mut bytes = [0u8; FED_SIZE];
@@ -128,15 +114,13 @@ pub fn lay_fed(r: Fed, expected: &mut [u8; EXPECTED_SIZE], answer: &mut [u8; FED
     ensures { (result ≡ r.answer.refusal) × (expected.new ≡ expected_laid r.expected expected.old)
         × (answer.new ≡ fed_bytes r) }
 {
-    let next = r.expected;
-    lay_expected(next, expected);
+    lay_expected(r.expected, expected);
     *answer = fed_bytes(r);
-    let event = r.answer;
-    event.refusal
+    r.answer.refusal
 }
 
 pub fn verdict_bytes(v: Verdict) -> [u8; VERDICT_SIZE]
-    ensures { result ≡ verdict_bytes v }
+    ensures { result ≡ verdict_bytes (answered v) }
 {
     [v.may_rest as u8, v.can_rest as u8]
 }

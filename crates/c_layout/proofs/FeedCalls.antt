@@ -1,5 +1,5 @@
 -- What a call on a record of the feed leaves, as it answers.
-use Prim.Native.Nat.{ℕ, ◌+◌, ◌*◌, ◌/◌, ◌%◌, ◌<◌, ◌≤◌}
+use Prim.Native.Nat.{ℕ, ◌+◌, ◌/◌, ◌%◌, ◌<◌, ◌≤◌}
 use mathlib.Core.Path.{◌≡◌, refl, sym, ◌∙◌, ap}
 use mathlib.Core.Bool.{true, false}
 use mathlib.Core.List.{List, [], ◌∷◌}
@@ -9,6 +9,7 @@ use lib.Seq.{take_at, drop_at}
 use lib.Dec.{eqb}
 use borrow.Author.Tests.{eqb-true, eqb-false, eq-eqb, ne_eqb}
 use Rattle.base.proofs.Bools.{by, clash}
+use Rattle.std.specs.Int.{w16, from_le_bytes}
 use Rattle.configuration.specs.declared.Configuration.{Configuration}
 use Rattle.clients_answers.specs.Clients.{list_refusal, refused_for}
 use Rattle.feed_record.specs.declared.Expected.{Expected}
@@ -28,6 +29,7 @@ use Rattle.c_layout.specs.Answers.{received_for_bytes, fed_bytes}
 use Rattle.c_layout.specs.Calls.{received_for_left, fed_left, feed_leaves}
 use Rattle.c_layout.specs.Claims.{ExpectedKept, FeedLeftAsAnswered}
 use Rattle.c_layout.proofs.Numbers.{number-length}
+use Rattle.c_layout.proofs.Bytes.{of-two}
 use Rattle.c_layout.proofs.Offsets.{places-seven, offsets_hold}
 
 -- out of bytes
@@ -35,9 +37,10 @@ pub expected-none : (bytes : List ℕ) → byte_at bytes expected_known ≡ 0 �
 unfolding expected_of
 expected-none bytes z = rw z
 
-pub expected-some : (bytes : List ℕ) → length bytes ≡ expected_size → (byte_at bytes expected_known ≡ 0 → ⊥) → (low high : ℕ)
-    → low ≡ byte_at bytes expected_serial → high ≡ byte_at bytes (expected_serial + 1) → Serial (low + high * 256) ≡ expected_of bytes
-expected-some bytes long z low high l h = ap Serial (omega arith) ∙ sym ((offsets_hold.expected bytes long).known z)
+pub expected-some : (bytes : List ℕ) → length bytes ≡ expected_size → (byte_at bytes expected_known ≡ 0 → ⊥) → (serial : ℕ)
+    → serial ≡ from_le_bytes w16 (byte_at bytes expected_serial ∷ byte_at bytes (expected_serial + 1) ∷ [])
+    → Serial serial ≡ expected_of bytes
+expected-some bytes long z serial h = ap Serial (h ∙ of-two _ _) ∙ sym ((offsets_hold.expected bytes long).known z)
 
 -- the test whether two are the same
 same_itself : (x : Expected) → same_expected x x ≡ true
@@ -63,13 +66,14 @@ laid-other x lent h = rw h
 
 -- .. where what they say is y
 module _ (x y : Expected) (lent : List ℕ) (e : y ≡ expected_of lent) where
-  pub lays_already : same_expected y x ≡ true → lent ≡ expected_laid x lent
-  unfolding expected_laid
-  lays_already h = rw (sym e, h)
+  pub lays_already : y ≡ x → lent ≡ expected_laid x lent
+  lays_already h = sym (ap (λ z. expected_laid z lent) (sym h ∙ e) ∙ laid_same lent)
 
-  pub lays_anew : same_expected y x ≡ false → expected_bytes x ≡ expected_laid x lent
-  unfolding expected_laid
-  lays_anew h = rw (sym e, h)
+  pub lays_anew : (y ≡ x → ⊥) → expected_bytes x ≡ expected_laid x lent
+  lays_anew h =
+      by (same_expected (expected_of lent) x)
+      (λ same. absurd (h (e ∙ same-is (expected_of lent) x same)))
+      (λ other. sym (laid-other x lent other))
 
 kept-laid : (x : Expected) (lent : List ℕ) → expected_of (expected_bytes x) ≡ x → expected_of (expected_laid x lent) ≡ x
 kept-laid x lent e =

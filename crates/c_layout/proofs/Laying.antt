@@ -1,5 +1,5 @@
 -- Parts of lent bytes, and arrays that are filled part by part.
-use Prim.Native.Nat.{ℕ, suc, ◌+◌, ◌*◌, ◌-◌, ◌/◌, ◌%◌, ◌≤◌, ◌<◌}
+use Prim.Native.Nat.{ℕ, ◌+◌, ◌*◌, ◌-◌, ◌≤◌}
 use mathlib.Core.Path.{◌≡◌, refl, sym, ◌∙◌, ap}
 use mathlib.Core.Bool.{Bool, true, false, cond}
 use mathlib.Core.List.{List, [], ◌∷◌, ◌++◌, map, append-nil, append_assoc}
@@ -45,12 +45,12 @@ pub pad-full : (n : ℕ) (l : List ℕ) → length l ≡ n → pad n l ≡ l
 unfolding pad
 pad-full n l h = let e : n - length l ≡ 0 = omega arith in rw e (append-nil l)
 
--- a whole array, stored behind a padded list
+-- a list, stored behind a padded one, and a whole array
+pad_list : (n at k : ℕ) (l v : List ℕ) → length l ≡ at → length v ≡ k → at + k ≤ n → sets (pad n l) at v ≡ pad n (l ++ v)
+pad_list n at k l v e f h = ap (λ i. sets (pad n l) i v) (sym e) ∙ pad-sets n l v (omega arith)
+
 pub pad_array : (n at k : ℕ) (l v : List ℕ) → length l ≡ at → length v ≡ k → at + k ≤ n → sets (pad n l) at (take k (drop 0 v)) ≡ pad n (l ++ v)
-pad_array n at k l v e f h =
-    ap (λ x. sets (pad n l) at x) (take_all k v (omega arith)) ∙
-    ap (λ i. sets (pad n l) i v) (sym e) ∙
-    pad-sets n l v (omega arith)
+pad_array n at k l v e f h = ap (λ x. sets (pad n l) at x) (take_all k v (omega arith)) ∙ pad_list n at k l v e f h
 
 -- the record, from its bytes
 pub automaton-made : (bytes classes accepting next : List ℕ) → length bytes ≡ automaton_size
@@ -152,27 +152,27 @@ automaton-laid a x y z c f n xs ys zs =
 
 -- the bytes of a configuration: two numbers and the buffer, then the bytes of its places, of the
 -- input count and of the output count, each stored behind what stands already
-pub configuration-laid : (c : Configuration) (p r m x y z w : List ℕ)
+pub configuration-laid : (c : Configuration) (r m x y z w : List ℕ)
     → length c.buffer ≡ max_capacity → length c.places ≡ max_capacity
-    → p ≡ places_bytes (map input_number c.places)
     → r ≡ number_bytes place_size (input_number c.received)
     → m ≡ number_bytes place_size (output_number c.emitted)
     → x ≡ sets
     (sets (replicate configuration_size 0) configuration_state (c.state ∷ c.held ∷ []))
     configuration_buffer
     (take max_capacity (drop 0 c.buffer))
-    → y ≡ sets x configuration_places (take (max_capacity * place_size) (drop 0 p))
+    → y ≡ sets x configuration_places (places_bytes (map input_number c.places))
     → z ≡ sets y configuration_received (take place_size (drop 0 r))
     → w ≡ sets z configuration_emitted (take place_size (drop 0 m))
     → w ≡ configuration_bytes c
 unfolding configuration_bytes
-configuration-laid c p r m x y z w b k ep er em xs ys zs ws =
+configuration-laid c r m x y z w b k er em xs ys zs ws =
+    let p : List ℕ = places_bytes (map input_number c.places) in
     let head : List ℕ = c.state ∷ c.held ∷ [] in
     let size = configuration_size in
     let to_places : List ℕ = head ++ c.buffer in
     let to_received : List ℕ = to_places ++ p in
     let to_emitted : List ℕ = to_received ++ r in
-    let lp : length p ≡ max_capacity * place_size = ap length ep ∙ places-size c.places ∙ ap (λ n. n * place_size) k in
+    let lp : length p ≡ max_capacity * place_size = places-size c.places ∙ ap (λ n. n * place_size) k in
     let lr : length r ≡ place_size = ap length er ∙ number-length place_size (input_number c.received) in
     let lm : length m ≡ place_size = ap length em ∙ number-length place_size (output_number c.emitted) in
     let one : x ≡ pad size to_places =
@@ -182,8 +182,8 @@ configuration-laid c p r m x y z w b k ep er em xs ys zs ws =
     let k1 : length to_places ≡ configuration_places = length-append head c.buffer ∙ omega arith in
     let two : y ≡ pad size to_received =
     ys ∙
-    ap (λ l. sets l configuration_places (take (max_capacity * place_size) (drop 0 p))) one ∙
-    pad_array size configuration_places (max_capacity * place_size) to_places p k1 lp (omega arith) in
+    ap (λ l. sets l configuration_places p) one ∙
+    pad_list size configuration_places (max_capacity * place_size) to_places p k1 lp (omega arith) in
     let k2 : length to_received ≡ configuration_received = length-append to_places p ∙ omega arith in
     let three : z ≡ pad size to_emitted =
     zs ∙
@@ -199,42 +199,23 @@ configuration-laid c p r m x y z w b k ep er em xs ys zs ws =
     pad-full size (to_emitted ++ m) k4 ∙
     append_assoc to_received r m ∙
     append_assoc to_places p (r ++ m) ∙
-    rw (ep, er, em)
-
--- a byte more of a number
-module _ (bytes whole : List ℕ) (i w later : ℕ) where
-  pub number_more : i < w → sets bytes i (number_bytes (w - i) later) ≡ whole
-      → sets (set bytes i (later % 256)) (i + 1) (number_bytes (w - (i + 1)) (later / 256)) ≡ whole
-  unfolding number_bytes
-  number_more l so_far =
-      let e : suc (w - (i + 1)) ≡ w - i = omega arith in
-      let f : i + 1 ≡ suc i = omega arith in
-      ap (λ j. sets (set bytes i (later % 256)) j (number_bytes (w - (i + 1)) (later / 256))) f ∙
-      ap (λ k. sets bytes i (number_bytes k later)) e ∙
-      so_far
-
-  pub number-done : w ≤ i → i ≤ w → sets bytes i (number_bytes (w - i) later) ≡ whole → bytes ≡ whole
-  unfolding number_bytes
-  number-done l m so_far = let e : 0 ≡ w - i = omega arith in ap (λ k. sets bytes i (number_bytes k later)) e ∙ so_far
-
-pub number-laid : (v : ℕ) (x : List ℕ) → x ≡ sets (replicate number_size 0) 0 (number_bytes number_size v)
-    → x ≡ number_bytes number_size v
-number-laid v x h = h ∙ sets-whole (replicate number_size 0) (number_bytes number_size v) (sym (number-length number_size v))
+    rw (er, em)
 
 -- a flag as a byte
 pub flag_byte : (b : Bool) → bool_byte b ≡ cond b 1 0
 flag_byte true = refl
 flag_byte false = refl
 
-pub event-laid : (emitted : List ℕ) (count : ℕ) (winning : Bool) (places : List InputPlace) (p x y : List ℕ)
-    → length emitted ≡ max_emitted → length places ≡ max_emitted → p ≡ places_bytes (map input_number places)
+pub event-laid : (emitted : List ℕ) (count : ℕ) (winning : Bool) (places : List InputPlace) (x y : List ℕ)
+    → length emitted ≡ max_emitted → length places ≡ max_emitted
     → x ≡ sets (replicate received_size 0) received_emitted (take max_emitted (drop 0 emitted))
-    → y ≡ sets (set (set x received_count count) received_winning (bool_byte winning)) received_places (take (max_emitted * place_size) (drop 0 p))
+    → y ≡ sets (set (set x received_count count) received_winning (bool_byte winning)) received_places (places_bytes (map input_number places))
     → y ≡ event_bytes emitted count winning places
-event-laid emitted count winning places p x y e f ep xs ys =
+event-laid emitted count winning places x y e f xs ys =
+    let p : List ℕ = places_bytes (map input_number places) in
     let size = received_size in
     let two : List ℕ = count ∷ cond winning 1 0 ∷ [] in
-    let lp : length p ≡ max_emitted * place_size = ap length ep ∙ places-size places ∙ ap (λ n. n * place_size) f in
+    let lp : length p ≡ max_emitted * place_size = places-size places ∙ ap (λ n. n * place_size) f in
     let one : x ≡ pad size emitted =
     xs ∙
     ap (λ l. sets (replicate size 0) 0 l) (take_all max_emitted emitted (omega arith)) ∙
@@ -246,11 +227,10 @@ event-laid emitted count winning places p x y e f ep xs ys =
     pad-sets size emitted two (omega arith) in
     let k : length (emitted ++ two) ≡ received_places = length-append emitted two ∙ omega arith in
     ys ∙
-    ap (λ l. sets l received_places (take (max_emitted * place_size) (drop 0 p))) flagged ∙
-    pad_array size received_places (max_emitted * place_size) (emitted ++ two) p k lp (omega arith) ∙
+    ap (λ l. sets l received_places p) flagged ∙
+    pad_list size received_places (max_emitted * place_size) (emitted ++ two) p k lp (omega arith) ∙
     pad-full size ((emitted ++ two) ++ p) (length-append (emitted ++ two) p ∙ omega arith) ∙
-    append_assoc emitted two p ∙
-    rw ep
+    append_assoc emitted two p
 
 pub day-laid : (written refused : ℕ) (n m x y : List ℕ) → n ≡ number_bytes number_size written → m ≡ number_bytes number_size refused
     → x ≡ sets (replicate ran_size 0) ran_length (take number_size (drop 0 n))

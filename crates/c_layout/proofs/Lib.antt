@@ -1,4 +1,5 @@
 pub mod Numbers
+pub mod Bytes
 pub mod Configurations
 pub mod Laying
 pub mod Trips

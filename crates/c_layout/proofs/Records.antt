@@ -19,7 +19,7 @@ use Rattle.c_layout.specs.Layout.{automaton_bytes}
 use Rattle.c_layout.specs.Claims.{AutomataHandedOn, RefusedAutomataZero}
 use Rattle.c_layout.proofs.Trips.{automaton-kept}
 
-blank-zeros : automaton_bytes blank ≡ replicate automaton_size 0
+pub blank-zeros : automaton_bytes blank ≡ replicate automaton_size 0
 unfolding automaton_bytes
 blank-zeros = refl
 

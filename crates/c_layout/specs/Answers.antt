@@ -9,7 +9,7 @@ use Rattle.monitor_answers.specs.declared.Ran.{Ran}
 use Rattle.clients_answers.specs.declared.ReceivedFor.{ReceivedFor}
 use Rattle.clients_answers.specs.declared.RanFor.{RanFor}
 use Rattle.feed_answers.specs.declared.Fed.{Fed}
-use Rattle.game.specs.declared.Verdict.{Verdict}
+use Rattle.game.specs.Game.{Verdict}
 use Rattle.c_layout.specs.Offsets.{number_size}
 use Rattle.c_layout.specs.Layout.{number_bytes, places_bytes}
 

@@ -9,7 +9,7 @@ use Rattle.configuration_places.specs.declared.InputPlace.{InputPlace}
 use Rattle.configuration_places.specs.Places.{input_place, input_number, output_number}
 use Rattle.configuration.specs.declared.Configuration.{Configuration}
 use Rattle.configuration.specs.Configuration.{initial_of, initial_answer}
-use Rattle.game.specs.declared.Verdict.{Verdict}
+use Rattle.game.specs.Game.{Verdict}
 use Rattle.monitor_answers.specs.declared.Status.{Status}
 use Rattle.monitor_answers.specs.declared.Received.{Received}
 use Rattle.monitor_answers.specs.declared.Ran.{Ran}

@@ -4,10 +4,8 @@ use mathlib.Core.Path.{◌≡◌, refl, sym, ◌∙◌, ap}
 use mathlib.Core.List.{List, [], ◌∷◌, ◌++◌, map, append-nil, append_assoc}
 use native.Mathlib.Numerals.{add-one}
 use native.Mathlib.Omega.{arith}
-use lib.ListN.{length, get_or, take, drop, length-append, length-map, get_or-map}
-use lib.Seq.{sets, length-sets, drop-cons, take-suc, take_all, length-take-le}
-use Rattle.base.specs.Pad.{pad}
-use Rattle.base.proofs.Padding.{pad-sets}
+use lib.ListN.{length, get_or, set, take, drop, length-append, length-map, get_or-map}
+use lib.Seq.{sets, drop-cons, take-suc, take_all, length-take-le}
 use Rattle.configuration_places.specs.declared.InputPlace.{InputPlace}
 use Rattle.configuration_places.specs.Places.{input_place, input_number}
 use Rattle.c_layout.specs.Offsets.{place_size}
@@ -15,7 +13,7 @@ use Rattle.c_layout.specs.Layout.{part, number_of, number_bytes, places_of, plac
 use Rattle.c_layout.proofs.Numbers.{number-length}
 
 -- four bytes, one by one
-part-four : (bytes : List ℕ) (at : ℕ) → at + place_size ≤ length bytes
+pub part-four : (bytes : List ℕ) (at : ℕ) → at + place_size ≤ length bytes
     → part at place_size bytes ≡ get_or bytes at 0 ∷ get_or bytes (at + 1) 0 ∷ get_or bytes (at + 2) 0 ∷ get_or bytes (at + 3) 0 ∷ []
 unfolding part
 part-four bytes at h =
@@ -32,12 +30,6 @@ part-four bytes at h =
     ap (λ l. z ∷ y ∷ take 2 l) (drop-cons bytes (at + 2) 0 (omega arith)) ∙
     ap (λ i. z ∷ y ∷ x ∷ take 1 (drop i bytes)) c ∙
     ap (λ l. z ∷ y ∷ x ∷ take 1 l) (drop-cons bytes (at + 3) 0 (omega arith))
-
-pub number-four : (bytes : List ℕ) (at : ℕ) → at + place_size ≤ length bytes
-    → (get_or bytes at 0 + get_or bytes (at + 1) 0 * 256) + (get_or bytes (at + 2) 0 + get_or bytes (at + 3) 0 * 256) * 65536
-    ≡ number_of (part at place_size bytes)
-unfolding number_of
-number-four bytes at h = sym (ap number_of (part-four bytes at h) ∙ omega arith)
 
 -- a place of a list of places that lies in bytes
 pub place_in : (count at : ℕ) (bytes : List ℕ) (i : ℕ) → i < count
@@ -60,38 +52,37 @@ unfolding places_bytes
 bytes-append [] n = append-nil (number_bytes place_size n)
 bytes-append (m ∷ ns) n = ap (λ l. number_bytes place_size m ++ l) (bytes-append ns n) ∙ sym (append_assoc (number_bytes place_size m) (places_bytes ns) (number_bytes place_size n))
 
-pub bytes_many : (ns : List ℕ) → length (places_bytes ns) ≡ length ns * place_size
+bytes_many : (ns : List ℕ) → length (places_bytes ns) ≡ length ns * place_size
 unfolding places_bytes
 bytes_many [] = refl
 bytes_many (n ∷ ns) = length-append (number_bytes place_size n) (places_bytes ns) ∙ omega (arith, number-length place_size n, bytes_many ns)
 
-bytes_next : (size : ℕ) (ps : List InputPlace) (i : ℕ) → i < length ps → suc i * place_size ≤ size
-    → sets (pad size (places_bytes (take i (map input_number ps)))) (i * place_size) (number_bytes place_size (input_number (get_or ps i (input_place 0))))
-    ≡ pad size (places_bytes (take (i + 1) (map input_number ps)))
-bytes_next size ps i l room =
+-- stores, and then those behind them
+sets_join : (xs ys l : List ℕ) (at : ℕ) → sets l at (xs ++ ys) ≡ sets (sets l at xs) (at + length xs) ys
+sets_join [] ys l at = let e : at ≡ at + 0 = omega arith in ap (λ k. sets l k ys) e
+sets_join (x ∷ xs) ys l at =
+    let e : suc at + length xs ≡ at + suc (length xs) = omega arith in
+    sets_join xs ys (set l at x) (suc at) ∙ ap (λ k. sets (sets (set l at x) (suc at) xs) k ys) e
+
+-- as the loop lays it down
+pub laid_next : (ps : List InputPlace) (i at : ℕ) → i < length ps → (lent bytes bytes' : List ℕ)
+    → bytes ≡ sets lent at (places_bytes (take i (map input_number ps)))
+    → bytes' ≡ sets bytes (at + i * place_size) (number_bytes place_size (input_number (get_or ps i (input_place 0))))
+    → bytes' ≡ sets lent at (places_bytes (take (i + 1) (map input_number ps)))
+laid_next ps i at l lent bytes bytes' so_far laid =
     let ns = map input_number ps in
-    let v = number_bytes place_size (input_number (get_or ps i (input_place 0))) in
+    let n = input_number (get_or ps i (input_place 0)) in
     let long : length ns ≡ length ps = length-map ps input_number in
     let front : length (take i ns) ≡ i = length-take-le i ns (omega arith) in
-    let at : length (places_bytes (take i ns)) ≡ i * place_size = bytes_many (take i ns) ∙ ap (λ k. k * place_size) front in
-    let more : take (i + 1) ns ≡ take i ns ++ input_number (get_or ps i (input_place 0)) ∷ [] =
+    let behind : length (places_bytes (take i ns)) ≡ i * place_size = bytes_many (take i ns) ∙ ap (λ k. k * place_size) front in
+    let more : take (i + 1) ns ≡ take i ns ++ n ∷ [] =
     ap (λ k. take k ns) (add-one i) ∙ take-suc ns i 0 (omega arith) ∙
     ap (λ n. take i ns ++ n ∷ []) (get_or-map input_number ps i (input_place 0))
     in
-    ap (λ k. sets (pad size (places_bytes (take i ns))) k v) (sym at) ∙
-    pad-sets size (places_bytes (take i ns)) v (omega (arith, at, number-length place_size (input_number (get_or ps i (input_place 0))))) ∙
-    ap (pad size) (sym (ap places_bytes more ∙ bytes-append (take i ns) (input_number (get_or ps i (input_place 0)))))
-
--- as the loop lays it down
-pub laid_next : (size : ℕ) (ps : List InputPlace) (i : ℕ) → i < length ps → suc i * place_size ≤ size → (bytes bytes' : List ℕ)
-    → length bytes ≡ size → bytes ≡ pad size (places_bytes (take i (map input_number ps)))
-    → bytes' ≡ sets bytes (i * place_size) (number_bytes place_size (input_number (get_or ps i (input_place 0))))
-    → (length bytes' ≡ size) × (bytes' ≡ pad size (places_bytes (take (i + 1) (map input_number ps))))
-laid_next size ps i l room bytes bytes' long so_far laid =
-    let v = number_bytes place_size (input_number (get_or ps i (input_place 0))) in (
-      ap length laid ∙ length-sets bytes (i * place_size) v ∙ long,
-      laid ∙ ap (λ b. sets b (i * place_size) v) so_far ∙ bytes_next size ps i l room,
-    )
+    laid ∙ ap (λ b. sets b (at + i * place_size) (number_bytes place_size n)) so_far ∙
+    ap (λ k. sets (sets lent at (places_bytes (take i ns))) (at + k) (number_bytes place_size n)) (sym behind) ∙
+    sym (sets_join (places_bytes (take i ns)) (number_bytes place_size n) lent at) ∙
+    ap (sets lent at) (sym (ap places_bytes more ∙ bytes-append (take i ns) n))
 
 -- one place, laid by way of its own four bytes
 pub place-laid : (out out' place : List ℕ) (at value : ℕ) → place ≡ number_bytes place_size value

@@ -4,10 +4,10 @@
 // caller lends: into bytes and out of them.
 ghost use Rattle.std.specs.Prelude.{◌≡◌};
 ghost use Rattle.c_layout.specs.Layout.{automaton_of, automaton_bytes, configuration_of, configuration_bytes};
-ghost use Rattle.c_layout.specs.Layout.{expected_of, expected_bytes, expected_laid, same_expected};
+ghost use Rattle.c_layout.specs.Layout.{expected_of, expected_bytes, expected_laid};
 
 use automaton::Automaton;
-use base::{as_u16, copy};
+use base::copy;
 use c_layout::{
     AUTOMATON_ACCEPTING, AUTOMATON_CAPACITY, AUTOMATON_CLASSES, AUTOMATON_INITIAL, AUTOMATON_NEXT,
     AUTOMATON_SIZE, AUTOMATON_STATES, AUTOMATON_SYMBOLS, CONFIGURATION_BUFFER,
@@ -15,7 +15,7 @@ use c_layout::{
     CONFIGURATION_SIZE, CONFIGURATION_STATE, EXPECTED_KNOWN, EXPECTED_SERIAL, EXPECTED_SIZE,
     MAX_CAPACITY, MAX_NEXT, MAX_STATES, MAX_SYMBOLS, PLACE_SIZE,
 };
-use c_places::{HELD_SIZE, held_bytes, held_places, place_at, place_bytes};
+use c_places::{held_places, lay_places, place_at, place_bytes};
 use configuration::Configuration;
 use configuration_places::{InputPlace, OutputPlace};
 use feed_record::Expected;
@@ -77,8 +77,7 @@ pub fn configuration_bytes(c: Configuration) -> [u8; CONFIGURATION_SIZE]
     bytes[CONFIGURATION_STATE] = c.state;
     bytes[CONFIGURATION_HELD] = c.held;
     copy(&c.buffer, 0, MAX_CAPACITY, &mut bytes, CONFIGURATION_BUFFER);
-    let places = held_bytes(c.places);
-    copy(&places, 0, HELD_SIZE, &mut bytes, CONFIGURATION_PLACES);
+    lay_places(&c.places, &mut bytes, CONFIGURATION_PLACES);
     let received = place_bytes(c.received.0);
     copy(&received, 0, PLACE_SIZE, &mut bytes, CONFIGURATION_RECEIVED);
     let emitted = place_bytes(c.emitted.0);
@@ -93,9 +92,7 @@ pub fn expected_of(bytes: [u8; EXPECTED_SIZE]) -> Expected
     if bytes[EXPECTED_KNOWN] == 0 {
         return Expected::Any;
     }
-    let low = as_u16(bytes[EXPECTED_SERIAL]);
-    let high = as_u16(bytes[EXPECTED_SERIAL + 1]);
-    Expected::Serial(low + high * 256)
+    Expected::Serial(u16::from_le_bytes([bytes[EXPECTED_SERIAL], bytes[EXPECTED_SERIAL + 1]]))
 }
 
 fn expected_bytes(x: Expected) -> [u8; EXPECTED_SIZE]
@@ -103,22 +100,10 @@ fn expected_bytes(x: Expected) -> [u8; EXPECTED_SIZE]
 {
     match x {
         Expected::Any => [0, 0, 0],
-        Expected::Serial(s) => [1, (s % 256) as u8, (s / 256 % 256) as u8],
-    }
-}
-
-fn same_expected(x: Expected, y: Expected) -> bool
-    ensures { result ≡ same_expected x y }
-{
-    match x {
-        Expected::Any => match y {
-            Expected::Any => true,
-            Expected::Serial(_) => false,
-        },
-        Expected::Serial(s) => match y {
-            Expected::Any => false,
-            Expected::Serial(t) => s == t,
-        },
+        Expected::Serial(s) => {
+            let [low, high] = s.to_le_bytes();
+            [1, low, high]
+        }
     }
 }
 
@@ -126,8 +111,7 @@ fn same_expected(x: Expected, y: Expected) -> bool
 pub fn lay_expected(x: Expected, bytes: &mut [u8; EXPECTED_SIZE])
     ensures { bytes.new ≡ expected_laid x bytes.old }
 {
-    let lent = *bytes;
-    if !same_expected(expected_of(lent), x) {
+    if expected_of(*bytes) != x {
         *bytes = expected_bytes(x);
     }
 }

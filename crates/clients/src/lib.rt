@@ -14,15 +14,15 @@ use monitor_answers::Received;
 
 // One event for the client of this number.
 pub fn receive(
-    a: Automaton,
+    a: &Automaton,
     table: &[u32],
     configurations: &mut [Configuration],
     client: u32,
     event: u32,
 ) -> ReceivedFor
     ensures { let t = table.now in
-        (result ≡ received_for a t configurations.old client event)
-        × (configurations.new ≡ received_clients a t configurations.old client event) }
+        (result ≡ received_for a.now t configurations.old client event)
+        × (configurations.new ≡ received_clients a.now t configurations.old client event) }
 {
     let at = client as usize;
     if configurations.len() <= at {

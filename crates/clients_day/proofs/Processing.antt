@@ -41,7 +41,6 @@ module _ (a : Automaton) where
 pub record Stand (l : Limits) (marks next ranks t : List ℕ) (cs : List Configuration) (vs out : List ℕ)
     (i written refused : ℕ) (clients : List Configuration) (output : List ℕ) : Type 0 where
   pub asked : DayRequires l marks next ranks t cs vs (length out)
-  pub upto : i ≤ length vs
   pub follows : (a : Automaton) → Lends a l next ranks t → Marked a marks cs
       → day_from a t cs out 0 0 vs ≡ day_from a t clients output written refused (drop i vs)
   pub marked : (a : Automaton) → Lends a l next ranks t → Marked a marks cs → Marked a marks clients
@@ -58,7 +57,6 @@ module _ (l : Limits) (marks next ranks t : List ℕ) (cs : List Configuration) 
   stand_begins g =
       record {
         asked = g;
-        upto = omega arith;
         follows = λ a o m. refl;
         marked = λ a o m. m;
         same_count = refl;
@@ -135,7 +133,6 @@ module _ (l : Limits) (marks next ranks t : List ℕ) (cs : List Configuration) 
               let none_more : refused + r.refused ≡ refused = omega (arith, z) in
               record {
                 asked = s.asked;
-                upto = omega (arith, h);
                 follows = λ a o m. s.follows a o m ∙ rw none_more at (led a (took a o m).0 (took a o m).1);
                 marked = marked_then;
                 same_count = length-set clients d.client r.configuration ∙ s.same_count;
@@ -157,7 +154,6 @@ module _ (l : Limits) (marks next ranks t : List ℕ) (cs : List Configuration) 
               let same = set-get_or clients d.client none in
               record {
                 asked = s.asked;
-                upto = omega (arith, h);
                 follows = λ a o m. s.follows a o m ∙ rw (passes nz, same) at (led a (took a o m).0 (took a o m).1);
                 marked = s.marked;
                 same_count = s.same_count;
@@ -172,7 +168,6 @@ module _ (l : Limits) (marks next ranks t : List ℕ) (cs : List Configuration) 
       stand_out b =
           record {
             asked = s.asked;
-            upto = omega (arith, h);
             follows = λ a o m.
                 s.follows a o m ∙ step-out a t vs i clients output written refused h (rw ed at b);
             marked = s.marked;

@@ -10,8 +10,7 @@ ghost use Rattle.clients_day.specs.Days.{held_in_all_by, marks_by, DayRequires, 
 use automaton::Automaton;
 use clients_answers::RanFor;
 use clients_entry::{
-    Event, ListEntry, MAX_CLIENTS, Taken, enter_list, event_at, held_in, refused_run, take,
-    too_short,
+    Event, ListEntry, MAX_CLIENTS, Taken, enter_list, held_in, refused_run, split, take, too_short,
 };
 use configuration::Configuration;
 use monitor_loop::Limits;
@@ -29,10 +28,8 @@ fn held_in_all<'a>(
         (result ≡ held_in_all_by limits lent cs) × (marks.new ≡ sets marks.old 0 (marks_by limits lent cs)) }
 {
     let mut sum: usize = 0;
-    let mut i: usize = 0;
-    while i < configurations.len() {
-        sum = sum + held_in(limits, classes, configurations[i], marks, i);
-        i = i + 1;
+    for (i, &c) in configurations.iter().enumerate() {
+        sum += held_in(limits, classes, c, marks, i);
     }
     sum
 }
@@ -56,11 +53,9 @@ fn process<'a>(
 {
     let mut written: usize = 0;
     let mut refused: usize = 0;
-    let mut i: usize = 0;
-    while i < events.len() {
-        let event = event_at(events, i);
+    for &number in events {
+        let event = split(number);
         let at = event.client;
-        i = i + 1;
         if at < configurations.len() {
             let after = take(
                 limits,
@@ -78,10 +73,10 @@ fn process<'a>(
                 configurations[at] = after.configuration;
                 written = after.written;
             } else {
-                refused = refused + 1;
+                refused += 1;
             }
         } else {
-            refused = refused + 1;
+            refused += 1;
         }
     }
     RanFor {
@@ -93,27 +88,27 @@ fn process<'a>(
 
 // Rows 11, 12, 20 and 16, then the events.
 pub fn run(
-    a: Automaton,
+    a: &Automaton,
     table: &[u32],
     configurations: &mut [Configuration],
     events: &[u32],
     out: &mut [u8],
 ) -> RanFor
     ensures { let t = table.now in let cs = configurations.old in let vs = events.now in
-        (result ≡ ran_for a t cs vs out.old)
-        × (configurations.new ≡ ran_clients a t cs vs out.old)
-        × (out.new ≡ ran_for_buffer a t cs vs out.old) }
+        (result ≡ ran_for a.now t cs vs out.old)
+        × (configurations.new ≡ ran_clients a.now t cs vs out.old)
+        × (out.new ≡ ran_for_buffer a.now t cs vs out.old) }
 {
     let entry = enter_list(a, table, configurations.len());
     if entry.refusal != 0 {
         return refused_run(entry.refusal);
     }
-    let classes = a.classes;
     let mut marks = [0u8; MAX_CLIENTS];
-    let held = held_in_all(entry.limits, &classes, configurations, &mut marks);
+    let held = held_in_all(entry.limits, &a.classes, configurations, &mut marks);
     if too_short(out.len(), events.len(), held) {
         return refused_run(16);
     }
+    // Copies, in which no byte that is stored can lie.
     let next = a.next;
     let ranks = entry.ranks;
     process(

@@ -1,5 +1,5 @@
 -- Rows 11, 12 and 20 as the code finds them, marks, and the ways out of the functions above them.
-use Prim.Native.Nat.{ℕ, ◌+◌, ◌-◌, ◌<◌, ◌≤◌}
+use Prim.Native.Nat.{ℕ, ◌+◌, ◌<◌}
 use mathlib.Core.Path.{◌≡◌, refl, sym, ◌∙◌, ap}
 use mathlib.Core.Bool.{true, false, ◌&&◌}
 use mathlib.Core.List.{List, [], ◌∷◌}
@@ -7,7 +7,7 @@ use native.Mathlib.Omega.{arith}
 use lib.Dec.{eqb, leb, ltb}
 use lib.ListN.{length, get_or}
 use lib.Seq.{sets}
-use borrow.Author.Tests.{ne_eqb, eqb-true, eqb-false, ltb-true, ltb-false, lt-ltb, le-ltb}
+use borrow.Author.Tests.{ne_eqb, eqb-true, eqb-false}
 use Rattle.base.specs.Rows.{first}
 use Rattle.base.proofs.Bools.{by}
 use Rattle.automaton.specs.declared.Automaton.{Automaton}
@@ -31,16 +31,6 @@ use Rattle.clients_entry.specs.Entries.{ListEntry, Taken, count_row, list_entry_
 
 -- row 20
 module _ (count : ℕ) where
-  pub count_none : count ≡ 0 → false ≡ right_count count
-  count_none z = let l : count ≤ 0 = omega arith in rw (le-ltb 0 count l)
-
-  module _ (z : count ≡ 0 → ⊥) where
-    some : 0 < count
-    some = omega arith
-
-    pub count-is : leb count 500 ≡ right_count count
-    count-is = rw (lt-ltb 0 count some)
-
   module _ (row : ℕ) where
     pub row-stands : (row ≡ 0 → ⊥) → row ≡ count_row row count
     unfolding count_row
@@ -203,18 +193,3 @@ module _ (l : Limits) (marks : List ℕ) (client : ℕ) (next ranks t : List ℕ
           let x = found a o stands in
           let n : turn_refusal a t c e ≡ 0 = rw w.0 at z in
           (rw (x.0, x.1, n), w.1)
-
--- row 16: a test of a difference, and of a sum
-module _ (size events held : ℕ) where
-  pub short-held : size < held → true ≡ ltb size (events + held)
-  short-held h = sym (lt-ltb size (events + held) (omega arith))
-
-  pub short-left : held ≤ size → ltb (size - held) events ≡ ltb size (events + held)
-  short-left h =
-      by (ltb size (events + held))
-      (λ k.
-      let m = ltb-true size (events + held) k in
-      lt-ltb (size - held) events (omega arith) ∙ sym k)
-      (λ k.
-      let m = ltb-false size (events + held) k in
-      le-ltb (size - held) events (omega arith) ∙ sym k)

@@ -3,18 +3,17 @@
 // The calls over a list of clients as far as they need no list: rows 11, 12 and 20, what a
 // configuration holds for row 16 and its mark for row 13, and one event for one configuration, by
 // value.
-ghost use Rattle.std.specs.Prelude.{◌≡◌, ◌+◌, ◌<◌, ltb, length, get_or, set};
+ghost use Rattle.std.specs.Prelude.{◌≡◌, ◌+◌, ◌<◌, ltb, length, set};
 ghost use Rattle.clients_answers.specs.Clients.{max_clients, right_count, answer_of, refused_for, refused_run_for};
 ghost use Rattle.clients_entry.specs.Entries.{count_row, list_entry_of, held_in_by, mark_by, event_of};
 ghost use Rattle.clients_entry.specs.Entries.{TakeRequires, Taking, present_of, absent_of};
 
 use automaton::Automaton;
-use base::as_usize;
 use clients_answers::{RanFor, ReceivedFor};
 use configuration::Configuration;
 use configuration_check::consistent;
 use configuration_places::InputPlace;
-use monitor::receive_in;
+use monitor::receive;
 use monitor_answers::Received;
 use monitor_entry::enter;
 use monitor_loop::{Limits, counted, derive, refuses};
@@ -46,39 +45,24 @@ pub struct Taken {
 fn right_count(count: usize) -> bool
     ensures { result ≡ right_count count }
 {
-    if count == 0 {
-        return false;
-    }
-    count <= MAX_CLIENTS
+    0 < count && count <= MAX_CLIENTS
 }
 
 // Row 20 after another row (0: none).
 fn count_row(row: u8, count: usize) -> u8
     ensures { result ≡ count_row row count }
 {
-    if row != 0 {
-        return row;
-    }
-    if !right_count(count) {
+    if row == 0 && !right_count(count) {
         return 20;
     }
-    0
+    row
 }
 
 // Rows 11, 12 and 20.
-pub fn enter_list(a: Automaton, table: &[u32], count: usize) -> ListEntry
-    ensures { result ≡ list_entry_of a table.now count }
+pub fn enter_list(a: &Automaton, table: &[u32], count: usize) -> ListEntry
+    ensures { result ≡ list_entry_of a.now table.now count }
 {
-    let entry = enter(
-        a.states,
-        a.symbols,
-        a.capacity,
-        a.initial,
-        &a.classes,
-        &a.accepting,
-        &a.next,
-        table,
-    );
+    let entry = enter(a, table);
     let ranking = entry.ranking;
     let ranks = ranking.ranks;
     ListEntry {
@@ -112,7 +96,7 @@ pub fn held_in(
         return 0;
     }
     marks[client] = 1;
-    as_usize(c.held)
+    usize::from(c.held)
 }
 
 // A refused event of a day.
@@ -149,11 +133,11 @@ pub fn take<'a>(
     if marks[client] == 0 {
         return passed_over(c, at);
     }
-    let held = as_usize(c.held);
+    let held = usize::from(c.held);
     let row = early_row(
         ranks,
         limits.symbols,
-        as_usize(limits.capacity),
+        usize::from(limits.capacity),
         held,
         c.received,
         event,
@@ -168,7 +152,7 @@ pub fn take<'a>(
             ranks,
             limits.controllables,
             table,
-            as_usize(c.state),
+            usize::from(c.state),
             buffer,
             held,
             c.received,
@@ -182,7 +166,7 @@ pub fn take<'a>(
             ranks,
             limits.controllables,
             table,
-            as_usize(c.state),
+            usize::from(c.state),
             buffer,
             held,
             event as u8,
@@ -211,21 +195,13 @@ pub struct Event {
     pub symbol: u32,
 }
 
-fn split(v: u32) -> Event
+pub fn split(v: u32) -> Event
     ensures { result ≡ event_of v }
 {
     Event {
         client: (v / 65536) as usize,
         symbol: v % 65536,
     }
-}
-
-// The event at a place of a day's list.
-pub fn event_at(events: &[u32], i: usize) -> Event
-    requires { i < length events.now }
-    ensures { result ≡ event_of (get_or events.now i 0) }
-{
-    split(events[i])
 }
 
 // A refused day's answer.
@@ -243,31 +219,17 @@ pub fn refused_run(row: u8) -> RanFor
 pub fn too_short(size: usize, events: usize, held: usize) -> bool
     ensures { result ≡ ltb size (events + held) }
 {
-    if size < held {
-        return true;
-    }
-    size - held < events
+    size < held || size - held < events
 }
 
 // One event for a client's configuration, in a list of so many: rows 11, 12 and 20, then as alone.
 // (The count is looked at first, since it costs little; where it is wrong, 11 and 12 still come
 // before 20.)
-pub fn present(a: Automaton, table: &[u32], count: usize, c: Configuration, event: u32) -> Received
-    ensures { result ≡ present_of a table.now count c event }
+pub fn present(a: &Automaton, table: &[u32], count: usize, c: Configuration, event: u32) -> Received
+    ensures { result ≡ present_of a.now table.now count c event }
 {
     if right_count(count) {
-        return receive_in(
-            a.states,
-            a.symbols,
-            a.capacity,
-            a.initial,
-            &a.classes,
-            &a.accepting,
-            &a.next,
-            table,
-            c,
-            event,
-        );
+        return receive(a, table, c, event);
     }
     let entry = enter_list(a, table, count);
     monitor::refused(entry.refusal, c)
@@ -287,8 +249,8 @@ pub fn refused(row: u8) -> ReceivedFor
 }
 
 // One event for a client that a list of so many does not have: rows 11, 12, 20 and 19.
-pub fn absent(a: Automaton, table: &[u32], count: usize) -> ReceivedFor
-    ensures { result ≡ absent_of a table.now count }
+pub fn absent(a: &Automaton, table: &[u32], count: usize) -> ReceivedFor
+    ensures { result ≡ absent_of a.now table.now count }
 {
     let entry = enter_list(a, table, count);
     if entry.refusal == 0 {

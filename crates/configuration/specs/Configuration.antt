@@ -8,7 +8,6 @@ use Rattle.automaton.specs.Arrays.{controllable_at}
 use Rattle.automaton.specs.Automaton.{valid}
 use Rattle.configuration_places.specs.Places.{input_place, input_number, output_place, output_number}
 pub use Rattle.configuration.specs.declared.Configuration.{Configuration}
-pub use Rattle.configuration.specs.declared.FirstConfiguration.{FirstConfiguration}
 
 -- the held events, first in first
 unfoldable pub held_events : Configuration → List ℕ
@@ -96,6 +95,18 @@ consistent a = consistent_in a.states a.symbols a.capacity a.classes
 -- nothing counted
 unfoldable pub initial_of : Automaton → Configuration
 initial_of a = configuration (empty_at a.initial)
+
+-- What is answered to a record: the initial configuration (refusal 0), or the refusing row with
+-- zeros.
+pub record FirstConfiguration : Type 0 where
+  pub refusal : ℕ
+  pub configuration : Configuration
+
+abbrev pub started : Configuration → FirstConfiguration
+started c = record { refusal = 0; configuration = c }
+
+abbrev pub not_started : ℕ → FirstConfiguration
+not_started row = record { refusal = row; configuration = configuration (empty_at 0) }
 
 -- asked of a record: row 11, with zeros
 unfoldable pub initial_answer : Automaton → FirstConfiguration

@@ -4,10 +4,12 @@
 // the input, and how many events came in and went out. (The crate `configuration_check` checks
 // row 13.)
 ghost use Rattle.std.specs.Prelude.{◌≡◌};
-ghost use Rattle.configuration.specs.Configuration.{empty_at, configuration, initial_answer};
+ghost use Rattle.configuration.specs.Configuration.{empty_at, configuration, started, not_started, initial_answer};
+ghost use Rattle.refusal.specs.Numbers.{by_number};
 
 use automaton::Automaton;
 use configuration_places::{InputPlace, OutputPlace};
+use refusal::Refusal;
 
 // Document 01's carried state: a state, how many events are held, those events in order and the
 // place of each in the input (unused places of both are 0); how many events were accepted, which
@@ -24,13 +26,6 @@ pub struct Configuration {
     pub emitted: OutputPlace,
 }
 
-// What `initial` gives: the initial configuration (refusal 0), or the refusing row with zeros.
-#[derive(Clone, Copy)]
-pub struct FirstConfiguration {
-    pub refusal: u8,
-    pub configuration: Configuration,
-}
-
 // A state with nothing held and nothing counted.
 pub fn empty(state: u8) -> Configuration
     ensures { result ≡ configuration (empty_at state) }
@@ -45,17 +40,12 @@ pub fn empty(state: u8) -> Configuration
     }
 }
 
-pub fn initial(a: Automaton) -> FirstConfiguration
-    ensures { result ≡ initial_answer a }
+// The initial configuration of an automaton that row 11 lets pass.
+pub fn initial(a: &Automaton) -> Result<Configuration, Refusal>
+    ensures { by_number started not_started result ≡ initial_answer a.now }
 {
     if automaton_check::valid(a) {
-        return FirstConfiguration {
-            refusal: 0,
-            configuration: empty(a.initial),
-        };
+        return Ok(empty(a.initial));
     }
-    FirstConfiguration {
-        refusal: 11,
-        configuration: empty(0),
-    }
+    Err(Refusal::BrokenAutomaton)
 }

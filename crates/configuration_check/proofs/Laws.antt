@@ -7,11 +7,17 @@ use native.Mathlib.Omega.{arith}
 use lib.Dec.{eqb, leb, ltb}
 use lib.ListN.{length, get_or, get_or-map}
 use borrow.Author.Tests.{eqb-true, eqb-false, ltb-true, leb-true, eq-eqb, ne_eqb, lt-ltb, le-leb}
+use Rattle.std.specs.Ordering.{is_lt, nat_cmp}
+use Rattle.std.proofs.Common.{rules, tests}
 use Rattle.base.proofs.Bools.{by, and-pair}
 use Rattle.configuration_places.specs.declared.InputPlace.{InputPlace}
 use Rattle.configuration_places.specs.Places.{input_place, input_number, output_number}
 use Rattle.configuration.specs.declared.Configuration.{Configuration}
 use Rattle.configuration.specs.Configuration.{buffer_stands, place_numbers, input_stands, inputs_stand, consistent_in}
+
+-- the order of two places is that of their numbers
+pub before-ltb : (m n : ℕ) → is_lt (nat_cmp m n) ≡ ltb m n
+before-ltb m n = search (rules, tests)
 
 -- a difference instead of a sum
 pub less_held : (emitted held received : ℕ) → held ≤ received → eqb (received - held) emitted ≡ eqb (emitted + held) received

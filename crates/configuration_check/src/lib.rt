@@ -1,7 +1,7 @@
 #![tactic(auto)]
 
 // Row 13: the configuration is one of the automaton, of which only what the row reads is passed.
-// The loops are not left early.
+// No loop is left early, so that each is vectorised.
 ghost use Rattle.std.specs.Prelude.{◌≡◌, cond, ◌&&◌, ◌||◌, map, ◌+◌, ◌-◌, ◌<◌, eqb, ltb, length, get_or};
 ghost use Rattle.configuration_places.specs.Places.{input_number, output_number};
 ghost use Rattle.configuration.specs.Configuration.{controllable_symbol, place_stands, consistent_in, buffer_stands};
@@ -14,10 +14,7 @@ use configuration_places::{InputPlace, OutputPlace};
 fn class_at(classes: &[u8], e: usize) -> u8
     ensures { result ≡ get_or classes.now e 0 }
 {
-    if classes.len() <= e {
-        return 0;
-    }
-    classes[e]
+    classes.get(e).copied().unwrap_or(0)
 }
 
 fn controllable_symbol(symbols: u8, classes: &[u8; 16], e: u8) -> bool
@@ -26,7 +23,7 @@ fn controllable_symbol(symbols: u8, classes: &[u8; 16], e: u8) -> bool
     if symbols <= e {
         return false;
     }
-    class_at(classes, base::as_usize(e)) == 1
+    class_at(classes, usize::from(e)) == 1
 }
 
 // A place of the buffer: a controllable symbol where it is used, else 0.
@@ -43,12 +40,10 @@ fn buffer_stands<'a>(symbols: u8, classes: &'a [u8; 16], held: usize, buffer: &'
     ensures { result ≡ buffer_stands symbols classes.now held buffer.now }
 {
     let mut fine = true;
-    let mut i: usize = 0;
-    while i < 6 {
-        if !place_stands(symbols, classes, i < held, buffer[i]) {
+    for (i, &e) in buffer.iter().enumerate() {
+        if !place_stands(symbols, classes, i < held, e) {
             fine = false;
         }
-        i = i + 1;
     }
     fine
 }
@@ -62,7 +57,7 @@ fn rises(places: [InputPlace; 6], i: usize) -> bool
     if i == 0 {
         return true;
     }
-    places[i - 1].0 < places[i].0
+    places[i - 1] < places[i]
 }
 
 // A place in the input: where it is used, above the one before it and below the input count; else
@@ -77,7 +72,7 @@ fn input_stands(used: bool, rises: bool, place: InputPlace, received: InputPlace
     if !rises {
         return false;
     }
-    place.0 < received.0
+    place < received
 }
 
 // The places in the input: rising below the input count where they are used, else 0. (That there
@@ -86,12 +81,10 @@ fn inputs_stand(places: [InputPlace; 6], held: usize, received: InputPlace) -> b
     ensures { (result ≡ inputs_stand held (input_number received) (map input_number places)) × (length places ≡ 6) }
 {
     let mut fine = true;
-    let mut i: usize = 0;
-    while i < 6 {
-        if !input_stands(i < held, rises(places, i), places[i], received) {
+    for (i, &place) in places.iter().enumerate() {
+        if !input_stands(i < held, rises(places, i), place, received) {
             fine = false;
         }
-        i = i + 1;
     }
     fine
 }
@@ -122,10 +115,10 @@ pub fn consistent(
     if capacity < c.held {
         return false;
     }
-    if !counts_fit(c.emitted, base::as_u32(c.held), c.received) {
+    if !counts_fit(c.emitted, u32::from(c.held), c.received) {
         return false;
     }
-    let held = base::as_usize(c.held);
+    let held = usize::from(c.held);
     let places = c.places;
     if !inputs_stand(places, held, c.received) {
         return false;

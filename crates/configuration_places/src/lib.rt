@@ -9,7 +9,7 @@ ghost use Rattle.configuration_places.specs.Places.{waited};
 // A place in the input: how many events were accepted before. The first has the place 0, and a
 // refused event has none.
 #[repr(C)]
-#[derive(Clone, Copy)]
+#[derive(Clone, Copy, PartialEq, Eq, PartialOrd, Ord)]
 pub struct InputPlace(pub u32);
 
 // A place in the output: how many symbols were put out before.
@@ -26,7 +26,7 @@ impl InputPlace {
     pub fn wait(self, earlier: InputPlace) -> u32
         ensures { result ≡ waited self earlier }
     {
-        if self.0 <= earlier.0 {
+        if self <= earlier {
             return 0;
         }
         self.0 - earlier.0

@@ -9,8 +9,7 @@ use lib.Seq.{take-add, take-append-le, drop_at}
 use borrow.Author.Tests.{eqb-true, eqb-false}
 use Rattle.std.specs.declared.option.Option.{Option}
 use Rattle.std.specs.Io.KnownBytes.{Appends}
-use Rattle.streams.specs.declared.WriteResult.{WriteResult}
-use Rattle.streams.specs.Streams.{Handed}
+use Rattle.streams.specs.Streams.{WriteResult, Handed}
 use Rattle.streams.proofs.Passing.{appended-more}
 use Rattle.text.proofs.Appending.{front-is, front_length}
 use Rattle.day_transcript.specs.declared.Progress.{Progress}

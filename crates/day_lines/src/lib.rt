@@ -3,7 +3,7 @@
 // The lines of a day that end in whether the configuration is winning (document 01's guarded): the
 // first line and that of an accepted event. Each function answers the place after its line, and
 // asks for the room that a line can take; a symbol takes four bytes at most.
-ghost use Rattle.std.specs.Prelude.{◌++◌, ◌+◌, ◌*◌, ◌≤◌, length, take};
+ghost use Rattle.std.specs.Prelude.{◌++◌, ◌+◌, ◌*◌, ◌≤◌, length};
 ghost use Rattle.text.specs.Decimal.{ascii, decimal, Appended};
 ghost use Rattle.text_lines.specs.Lines.{line_room};
 ghost use Rattle.day_lines.specs.StatusLines.{winning_end, automaton_line, spaced, emission, event_line};
@@ -15,9 +15,10 @@ fn winning_end(out: &mut [u8], at: usize, winning: bool) -> usize
     ensures { Appended out.old at (winning_end winning) out.new result }
 {
     if winning {
-        return word(out, at, b" guarded yes\n");
+        word(out, at, b" guarded yes\n")
+    } else {
+        word(out, at, b" guarded no\n")
     }
-    word(out, at, b" guarded no\n")
 }
 
 // Two words, each with a byte's number after it, and whether the configuration is winning.
@@ -46,29 +47,29 @@ pub fn automaton_line(out: &mut [u8], at: usize, n: u8, m: u8, b: u8, q: u8, win
     pair_end(out, sizes, b" ", b, b" start ", q, winning)
 }
 
-// The first `count` symbols of a list, each with a space before it.
-fn spaced(out: &mut [u8], at: usize, list: [u8; 7], count: usize) -> usize
-    requires { (count ≤ 7) × (at + 4 * count ≤ length out.old) }
-    ensures { Appended out.old at (spaced (take count list)) out.new result × (result ≤ at + 4 * count) }
+// Symbols, each with a space before it.
+fn spaced(out: &mut [u8], at: usize, symbols: &[u8]) -> usize
+    requires { at + 4 * length symbols.now ≤ length out.old }
+    ensures { Appended out.old at (spaced symbols.now) out.new result
+        × (result ≤ at + 4 * length symbols.now) }
 {
     let mut place = at;
-    let mut i: usize = 0;
-    while i < count {
-        place = labelled(out, place, b" ", base::as_usize(list[i]));
-        i = i + 1;
+    for symbol in symbols {
+        place = labelled(out, place, b" ", usize::from(*symbol));
     }
     place
 }
 
 // .. and `-` for none.
-fn emission(out: &mut [u8], at: usize, list: [u8; 7], count: usize) -> usize
-    requires { (count ≤ 7) × (at + 28 ≤ length out.old) }
-    ensures { Appended out.old at (emission (take count list)) out.new result × (result ≤ at + 28) }
+fn emission(out: &mut [u8], at: usize, symbols: &[u8]) -> usize
+    requires { (length symbols.now ≤ 7) × (at + 28 ≤ length out.old) }
+    ensures { Appended out.old at (emission symbols.now) out.new result × (result ≤ at + 28) }
 {
-    if count == 0 {
-        return word(out, at, b" -");
+    if symbols.is_empty() {
+        word(out, at, b" -")
+    } else {
+        spaced(out, at, symbols)
     }
-    spaced(out, at, list, count)
 }
 
 // The symbol received.
@@ -85,16 +86,15 @@ pub fn event_line(
     out: &mut [u8],
     at: usize,
     event: u32,
-    list: [u8; 7],
-    count: usize,
+    emitted: &[u8],
     q: u8,
     held: u8,
     winning: bool,
 ) -> usize
-    requires { (count ≤ 7) × (at + line_room ≤ length out.old) }
-    ensures { Appended out.old at (event_line event (take count list) q held winning) out.new result }
+    requires { (length emitted.now ≤ 7) × (at + line_room ≤ length out.old) }
+    ensures { Appended out.old at (event_line event emitted.now q held winning) out.new result }
 {
     let label = received(out, at, event);
-    let emitted = emission(out, label, list, count);
-    pair_end(out, emitted, b" state ", q, b" held ", held, winning)
+    let end = emission(out, label, emitted);
+    pair_end(out, end, b" state ", q, b" held ", held, winning)
 }

@@ -21,13 +21,12 @@ fn answer_line(out: &mut [u8], from: usize, event: u32, answer: Received) -> usi
     }
     let c = answer.configuration;
     let emitted = answer.emitted;
-    let count = base::as_usize(answer.count);
+    let count = usize::from(answer.count);
     event_line(
         out,
         from,
         event,
-        emitted,
-        count,
+        &emitted[..count],
         c.state,
         c.held,
         answer.winning,
@@ -39,23 +38,20 @@ fn after(session: Session, next: usize, answer: Received) -> Session
     requires { session.accepted + session.refused < next }
     ensures { result ≡ after session next answer }
 {
-    let automaton = session.automaton;
-    let configuration = answer.configuration;
+    let moved = Session {
+        configuration: answer.configuration,
+        place: next,
+        ..session
+    };
     if answer.refusal != 0 {
         return Session {
-            automaton,
-            configuration,
-            place: next,
-            accepted: session.accepted,
             refused: session.refused + 1,
+            ..moved
         };
     }
     Session {
-        automaton,
-        configuration,
-        place: next,
         accepted: session.accepted + 1,
-        refused: session.refused,
+        ..moved
     }
 }
 
@@ -63,9 +59,8 @@ fn first_line(session: Session, table: &[u32], out: &mut [u8], from: usize) -> u
     requires { from + line_room ≤ length out.old }
     ensures { Appended out.old from (first_line table.now session) out.new result }
 {
-    let a = session.automaton;
-    let c = session.configuration;
-    let status = monitor::winning(a, table, c);
+    let a = &session.automaton;
+    let status = monitor::winning(a, table, session.configuration);
     automaton_line(
         out,
         from,
@@ -81,13 +76,9 @@ fn first_line(session: Session, table: &[u32], out: &mut [u8], from: usize) -> u
 fn belongs(session: Session, length: usize) -> bool
     ensures { result ≡ belongs length session }
 {
-    if session.place < session.accepted {
-        return false;
-    }
-    if session.place - session.accepted < session.refused {
-        return false;
-    }
-    session.place <= length
+    session.accepted <= session.place
+        && session.refused <= session.place - session.accepted
+        && session.place <= length
 }
 
 fn piece(phase: Phase, session: Session, length: usize) -> Piece
@@ -132,16 +123,20 @@ fn receiving_line(
         let next = end_line(out, from, session.accepted, session.refused);
         return piece(Phase::Ended, session, next);
     }
-    let taken = varint_reader::take_at(input, place);
-    let number = taken.number;
-    if number.refusal != 0 {
-        let next = fault_line(out, from, number.refusal, number.place);
-        return piece(Phase::Ended, session, next);
-    }
-    let a = session.automaton;
-    let c = session.configuration;
-    let answer = monitor::receive(a, table, c, number.value);
-    let next = answer_line(out, from, number.value, answer);
+    let taken = match varint_reader::take_at(input, place) {
+        Ok(taken) => taken,
+        Err(fault) => {
+            let next = fault_line(out, from, u8::from(fault.refusal), fault.place);
+            return piece(Phase::Ended, session, next);
+        }
+    };
+    let answer = monitor::receive(
+        &session.automaton,
+        table,
+        session.configuration,
+        taken.value,
+    );
+    let next = answer_line(out, from, taken.value, answer);
     piece(Phase::Receiving, after(session, taken.place, answer), next)
 }
 
@@ -150,8 +145,7 @@ pub fn line(progress: Progress, input: &[u8], table: &[u32], out: &mut [u8], fro
     ensures { Line table.now input.now progress out.old from
         out.new result.progress result.length }
 {
-    let phase = progress.phase;
-    let session = progress.session;
+    let Progress { phase, session } = progress;
     match phase {
         Phase::Ended => piece(Phase::Ended, session, from),
         Phase::Refused(row) => {

@@ -9,6 +9,7 @@ ghost use Rattle.day_transcript.specs.Pieces.{to_come, table_after, opened, with
 
 use automaton::Automaton;
 use day_transcript::{Phase, Progress, Session};
+use refusal::Refusal;
 
 // A phase in which no session is looked at: an all-zero one.
 fn without(phase: Phase) -> Progress
@@ -26,19 +27,17 @@ fn without(phase: Phase) -> Progress
     }
 }
 
-// Solves an automaton whose events begin at a place; 12 where its table is longer than the lent
-// one.
+// Solves an automaton whose events begin at a place; row 12 where its table is longer than the
+// lent one.
 fn opened(a: Automaton, place: usize, table: &mut [u32; 16384]) -> Progress
     requires { valid a ≡ true }
     ensures value { (result ≡ opened a place) × (table.new ≡ solved_table a table.old) }
     ensures table_len { length table.old ≡ 16384 }
 {
-    let solution = solver::solve(a, table);
-    if solution.refusal != 0 {
-        return without(Phase::Refused(12));
+    if let Err(refusal) = solver::solve(&a, table) {
+        return without(Phase::Refused(u8::from(refusal)));
     }
-    let start = configuration::initial(a);
-    let configuration = start.configuration;
+    let configuration = configuration::empty(a.initial);
     Progress {
         phase: Phase::Opening,
         session: Session {
@@ -59,11 +58,10 @@ pub fn begin(input: &[u8], table: &mut [u32; 16384]) -> Progress
     ensures table_after { table.new ≡ table_after input.now table.old }
 {
     if MAX_INPUT < input.len() {
-        return without(Phase::Refused(18));
+        return without(Phase::Refused(u8::from(Refusal::LongInput)));
     }
-    let opening = automaton_opening::read(input);
-    if opening.refusal != 0 {
-        return without(Phase::Faulted(opening.refusal, opening.place));
+    match automaton_opening::read(input) {
+        Ok(opening) => opened(opening.automaton, opening.place, table),
+        Err(fault) => without(Phase::Faulted(u8::from(fault.refusal), fault.place)),
     }
-    opened(opening.automaton, opening.place, table)
 }

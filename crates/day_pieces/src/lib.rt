@@ -18,17 +18,13 @@ pub fn next_piece(progress: Progress, input: &[u8], table: &[u32], out: &mut [u8
         → to_come table.now input.now progress ≡ [] }
 {
     let mut current = progress;
-    let mut at: usize = 0;
-    loop {
-        if out.len() - at < text_lines::LINE_ROOM {
-            break;
-        }
+    let mut at = 0;
+    while text_lines::LINE_ROOM <= out.len() - at {
         let step = line(current, input, table, out, at);
         if step.length == at {
             break;
         }
-        let after = step.progress;
-        current = after;
+        current = step.progress;
         at = step.length;
     }
     Piece {

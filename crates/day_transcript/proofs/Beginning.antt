@@ -10,15 +10,12 @@ use Rattle.base.specs.Rows.{first}
 use Rattle.base.proofs.Bools.{by}
 use Rattle.automaton.specs.declared.Automaton.{Automaton}
 use Rattle.automaton.specs.Automaton.{valid}
-use Rattle.automaton_format.specs.declared.Parsed.{Parsed}
+use Rattle.automaton_format.specs.Reading.{Parsed}
 use Rattle.automaton_format.specs.Opening.{opening}
 use Rattle.automaton_format.proofs.Openings.{opening-inside, opening-valid}
 use Rattle.solver_sets.specs.Table.{buffers_count, short, table, Solved}
 use Rattle.solver_sets.proofs.Tables.{table-is-solved}
-use Rattle.solver_answers.specs.declared.Solution.{Solution}
-use Rattle.solver_answers.specs.Solving.{solve_refusal, solution, solved_table}
-use Rattle.configuration.specs.declared.FirstConfiguration.{FirstConfiguration}
-use Rattle.configuration.specs.Configuration.{initial_answer}
+use Rattle.solver_answers.specs.Solving.{Solution, solve_refusal, solution, solved_table}
 use Rattle.text_lines.specs.Lines.{refusal_line}
 use Rattle.day_transcript.specs.Transcript.{session_from, session_lines, too_long, over_places, transcript}
 use Rattle.day_transcript.specs.Pieces.{Progress, belongs, at, in_phase, to_come, table_after, without, opened}
@@ -44,18 +41,19 @@ module _ (a : Automaton) (v : valid a ≡ true) (t : List ℕ) (long : length t 
       (λ l. let n : solve_refusal a t ≡ 0 = refusal ∙ rw l in rw (l, e, n))
 
   module _ (place : ℕ) (r : Solution) (e : r ≡ solution a t) where
-    pub open_refused : (r.refusal ≡ 0 → ⊥) → without (Refused 12) ≡ opened a place
+    pub open_refused : (r.refusal ≡ 0 → ⊥) → without (Refused r.refusal) ≡ opened a place
     unfolding opened
     open_refused z =
-        by (over_places a) (λ l. rw l) (λ l. absurd (z (solution-refusal r e ∙ rw l)))
+        by (over_places a)
+        (λ l. let n : r.refusal ≡ 12 = solution-refusal r e ∙ rw l in rw (n, l))
+        (λ l. absurd (z (solution-refusal r e ∙ rw l)))
 
-    pub open_solved : r.refusal ≡ 0 → (start : FirstConfiguration) → start ≡ initial_answer a
-        → at Opening (record { automaton = a; configuration = start.configuration; place = place; accepted = 0; refused = 0 }) ≡ opened a place
-    unfolding opened session_from initial_answer
-    open_solved z start f =
+    pub open_solved : r.refusal ≡ 0 → at Opening (session_from a place) ≡ opened a place
+    unfolding opened
+    open_solved z =
         by (over_places a)
         (λ l. absurd (let n : r.refusal ≡ 12 = solution-refusal r e ∙ rw l in omega arith))
-        (λ l. rw (l, f, v))
+        (λ l. rw l)
 
   -- what is to come then, over the solved table
   pub opened_comes : (s : List ℕ) (place : ℕ) → place ≤ length s

@@ -8,7 +8,7 @@ use lib.ListN.{length}
 use lib.Dec.{eqb, ltb}
 use borrow.Author.Tests.{lt-ltb, le-ltb, ltb-true, ltb-false, eq-eqb, ne_eqb, eqb-true, eqb-false}
 use Rattle.base.proofs.Bools.{by}
-use Rattle.varint.specs.declared.Number.{Number}
+use Rattle.varint.specs.Varint.{Number}
 use Rattle.varint.specs.Varint.{value, read}
 use Rattle.varint.specs.Claims.{AreBytes}
 use Rattle.varint.proofs.Trips.{read-after, read-inside, read_small}

@@ -7,7 +7,7 @@ use native.Mathlib.Omega.{arith}
 use lib.ListN.{length}
 use lib.Dec.{eqb}
 use Rattle.base.proofs.Bools.{by}
-use Rattle.varint.specs.declared.Number.{Number}
+use Rattle.varint.specs.Varint.{Number}
 use Rattle.varint.specs.Varint.{read}
 use Rattle.monitor_answers.specs.declared.Received.{Received}
 use Rattle.monitor_answers.specs.Answers.{received}

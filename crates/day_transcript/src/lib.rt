@@ -18,7 +18,8 @@ pub struct Session {
 }
 
 // What is printed next: nothing more; a row alone; a row with the place of its fault; a session's
-// first line; the line of the event that is received.
+// first line; the line of the event that is received. A row is its number: a `Progress`
+// that is handed in may have any, and what is to come is defined of each.
 #[derive(Clone, Copy)]
 pub enum Phase {
     Ended,

@@ -27,7 +27,7 @@ use Rattle.clients_answers.specs.Clients.{named}
 use Rattle.clients_answers.specs.Claims.{WrongCount, RightCount, sum_below}
 use Rattle.feed_record.specs.declared.Expected.{Expected}
 use Rattle.feed_record.specs.declared.Expected.TheVariants.{Serial}
-use Rattle.feed_record.specs.declared.Admitted.{Admitted as LetIn}
+use Rattle.feed_record.specs.Records.{Admitted as LetIn}
 use Rattle.feed_record.specs.Serials.{following, ahead}
 use Rattle.feed_record.specs.Records.{let_in, admission}
 use Rattle.feed_record.specs.Claims.{InTime}

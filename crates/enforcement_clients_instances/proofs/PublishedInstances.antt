@@ -21,7 +21,7 @@ use Rattle.clients_answers.specs.Clients.{named, refused_for}
 use Rattle.clients_answers.specs.Claims.{RightCount, sum_below}
 use Rattle.feed_record.specs.declared.Expected.{Expected}
 use Rattle.feed_record.specs.declared.Expected.TheVariants.{Any, Serial}
-use Rattle.feed_record.specs.declared.Admitted.{Admitted}
+use Rattle.feed_record.specs.Records.{Admitted}
 use Rattle.feed_record.specs.Serials.{distance, following, ahead}
 use Rattle.enforcement_clients.specs.ClientCalls.{receive_for, receive, feed}
 use Rattle.enforcement_clients.specs.Functions.{Functions, fed_own, put_out, refused_day, expected_in}

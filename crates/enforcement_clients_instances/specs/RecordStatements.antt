@@ -3,7 +3,7 @@ use Rattle.std.specs.Prelude.{ℕ, ◌+◌, ◌-◌, ◌%◌, ◌<◌, ◌≤◌
 use Rattle.varint.specs.Varint.{encoded}
 use Rattle.feed_record.specs.declared.Expected.{Expected}
 use Rattle.feed_record.specs.declared.Expected.TheVariants.{Any, Serial}
-use Rattle.feed_record.specs.declared.Admitted.{Admitted}
+use Rattle.feed_record.specs.Records.{Admitted}
 use Rattle.feed_record.specs.Serials.{serials, distance, following, ahead}
 use Rattle.feed_record.specs.Records.{record_in, admission}
 use Rattle.feed_record.specs.Claims.{NumberFaulty, Whole, BytesLeft, LargeSerial, LateSerial, Timely}

@@ -17,8 +17,7 @@ use Rattle.clients_answers.proofs.Refusals.{Later, inner_later, list-passes, lis
 use Rattle.clients_answers.proofs.Worded.{client_inner, client-rows_as_worded}
 use Rattle.clients_answers.proofs.Kept.{event-refused}
 use Rattle.feed_record.specs.declared.Expected.{Expected}
-use Rattle.feed_record.specs.declared.Admitted.{Admitted}
-use Rattle.feed_record.specs.Records.{admission}
+use Rattle.feed_record.specs.Records.{Admitted, admission}
 use Rattle.feed_record.proofs.Worded.{records_as_worded}
 use Rattle.feed_answers.specs.declared.Fed.{Fed}
 use Rattle.feed_answers.proofs.Entering.{Answers, fed-list, fed_record, fed-in}

@@ -15,20 +15,21 @@ use feed_record::{Admitted, Expected, admit};
 
 // The record of these bytes, where this serial is expected.
 pub fn receive(
-    a: Automaton,
+    a: &Automaton,
     table: &[u32],
     configurations: &mut [Configuration],
     bytes: &[u8],
     expected: Expected,
 ) -> Fed
     ensures { let t = table.now in let s = bytes.now in
-        (result ≡ fed_for a t configurations.old s expected)
-        × (configurations.new ≡ fed_clients a t configurations.old s expected) }
+        (result ≡ fed_for a.now t configurations.old s expected)
+        × (configurations.new ≡ fed_clients a.now t configurations.old s expected) }
 {
-    let record = admit(bytes, expected);
-    if record.refusal != 0 {
-        return not_let_in(a, table, configurations.len(), record);
+    match admit(bytes, expected) {
+        Ok(record) => {
+            let answer = clients::receive(a, table, configurations, record.client, record.symbol);
+            let_in(record, expected, answer)
+        }
+        Err(fault) => not_let_in(a, table, configurations.len(), expected, fault),
     }
-    let answer = clients::receive(a, table, configurations, record.client, record.symbol);
-    let_in(record, expected, answer)
 }

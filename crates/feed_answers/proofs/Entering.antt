@@ -13,8 +13,7 @@ use Rattle.clients_answers.specs.Listed.{changed_by}
 use Rattle.clients_answers.specs.Clients.{list_refusal, monitored, received_for, received_clients}
 use Rattle.clients_answers.proofs.Refusals.{list-passes, list_clear, list-stands}
 use Rattle.feed_record.specs.declared.Expected.{Expected}
-use Rattle.feed_record.specs.declared.Admitted.{Admitted}
-use Rattle.feed_record.specs.Records.{record_rows, admission}
+use Rattle.feed_record.specs.Records.{Admitted, record_rows, admission}
 use Rattle.feed_record.proofs.Laws.{admission-row}
 use Rattle.feed_answers.specs.declared.Fed.{Fed}
 use Rattle.feed_answers.specs.Feed.{entry_refusal, refused_fed, delivered_fed, fed_for, event_in, fed_clients}

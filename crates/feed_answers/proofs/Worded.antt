@@ -22,8 +22,7 @@ use Rattle.clients_answers.proofs.Kept.{others-kept}
 use Rattle.clients_answers.proofs.Parting.{event_noninterference}
 use Rattle.clients_answers.proofs.Single.{clients-emitted-padded}
 use Rattle.feed_record.specs.declared.Expected.{Expected}
-use Rattle.feed_record.specs.declared.Admitted.{Admitted}
-use Rattle.feed_record.specs.Records.{record_rows, admission}
+use Rattle.feed_record.specs.Records.{Admitted, record_rows, admission}
 use Rattle.feed_record.proofs.Laws.{rows_stand, rows_pass}
 use Rattle.feed_record.proofs.Worded.{records_as_worded}
 use Rattle.feed_answers.specs.Feed.{feed_refusal, fed_for, event_in, fed_clients}

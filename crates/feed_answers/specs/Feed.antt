@@ -7,8 +7,7 @@ use Rattle.configuration.specs.declared.Configuration.{Configuration}
 use Rattle.clients_answers.specs.declared.ReceivedFor.{ReceivedFor}
 use Rattle.clients_answers.specs.Clients.{list_rows, list_refusal, client_rows, refused_for, received_for, received_clients}
 use Rattle.feed_record.specs.declared.Expected.{Expected}
-use Rattle.feed_record.specs.declared.Admitted.{Admitted}
-use Rattle.feed_record.specs.Records.{record_rows, admission}
+use Rattle.feed_record.specs.Records.{Admitted, record_rows, admission}
 pub use Rattle.feed_answers.specs.declared.Fed.{Fed}
 
 -- The rows before those of its event: 11, 12, 20; then the record's own, 1, 2, 10, 21, 22. A

@@ -3,7 +3,6 @@ use Prim.Native.Nat.{ℕ}
 use mathlib.Core.Path.{◌≡◌, sym, ◌∙◌, ap}
 use mathlib.Core.Bool.{true, false}
 use mathlib.Core.List.{List}
-use lib.Dec.{eqb}
 use borrow.Author.Tests.{ne_eqb}
 use Rattle.automaton.specs.declared.Automaton.{Automaton}
 use Rattle.clients_answers.specs.declared.ReceivedFor.{ReceivedFor}
@@ -11,7 +10,7 @@ use Rattle.clients_answers.specs.Clients.{list_refusal, refused_for}
 use Rattle.clients_entry.specs.declared.ListEntry.{ListEntry}
 use Rattle.clients_entry.specs.Entries.{list_entry_of}
 use Rattle.feed_record.specs.declared.Expected.{Expected}
-use Rattle.feed_record.specs.declared.Admitted.{Admitted}
+use Rattle.feed_record.specs.Records.{Admitted}
 use Rattle.feed_answers.specs.declared.Fed.{Fed}
 use Rattle.feed_answers.specs.Feed.{refused_fed, delivered_fed}
 use Rattle.feed_entry.specs.Entries.{refuses_call, not_let_in, let_in_of}
@@ -20,20 +19,6 @@ use Rattle.feed_entry.specs.Entries.{refuses_call, not_let_in, let_in_of}
 pub away : (expected : Expected) (row place : ℕ) (answer : ReceivedFor) → answer ≡ refused_for row
     → ◌≡◌ {A = Fed} (record { answer = answer; place = place; expected = expected; loss = 0 }) (refused_fed expected row place)
 away expected row place answer h = rw h
-
--- the three rows
-module _ (row : ℕ) where
-  pub refuses_11 : row ≡ 11 → true ≡ refuses_call row
-  unfolding refuses_call
-  refuses_11 h = rw h
-
-  pub refuses_12 : row ≡ 12 → true ≡ refuses_call row
-  unfolding refuses_call
-  refuses_12 h = rw h
-
-  pub refuses_20 : (row ≡ 11 → ⊥) → (row ≡ 12 → ⊥) → eqb row 20 ≡ refuses_call row
-  unfolding refuses_call
-  refuses_20 a b = rw (ne_eqb row 11 a, ne_eqb row 12 b)
 
 -- a record that is not let in
 module _ (a : Automaton) (t : List ℕ) (count : ℕ) (n : ListEntry) (e : n ≡ list_entry_of a t count) (m : Admitted) where

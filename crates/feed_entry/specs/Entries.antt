@@ -4,7 +4,7 @@ use Rattle.automaton.specs.declared.Automaton.{Automaton}
 use Rattle.clients_answers.specs.declared.ReceivedFor.{ReceivedFor}
 use Rattle.clients_answers.specs.Clients.{list_refusal}
 use Rattle.feed_record.specs.declared.Expected.{Expected}
-use Rattle.feed_record.specs.declared.Admitted.{Admitted}
+use Rattle.feed_record.specs.Records.{Admitted}
 use Rattle.feed_answers.specs.declared.Fed.{Fed}
 use Rattle.feed_answers.specs.Feed.{refused_fed, delivered_fed}
 

@@ -4,6 +4,8 @@
 // in, and to one that is not.
 ghost use Rattle.std.specs.Prelude.{◌≡◌};
 ghost use Rattle.clients_answers.specs.Clients.{refused_for};
+ghost use Rattle.refusal.specs.Numbers.{number};
+ghost use Rattle.feed_record.specs.Records.{admitted_of, turned_away};
 ghost use Rattle.feed_answers.specs.Feed.{refused_fed};
 ghost use Rattle.feed_entry.specs.Entries.{refuses_call, not_let_in, let_in_of};
 
@@ -12,18 +14,14 @@ use clients_answers::ReceivedFor;
 use clients_entry::enter_list;
 use feed_answers::Fed;
 use feed_record::{Admitted, Expected};
+use refusal::Fault;
 
-// Whether a row refuses a call over a list before the record is looked at: 11, 12 and 20.
+// Whether a row refuses a call over a list before the record is looked at: 11, 12 and 20. (Not
+// `matches!`: the goals of an or-pattern's arms do not say which number was matched.)
 fn refuses_call(row: u8) -> bool
     ensures { result ≡ refuses_call row }
 {
-    if row == 11 {
-        return true;
-    }
-    if row == 12 {
-        return true;
-    }
-    row == 20
+    row == 11 || row == 12 || row == 20
 }
 
 fn refused(row: u8, place: usize, expected: Expected) -> Fed
@@ -40,21 +38,27 @@ fn refused(row: u8, place: usize, expected: Expected) -> Fed
 
 // The answer to a record that is not let in, in a list of so many: rows 11, 12 and 20 come before
 // its own.
-pub fn not_let_in(a: Automaton, table: &[u32], count: usize, m: Admitted) -> Fed
-    ensures { result ≡ not_let_in a table.now count m }
+pub fn not_let_in(
+    a: &Automaton,
+    table: &[u32],
+    count: usize,
+    expected: Expected,
+    fault: Fault,
+) -> Fed
+    ensures { let m = turned_away expected (number fault.refusal) fault.place in
+        result ≡ not_let_in a.now table.now count m }
 {
     let entry = enter_list(a, table, count);
-    let kept = m.expected;
     if entry.refusal != 0 {
-        return refused(entry.refusal, 0, kept);
+        return refused(entry.refusal, 0, expected);
     }
-    refused(m.refusal, m.place, kept)
+    refused(u8::from(fault.refusal), fault.place, expected)
 }
 
 // The answer to a record that is let in, by the answer to its event. Where that is a row of the
 // list's, the expected serial is kept as it was given.
 pub fn let_in(m: Admitted, given: Expected, answer: ReceivedFor) -> Fed
-    ensures { result ≡ let_in_of m given answer }
+    ensures { result ≡ let_in_of (admitted_of m) given answer }
 {
     if refuses_call(answer.refusal) {
         return Fed {
@@ -64,11 +68,10 @@ pub fn let_in(m: Admitted, given: Expected, answer: ReceivedFor) -> Fed
             loss: 0,
         };
     }
-    let next = m.expected;
     Fed {
         answer,
         place: 0,
-        expected: next,
+        expected: m.expected,
         loss: m.loss,
     }
 }

@@ -4,14 +4,16 @@ use borrow.Author.Tests.{lt-leb}
 use Rattle.base.specs.Rows.{first}
 use Rattle.base.proofs.Bools.{by, either}
 use Rattle.base.proofs.Refusals.{first-before, first_clear}
-use Rattle.varint.specs.declared.Number.{Number}
-use Rattle.varint.specs.Varint.{value, fault, read}
+use Rattle.refusal.specs.declared.Fault.{Fault}
+use Rattle.refusal.specs.Numbers.{number}
+use Rattle.refusal.proofs.Numbers.{number_never_0}
+use Rattle.varint.specs.declared.Decoded.{Decoded}
+use Rattle.varint.specs.Varint.{decoded, fault, read}
 use Rattle.varint.proofs.Laws.{read-cases}
 use Rattle.varint.proofs.Trips.{read-inside}
 use Rattle.feed_record.specs.declared.Expected.{Expected}
-use Rattle.feed_record.specs.declared.Record.{Record}
 use Rattle.feed_record.specs.Serials.{ahead}
-use Rattle.feed_record.specs.Records.{Numbers, numbers, in_record, serial_in, client_in, symbol_in, byte_rows, unread, record_in, serial_rows, record_rows}
+use Rattle.feed_record.specs.Records.{Record, Numbers, numbers, in_record, serial_in, client_in, symbol_in, byte_rows, unread, record_in, serial_rows, record_rows}
 use Rattle.feed_record.specs.Records.{turned_away, let_in, admission}
 use Rattle.feed_record.specs.Claims.{Reads, Faulty, Whole, NumberFaulty}
 
@@ -156,58 +158,55 @@ module _ (s : List ℕ) where
 
 -- The numbers as the code reads them, each where the one before it ended.
 module _ (s : List ℕ) where
-  pub reads : (at : ℕ) (n : Number) → n ≡ read s at → n.refusal ≡ 0 → Reads s at n.value n.place
-  reads at n e z =
-      read-cases s at
-      (λ row l h. absurd (low_some s row l (sym (ap (λ m. m.refusal) (e ∙ h)) ∙ z)))
-      (λ v next h. h ∙ (λ i. value (sym (ap (λ m. m.value) (e ∙ h)) i) (sym (ap (λ m. m.place) (e ∙ h)) i)))
+  faulty : (at : ℕ) (e : Fault) → fault (number e.refusal) e.place ≡ read s at → Faulty s at (number e.refusal) × (e.place ≡ at)
+  faulty at e h =
+      let f : Faulty s at (number e.refusal) = (sym (ap (λ m. m.refusal) h), number_never_0 e.refusal) in
+      (f, ap (λ m. m.place) (h ∙ fault-is s at (number e.refusal) f))
 
-  faulty : (at : ℕ) (n : Number) → n ≡ read s at → (n.refusal ≡ 0 → ⊥) → Faulty s at n.refusal × (n.place ≡ at)
-  faulty at n e z =
-      let f : Faulty s at n.refusal = (sym (ap (λ m. m.refusal) e), z) in
-      (f, ap (λ m. m.place) (e ∙ fault-is s at n.refusal f))
+  pub first-faulty : (e : Fault) → fault (number e.refusal) e.place ≡ read s 0 → unread (number e.refusal) e.place ≡ record_in s
+  first-faulty e h =
+      let f = faulty 0 e h in record_faulty s (number e.refusal) e.place (number_never_0 e.refusal) (inl (f.1, f.0))
 
-  module _ (x : Number) (ex : x ≡ read s 0) where
-    pub first-faulty : (x.refusal ≡ 0 → ⊥) → unread x.refusal x.place ≡ record_in s
-    first-faulty z = let f = faulty 0 x ex z in record_faulty s x.refusal x.place z (inl (f.1, f.0))
+  module _ (x : Decoded) (ex : decoded x ≡ read s 0) where
+    pub second-faulty : (e : Fault) → fault (number e.refusal) e.place ≡ read s x.place → unread (number e.refusal) e.place ≡ record_in s
+    second-faulty e h =
+        let f = faulty x.place e h in
+        rw f.1
+        (record_faulty s (number e.refusal) x.place (number_never_0 e.refusal)
+        (inr (inl (record { serial = x.value; serial-read = sym ex; refused = f.0 }))))
 
-    module _ (zx : x.refusal ≡ 0) (y : Number) (ey : y ≡ read s x.place) where
-      pub second-faulty : (y.refusal ≡ 0 → ⊥) → unread y.refusal y.place ≡ record_in s
-      second-faulty z =
-          let f = faulty x.place y ey z in
-          rw f.1 (record_faulty s y.refusal x.place z (inr (inl (record { serial = x.value; serial-read = reads 0 x ex zx; refused = f.0 }))))
+    module _ (y : Decoded) (ey : decoded y ≡ read s x.place) where
+      pub third-faulty : (e : Fault) → fault (number e.refusal) e.place ≡ read s y.place
+          → unread (number e.refusal) e.place ≡ record_in s
+      third-faulty e h =
+          let f = faulty y.place e h in
+          rw f.1
+          (record_faulty s (number e.refusal) y.place (number_never_0 e.refusal) (inr (inr (record {
+            serial = x.value;
+            client-at = x.place;
+            client = y.value;
+            serial-read = sym ex;
+            client-read = sym ey;
+            refused = f.0;
+          }))))
 
-      module _ (zy : y.refusal ≡ 0) (n : Number) (en : n ≡ read s y.place) where
-        pub third-faulty : (n.refusal ≡ 0 → ⊥) → unread n.refusal n.place ≡ record_in s
-        third-faulty z =
-            let f = faulty y.place n en z in
-            rw f.1
-            (record_faulty s n.refusal y.place z (inr (inr (record {
-              serial = x.value;
+      module _ (n : Decoded) (en : decoded n ≡ read s y.place) where
+        all_read : Whole s x.value y.value n.value n.place
+        all_read =
+            record {
               client-at = x.place;
-              client = y.value;
-              serial-read = reads 0 x ex zx;
-              client-read = reads x.place y ey zy;
-              refused = f.0;
-            }))))
+              symbol-at = y.place;
+              serial-read = sym ex;
+              client-read = sym ey;
+              symbol-read = sym en;
+            }
 
-        module _ (zn : n.refusal ≡ 0) where
-          all_read : Whole s x.value y.value n.value n.place
-          all_read =
-              record {
-                client-at = x.place;
-                symbol-at = y.place;
-                serial-read = reads 0 x ex zx;
-                client-read = reads x.place y ey zy;
-                symbol-read = reads y.place n en zn;
-              }
+        pub more_left : n.place < length s → unread 10 n.place ≡ record_in s
+        more_left l = record_left s x.value y.value n.value n.place all_read l
 
-          pub more_left : n.place < length s → unread 10 n.place ≡ record_in s
-          more_left l = record_left s x.value y.value n.value n.place all_read l
-
-          pub none_left : length s ≤ n.place
-              → record { refusal = 0; place = 0; serial = x.value; client = y.value; symbol = n.value } ≡ record_in s
-          none_left l = record_whole s x.value y.value n.value n.place all_read l
+        pub none_left : length s ≤ n.place
+            → record { refusal = 0; place = 0; serial = x.value; client = y.value; symbol = n.value } ≡ record_in s
+        none_left l = record_whole s x.value y.value n.value n.place all_read l
 
 -- Letting it in, by the record that was read.
 module _ (s : List ℕ) (expected : Expected) (r : Record) (e : r ≡ record_in s) where

@@ -2,9 +2,8 @@
 use Rattle.std.proofs.Common.{◌≡◌, ℕ, ◌+◌, ◌-◌, ◌%◌, ◌<◌, ◌≤◌, leb, List, sym, ap, ◌∙◌, arith, leb-false, leb-true}
 use Rattle.base.proofs.Bools.{by}
 use Rattle.feed_record.specs.declared.Expected.TheVariants.{Any, Serial}
-use Rattle.feed_record.specs.declared.Admitted.{Admitted}
 use Rattle.feed_record.specs.Serials.{serials, distance, following, ahead}
-use Rattle.feed_record.specs.Records.{admission}
+use Rattle.feed_record.specs.Records.{Admitted, admission}
 use Rattle.feed_record.specs.Claims.{RecordIs, serial_at, TakenAs, TakenAsLate, SerialsTell, FirstLetIn}
 use Rattle.feed_record.proofs.Worded.{is-late, is_in}
 

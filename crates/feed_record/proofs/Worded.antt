@@ -4,9 +4,8 @@ use Rattle.base.proofs.Bools.{by, either}
 use Rattle.varint.specs.Varint.{value, read, bytes, encoded}
 use Rattle.varint.proofs.Trips.{reads_back}
 use Rattle.feed_record.specs.declared.Expected.{Expected}
-use Rattle.feed_record.specs.declared.Admitted.{Admitted}
 use Rattle.feed_record.specs.Serials.{ahead}
-use Rattle.feed_record.specs.Records.{record_in, turned_away, let_in, admission}
+use Rattle.feed_record.specs.Records.{Admitted, record_in, turned_away, let_in, admission}
 use Rattle.feed_record.specs.Claims.{NumberRow, Whole, NumberFaulty, BytesLeft, RecordIs, LargeSerial, LateSerial, Timely}
 use Rattle.feed_record.specs.Claims.{RecordsAsWorded, ReadingAsWorded, RecordsReadBack}
 use Rattle.feed_record.proofs.Laws.{record_cases, whole-inside, record_faulty, record_left, record_whole, admit_unread, admit_large, admit_late, admit_in}

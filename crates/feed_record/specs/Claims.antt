@@ -4,9 +4,8 @@ use Rattle.std.specs.Prelude.{◌≡◌, ℕ, ◌+◌, ◌-◌, ◌%◌, ◌<◌
 use Rattle.varint.specs.Varint.{value, read, encoded}
 use Rattle.feed_record.specs.declared.Expected.{Expected}
 use Rattle.feed_record.specs.declared.Expected.TheVariants.{Any, Serial}
-use Rattle.feed_record.specs.declared.Admitted.{Admitted}
 use Rattle.feed_record.specs.Serials.{serials, distance, following, ahead}
-use Rattle.feed_record.specs.Records.{record_in, admission}
+use Rattle.feed_record.specs.Records.{Admitted, record_in, admission}
 
 -- The ring of serials in words: the distance forward from x is the one number of steps, fewer than
 -- all, that leads from x to s, and after 65,535 comes 0.

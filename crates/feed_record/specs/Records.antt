@@ -6,8 +6,43 @@ use Rattle.varint.specs.Varint.{read}
 use Rattle.feed_record.specs.declared.Expected.{Expected}
 use Rattle.feed_record.specs.declared.Expected.TheVariants.{Serial}
 use Rattle.feed_record.specs.Serials.{following, ahead, late_from}
-pub use Rattle.feed_record.specs.declared.Record.{Record}
-pub use Rattle.feed_record.specs.declared.Admitted.{Admitted}
+use Rattle.feed_record.specs.declared.Record.{Record as ReadRecord}
+use Rattle.feed_record.specs.declared.Admitted.{Admitted as LetIn}
+
+-- A record's three numbers; or the row (1, 2, 10) and the place of what is wrong with its bytes,
+-- and zeros.
+pub record Record : Type 0 where
+  pub refusal : ℕ
+  pub place : ℕ
+  pub serial : ℕ
+  pub client : ℕ
+  pub symbol : ℕ
+
+-- A record that is let in: its event, how many records were lost before it, and the serial that is
+-- expected next. Refused (rows 1, 2, 10, 21, 22): the row and its place, the expected serial as it
+-- was given, and zeros.
+pub record Admitted : Type 0 where
+  pub refusal : ℕ
+  pub place : ℕ
+  pub expected : Expected
+  pub loss : ℕ
+  pub client : ℕ
+  pub symbol : ℕ
+
+-- .. as they are answered
+abbrev pub read_of : ReadRecord → Record
+read_of r = record { refusal = 0; place = 0; serial = r.serial; client = r.client; symbol = r.symbol }
+
+abbrev pub admitted_of : LetIn → Admitted
+admitted_of m =
+    record {
+      refusal = 0;
+      place = 0;
+      expected = m.expected;
+      loss = m.loss;
+      client = m.client;
+      symbol = m.symbol;
+    }
 
 -- Numbers one after the other from a place on: their values, and the place after them; or the row
 -- and the place of the first that is refused.

@@ -8,7 +8,7 @@ use Rattle.automaton.specs.Arrays.{controllable_at}
 use Rattle.automaton.specs.Automaton.{controllable, accepts, step, valid}
 use Rattle.configuration.specs.declared.Configuration.{Configuration}
 use Rattle.configuration.specs.Configuration.{consistent, held_events}
-pub use Rattle.game.specs.declared.Verdict.{Verdict}
+use Rattle.game.specs.declared.Verdict as declared
 
 -- Resting at q with some rounds left, where `released` says of a state whether releasing the first
 -- held event there comes to rest: an accepting state and, with rounds left, after each
@@ -42,6 +42,15 @@ too_large a c = too_large_in a.states a.symbols a.classes c.held
 -- the rows that the game checks
 unfoldable pub game_refusal : Automaton → Configuration → ℕ
 game_refusal a c = first ((11, not (valid a)) ∷ (13, not (consistent a c)) ∷ (17, too_large a c) ∷ [])
+
+-- Both answers (refusal 0), or the refusing row with no and no.
+pub record Verdict : Type 0 where
+  pub refusal : ℕ
+  pub may_rest : Bool
+  pub can_rest : Bool
+
+abbrev pub answered : declared.Verdict → Verdict
+answered v = record { refusal = 0; may_rest = v.may_rest; can_rest = v.can_rest }
 
 -- a refused call answers no to both
 abbrev pub refused : ℕ → Verdict

@@ -6,10 +6,9 @@ mod play;
 
 pub use play::{can_rest, may_rest};
 
-// Both answers (refusal 0), or the refusing row with no and no.
+// Both answers.
 #[derive(Clone, Copy)]
 pub struct Verdict {
-    pub refusal: u8,
     pub may_rest: bool,
     pub can_rest: bool,
 }

@@ -10,7 +10,7 @@ fn step(next: &[u8; 512], q: usize, e: usize) -> usize
     requires { (q < 32) × (e < 16) }
     ensures { result ≡ goes next.now q e }
 {
-    base::as_usize(next[q * 16 + e])
+    usize::from(next[q * 16 + e])
 }
 
 // May we rest in q? An accepting state and, with rounds left, after each uncontrollable symbol
@@ -38,8 +38,7 @@ pub fn may_rest<'a>(
     if rounds == 0 {
         return true;
     }
-    let mut e: usize = 0;
-    while e < m {
+    for e in 0..m {
         if classes[e] != 1 {
             let t = step(next, q, e);
             let left = rounds - 1;
@@ -47,7 +46,6 @@ pub fn may_rest<'a>(
                 return false;
             }
         }
-        e = e + 1;
     }
     true
 }
@@ -77,7 +75,7 @@ pub fn can_rest<'a>(
     if at == held {
         return false;
     }
-    let e = base::as_usize(buffer[at]);
+    let e = usize::from(buffer[at]);
     let t = step(next, q, e);
     can_rest(next, classes, accepting, buffer, n, m, held, at + 1, t, n)
 }

@@ -11,7 +11,7 @@ pub fn too_large(states: u8, symbols: u8, classes: &[u8; 16], held: u8) -> bool
     if 4 < states {
         return true;
     }
-    let m = base::as_usize(symbols);
+    let m = usize::from(symbols);
     if 2 < m - controllable_in(classes, m) {
         return true;
     }

@@ -32,7 +32,8 @@ use c_records::{
 };
 use configuration::Configuration;
 
-// Reads an automaton and checks it. Answered are its record and the place of a fault.
+// Reads an automaton and checks it. Answered are its record and the place of a fault. Refused, the
+// bytes of the record become 0.
 #[unsafe(no_mangle)]
 pub extern "C" fn jaxhophasi_read(
     bytes: &[u8],
@@ -43,11 +44,18 @@ pub extern "C" fn jaxhophasi_read(
         (result ≡ x.refusal) × (automaton.new ≡ automaton_bytes x.automaton)
         × (place.new ≡ number_bytes number_size x.place) }
 {
-    let parsed = automaton_read::read(bytes);
-    let a = parsed.automaton;
-    *automaton = automaton_bytes(a);
-    *place = number_bytes(parsed.place);
-    parsed.refusal
+    match automaton_read::read(bytes) {
+        Ok(a) => {
+            *automaton = automaton_bytes(a);
+            *place = number_bytes(0);
+            0
+        }
+        Err(fault) => {
+            *automaton = [0; AUTOMATON_SIZE];
+            *place = number_bytes(fault.place);
+            u8::from(fault.refusal)
+        }
+    }
 }
 
 // Writes a sheet at the front of `out`: how many bytes.
@@ -61,9 +69,16 @@ pub extern "C" fn jaxhophasi_write(
         (result ≡ x.refusal) × (out.new ≡ write_buffer a out.old)
         × (length.new ≡ number_bytes number_size x.length) }
 {
-    let written = automaton_write::write(automaton_of(automaton), out);
-    *length = number_bytes(written.length);
-    written.refusal
+    match automaton_write::write(&automaton_of(automaton), out) {
+        Ok(written) => {
+            *length = number_bytes(written);
+            0
+        }
+        Err(refusal) => {
+            *length = number_bytes(0);
+            u8::from(refusal)
+        }
+    }
 }
 
 // The product of two automata (document 02, Card 6: two sheets merged into one). Refused, the
@@ -77,10 +92,16 @@ pub extern "C" fn jaxhophasi_product(
     ensures { let x = product_answer (automaton_of first.now) (automaton_of second.now) in
         (result ≡ x.refusal) × (automaton.new ≡ automaton_bytes x.automaton) }
 {
-    let answer = product::product(automaton_of(first), automaton_of(second));
-    let merged = answer.automaton;
-    *automaton = automaton_bytes(merged);
-    answer.refusal
+    match product::product(&automaton_of(first), &automaton_of(second)) {
+        Ok(merged) => {
+            *automaton = automaton_bytes(merged);
+            0
+        }
+        Err(refusal) => {
+            *automaton = [0; AUTOMATON_SIZE];
+            u8::from(refusal)
+        }
+    }
 }
 
 // How many buffers (document 01's held lists) there are: T. The table takes 2 T places.
@@ -92,9 +113,16 @@ pub extern "C" fn jaxhophasi_buffers_count(
     ensures { let x = count_answer (automaton_of automaton.now) in
         (result ≡ x.refusal) × (count.new ≡ number_bytes number_size x.count) }
 {
-    let buffers = solver_answers::buffers_count(automaton_of(automaton));
-    *count = number_bytes(buffers.count as usize);
-    buffers.refusal
+    match solver_answers::buffers_count(&automaton_of(automaton)) {
+        Ok(buffers) => {
+            *count = number_bytes(buffers as usize);
+            0
+        }
+        Err(refusal) => {
+            *count = number_bytes(0);
+            u8::from(refusal)
+        }
+    }
 }
 
 // Solves the sheet into the front of `table`: the rounds that struck a state.
@@ -108,9 +136,16 @@ pub extern "C" fn jaxhophasi_solve(
         (result ≡ x.refusal) × (table.new ≡ solved_table a table.old)
         × (rounds.new ≡ number_bytes number_size x.rounds) }
 {
-    let solution = solver::solve(automaton_of(automaton), table);
-    *rounds = number_bytes(solution.rounds as usize);
-    solution.refusal
+    match solver::solve(&automaton_of(automaton), table) {
+        Ok(struck) => {
+            *rounds = number_bytes(struck as usize);
+            0
+        }
+        Err(refusal) => {
+            *rounds = number_bytes(0);
+            u8::from(refusal)
+        }
+    }
 }
 
 // The initial configuration (document 01's fresh). Refused, the lent bytes stay.
@@ -122,12 +157,13 @@ pub extern "C" fn jaxhophasi_initial(
     ensures { let x = initial_answer (automaton_of automaton.now) in
         (result ≡ x.refusal) × (configuration.new ≡ initial_bytes automaton.now configuration.old) }
 {
-    let start = configuration::initial(automaton_of(automaton));
-    if start.refusal == 0 {
-        let first = start.configuration;
-        *configuration = configuration_bytes(first);
+    match configuration::initial(&automaton_of(automaton)) {
+        Ok(start) => {
+            *configuration = configuration_bytes(start);
+            0
+        }
+        Err(refusal) => u8::from(refusal),
     }
-    start.refusal
 }
 
 // Whether a configuration is winning (document 01's guarded).
@@ -143,7 +179,7 @@ pub extern "C" fn jaxhophasi_winning(
         (result ≡ x.refusal) × (answer.new ≡ status_bytes x) }
 {
     let status = monitor::winning(
-        automaton_of(automaton),
+        &automaton_of(automaton),
         table,
         configuration_of(configuration),
     );
@@ -164,9 +200,8 @@ pub extern "C" fn jaxhophasi_receive(
         (result ≡ x.refusal) × (configuration.new ≡ x.configuration) × (answer.new ≡ x.answer) }
 {
     let a = automaton_of(automaton);
-    let received = monitor::receive(a, table, configuration_of(configuration), event);
-    let next = received.configuration;
-    *configuration = configuration_bytes(next);
+    let received = monitor::receive(&a, table, configuration_of(configuration), event);
+    *configuration = configuration_bytes(received.configuration);
     *answer = received_bytes(received);
     received.refusal
 }
@@ -187,9 +222,8 @@ pub extern "C" fn jaxhophasi_run(
         × (out.new ≡ x.output) }
 {
     let a = automaton_of(automaton);
-    let ran = monitor_day::run(a, table, configuration_of(configuration), events, out);
-    let last = ran.configuration;
-    *configuration = configuration_bytes(last);
+    let ran = monitor_day::run(&a, table, configuration_of(configuration), events, out);
+    *configuration = configuration_bytes(ran.configuration);
     *answer = ran_bytes(ran);
     ran.refusal
 }
@@ -209,7 +243,7 @@ pub extern "C" fn jaxhophasi_receive_for(
         (result ≡ x.refusal) × (configurations.new ≡ x.configurations) × (answer.new ≡ x.answer) }
 {
     let a = automaton_of(automaton);
-    let received = clients::receive(a, table, configurations, client, event);
+    let received = clients::receive(&a, table, configurations, client, event);
     lay_received_for(received, answer)
 }
 
@@ -229,7 +263,7 @@ pub extern "C" fn jaxhophasi_run_for(
         × (answer.new ≡ x.answer) }
 {
     let a = automaton_of(automaton);
-    let ran = clients_day::run(a, table, configurations, events, out);
+    let ran = clients_day::run(&a, table, configurations, events, out);
     lay_ran_for(ran, answer)
 }
 
@@ -251,7 +285,7 @@ pub extern "C" fn jaxhophasi_feed(
 {
     let a = automaton_of(automaton);
     let given = expected_of(*expected);
-    let fed = feed::receive(a, table, configurations, bytes, given);
+    let fed = feed::receive(&a, table, configurations, bytes, given);
     lay_fed(fed, expected, answer)
 }
 
@@ -265,7 +299,14 @@ pub extern "C" fn jaxhophasi_judge(
     ensures { let x = verdict (automaton_of automaton.now) (configuration_of configuration.now) in
         (result ≡ x.refusal) × (answer.new ≡ verdict_bytes x) }
 {
-    let verdict = game_judge::judge(automaton_of(automaton), configuration_of(configuration));
-    *answer = verdict_bytes(verdict);
-    verdict.refusal
+    match game_judge::judge(&automaton_of(automaton), configuration_of(configuration)) {
+        Ok(verdict) => {
+            *answer = verdict_bytes(verdict);
+            0
+        }
+        Err(refusal) => {
+            *answer = [0; VERDICT_SIZE];
+            u8::from(refusal)
+        }
+    }
 }

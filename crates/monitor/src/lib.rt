@@ -3,18 +3,16 @@
 // The enforcement monitor's calls over a lent table: whether a configuration is winning, and one
 // event. (The call of a whole day is crate `monitor_day`.)
 ghost use Rattle.std.specs.Prelude.{◌≡◌, true, false, cond, eqb};
-ghost use Rattle.automaton.specs.Automaton.{shaped, assembled};
 ghost use Rattle.monitor_answers.specs.Answers.{status, received, refused_event};
 
 use automaton::Automaton;
-use base::as_usize;
 use configuration::Configuration;
 use configuration_check::consistent;
 use configuration_places::InputPlace;
 use monitor_answers::{Received, Status};
 use monitor_entry::enter;
 use monitor_loop::{Limits, turn};
-use monitor_places::emitted_places;
+use monitor_places::places_from;
 use monitor_release::rests;
 
 fn refused_status(refusal: u8) -> Status
@@ -25,19 +23,10 @@ fn refused_status(refusal: u8) -> Status
 }
 
 // Whether a configuration is winning (document 01's guarded): the monitor may rest where it is.
-pub fn winning(a: Automaton, table: &[u32], c: Configuration) -> Status
-    ensures { result ≡ status a table.now c }
+pub fn winning(a: &Automaton, table: &[u32], c: Configuration) -> Status
+    ensures { result ≡ status a.now table.now c }
 {
-    let entry = enter(
-        a.states,
-        a.symbols,
-        a.capacity,
-        a.initial,
-        &a.classes,
-        &a.accepting,
-        &a.next,
-        table,
-    );
+    let entry = enter(a, table);
     if entry.refusal != 0 {
         return refused_status(entry.refusal);
     }
@@ -52,9 +41,9 @@ pub fn winning(a: Automaton, table: &[u32], c: Configuration) -> Status
             &ranking.ranks,
             ranking.count,
             table,
-            as_usize(c.state),
+            usize::from(c.state),
             buffer,
-            as_usize(c.held),
+            usize::from(c.held),
         ),
     }
 }
@@ -84,43 +73,27 @@ fn index_in_line(rank: u8, held: usize) -> usize
     held
 }
 
-// One event over the lent parts of a record, so that none of it is copied: a turn into an array of
-// its own, whether the monitor may then rest, and where each symbol came from.
-pub fn receive_in<'a>(
-    states: u8,
-    symbols: u8,
-    capacity: u8,
-    initial: u8,
-    classes: &'a [u8; 16],
-    accepting: &'a [u8; 32],
-    next: &'a [u8; 512],
-    table: &[u32],
-    c: Configuration,
-    event: u32,
-) -> Received
-    requires { shaped (assembled states symbols capacity initial classes.now accepting.now next.now) ≡ true }
-    ensures { let a = assembled states symbols capacity initial classes.now accepting.now
-        next.now in
-        result ≡ received a table.now c event }
+// One event: a turn into an array of its own, whether the monitor may then rest, and where each
+// symbol came from.
+pub fn receive(a: &Automaton, table: &[u32], c: Configuration, event: u32) -> Received
+    ensures { result ≡ received a.now table.now c event }
 {
-    let entry = enter(
-        states, symbols, capacity, initial, classes, accepting, next, table,
-    );
+    let entry = enter(a, table);
     if entry.refusal != 0 {
         return refused(entry.refusal, c);
     }
     let ranking = entry.ranking;
     let limits = Limits {
         controllables: ranking.count,
-        states,
-        symbols,
-        capacity,
+        states: a.states,
+        symbols: a.symbols,
+        capacity: a.capacity,
     };
     let mut emitted = [0u8; 7];
     let turned = turn(
         limits,
-        classes,
-        next,
+        &a.classes,
+        &a.next,
         &ranking.ranks,
         table,
         c,
@@ -132,8 +105,8 @@ pub fn receive_in<'a>(
         return refused(turned.row, c);
     }
     let places = c.places;
-    let own = index_in_line(ranking.ranks[event as usize], as_usize(c.held));
-    let from = emitted_places(places, own, c.received, turned.written);
+    let own = index_in_line(ranking.ranks[event as usize], usize::from(c.held));
+    let from = places_from(places, own, c.received, 0, turned.written);
     let after = turned.configuration;
     let buffer = after.buffer;
     Received {
@@ -145,28 +118,10 @@ pub fn receive_in<'a>(
             &ranking.ranks,
             ranking.count,
             table,
-            as_usize(after.state),
+            usize::from(after.state),
             buffer,
-            as_usize(after.held),
+            usize::from(after.held),
         ),
         places: from,
     }
-}
-
-// One event.
-pub fn receive(a: Automaton, table: &[u32], c: Configuration, event: u32) -> Received
-    ensures { result ≡ received a table.now c event }
-{
-    receive_in(
-        a.states,
-        a.symbols,
-        a.capacity,
-        a.initial,
-        &a.classes,
-        &a.accepting,
-        &a.next,
-        table,
-        c,
-        event,
-    )
 }

@@ -6,7 +6,6 @@ ghost use Rattle.std.specs.Prelude.{◌≡◌};
 ghost use Rattle.monitor_answers.specs.Answers.{refused_run, ran, ran_buffer};
 
 use automaton::Automaton;
-use base::as_usize;
 use configuration::Configuration;
 use configuration_check::consistent;
 use monitor_answers::Ran;
@@ -24,27 +23,18 @@ fn refused_run(row: u8, c: Configuration) -> Ran
     }
 }
 
-pub fn run(a: Automaton, table: &[u32], c: Configuration, events: &[u32], out: &mut [u8]) -> Ran
-    ensures { (result ≡ ran a table.now c events.now out.old)
-        × (out.new ≡ ran_buffer a table.now c events.now out.old) }
+pub fn run(a: &Automaton, table: &[u32], c: Configuration, events: &[u32], out: &mut [u8]) -> Ran
+    ensures { (result ≡ ran a.now table.now c events.now out.old)
+        × (out.new ≡ ran_buffer a.now table.now c events.now out.old) }
 {
-    let entry = enter(
-        a.states,
-        a.symbols,
-        a.capacity,
-        a.initial,
-        &a.classes,
-        &a.accepting,
-        &a.next,
-        table,
-    );
+    let entry = enter(a, table);
     if entry.refusal != 0 {
         return refused_run(entry.refusal, c);
     }
     if !consistent(a.states, a.symbols, a.capacity, &a.classes, c) {
         return refused_run(13, c);
     }
-    let held = as_usize(c.held);
+    let held = usize::from(c.held);
     if out.len() < held {
         return refused_run(16, c);
     }
@@ -58,5 +48,7 @@ pub fn run(a: Automaton, table: &[u32], c: Configuration, events: &[u32], out: &
         symbols: a.symbols,
         capacity: a.capacity,
     };
-    process(limits, &a.next, &ranking.ranks, table, c, events, out)
+    // A copy, in which no byte that is stored can lie.
+    let next = a.next;
+    process(limits, &next, &ranking.ranks, table, c, events, out)
 }

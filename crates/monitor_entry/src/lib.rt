@@ -2,13 +2,12 @@
 
 // Rows 11 and 12, which every call on a record and a table checks first. (Row 13 is crate
 // `configuration_check`.)
-ghost use Rattle.std.specs.Prelude.{◌≡◌, true};
-ghost use Rattle.automaton.specs.Automaton.{shaped, assembled};
+ghost use Rattle.std.specs.Prelude.{◌≡◌};
 ghost use Rattle.monitor_entry.specs.Entries.{entry_of};
 
-use automaton_check::valid_in;
+use automaton::Automaton;
+use automaton_check::valid;
 use automaton_symbols::{Ranking, rank_symbols};
-use base::as_usize;
 
 // The refusing row of 11 and 12 (0: none), and the ranking of the symbols of a valid record.
 #[derive(Clone, Copy)]
@@ -17,23 +16,11 @@ pub struct Entry {
     pub ranking: Ranking,
 }
 
-// The record's parts are lent, so that none of it is copied.
-pub fn enter<'a>(
-    states: u8,
-    symbols: u8,
-    capacity: u8,
-    initial: u8,
-    classes: &'a [u8; 16],
-    accepting: &'a [u8; 32],
-    next: &'a [u8; 512],
-    table: &[u32],
-) -> Entry
-    requires { shaped (assembled states symbols capacity initial classes.now accepting.now next.now) ≡ true }
-    ensures { let a = assembled states symbols capacity initial classes.now accepting.now
-        next.now in
-        result ≡ entry_of a table.now }
+// Rows 11 and 12.
+pub fn enter(a: &Automaton, table: &[u32]) -> Entry
+    ensures { result ≡ entry_of a.now table.now }
 {
-    if !valid_in(states, symbols, capacity, initial, classes, accepting, next) {
+    if !valid(a) {
         return Entry {
             refusal: 11,
             ranking: Ranking {
@@ -42,8 +29,8 @@ pub fn enter<'a>(
             },
         };
     }
-    let ranking = rank_symbols(classes, as_usize(symbols));
-    let buffers = solver_answers::buffers_to(ranking.count as usize, as_usize(capacity));
+    let ranking = rank_symbols(&a.classes, usize::from(a.symbols));
+    let buffers = solver_answers::buffers_to(ranking.count as usize, usize::from(a.capacity));
     if table.len() < 2 * buffers {
         return Entry {
             refusal: 12,

@@ -8,7 +8,7 @@ ghost use Rattle.configuration_places.specs.Places.{input_place, input_number};
 ghost use Rattle.monitor_loop.specs.Lending.{TurnRequires, ProcessRequires, Turns, Runs, derived};
 ghost use Rattle.monitor_loop.specs.Quiet.{quiet_after};
 
-use base::{as_u32, as_usize, bit, has};
+use base::{bit, has};
 use configuration::Configuration;
 use configuration_check::consistent;
 use configuration_places::{InputPlace, OutputPlace};
@@ -42,7 +42,7 @@ pub fn derive(
         buffer,
         places,
         received,
-        emitted: OutputPlace(received.0 - as_u32(held)),
+        emitted: OutputPlace(received.0 - u32::from(held)),
     }
 }
 
@@ -73,7 +73,7 @@ fn leads_to_quiet<'a>(
     if ranks[event] != 0 {
         return false;
     }
-    has(quiet, as_usize(next[state * 16 + event]))
+    has(quiet, usize::from(next[state * 16 + event]))
 }
 
 // The states known to be quiet after a step, by how many were held before it, the state that it
@@ -125,76 +125,75 @@ pub fn process<'a>(
         Runs limits next.now ranks.now t c events.now out.old result out.new }
 {
     let own = *ranks;
-    let mut state = as_usize(c.state);
-    let mut held = as_usize(c.held);
+    let mut state = usize::from(c.state);
+    let mut held = usize::from(c.held);
     let mut buffer = c.buffer;
     let mut places = c.places;
     let mut received = c.received;
     let mut quiet: u32 = 0;
     let mut written: usize = 0;
     let mut refused: usize = 0;
-    let mut i: usize = 0;
-    while i < events.len() {
-        let event = events[i];
-        i = i + 1;
+    for &event in events {
         let row = early_row(
             &own,
             limits.symbols,
-            as_usize(limits.capacity),
+            usize::from(limits.capacity),
             held,
             received,
             event,
         );
         if refuses(row) {
-            refused = refused + 1;
-        } else if leads_to_quiet(next, &own, quiet, state, event as usize) {
-            out[written] = event as u8;
-            state = as_usize(next[state * 16 + event as usize]);
-            received = counted(received);
-            written = written + 1;
-        } else {
-            let after = if row == 15 {
-                overflow(
-                    next,
-                    &own,
-                    limits.controllables,
-                    table,
-                    state,
-                    buffer,
-                    held,
-                    received,
-                    event as u8,
-                    out,
-                    written,
-                )
-            } else {
-                step(
-                    next,
-                    &own,
-                    limits.controllables,
-                    table,
-                    state,
-                    buffer,
-                    held,
-                    event as u8,
-                    out,
-                    written,
-                )
-            };
-            if after.row != 0 {
-                refused = refused + 1;
-            } else {
-                let kept = places_after(places, held, received, after.released, after.held);
-                quiet = quiet_after(quiet, held, after.state, after.held, after.released);
-                let left = after.buffer;
-                state = after.state;
-                held = after.held;
-                buffer = left;
-                places = kept;
-                received = counted(received);
-                written = after.written;
-            }
+            refused += 1;
+            continue;
         }
+        if leads_to_quiet(next, &own, quiet, state, event as usize) {
+            out[written] = event as u8;
+            state = usize::from(next[state * 16 + event as usize]);
+            received = counted(received);
+            written += 1;
+            continue;
+        }
+        let after = if row == 15 {
+            overflow(
+                next,
+                &own,
+                limits.controllables,
+                table,
+                state,
+                buffer,
+                held,
+                received,
+                event as u8,
+                out,
+                written,
+            )
+        } else {
+            step(
+                next,
+                &own,
+                limits.controllables,
+                table,
+                state,
+                buffer,
+                held,
+                event as u8,
+                out,
+                written,
+            )
+        };
+        if after.row != 0 {
+            refused += 1; // 15 or 23, after the search
+            continue;
+        }
+        let kept = places_after(places, held, received, after.released, after.held);
+        quiet = quiet_after(quiet, held, after.state, after.held, after.released);
+        let left = after.buffer;
+        state = after.state;
+        held = after.held;
+        buffer = left;
+        places = kept;
+        received = counted(received);
+        written = after.written;
     }
     Ran {
         refusal: 0,
@@ -230,11 +229,11 @@ pub fn turn<'a>(
             written: at,
         };
     }
-    let held = as_usize(c.held);
+    let held = usize::from(c.held);
     let row = early_row(
         ranks,
         limits.symbols,
-        as_usize(limits.capacity),
+        usize::from(limits.capacity),
         held,
         c.received,
         event,
@@ -253,7 +252,7 @@ pub fn turn<'a>(
             ranks,
             limits.controllables,
             table,
-            as_usize(c.state),
+            usize::from(c.state),
             buffer,
             held,
             c.received,
@@ -267,7 +266,7 @@ pub fn turn<'a>(
             ranks,
             limits.controllables,
             table,
-            as_usize(c.state),
+            usize::from(c.state),
             buffer,
             held,
             event as u8,

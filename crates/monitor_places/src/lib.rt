@@ -23,43 +23,23 @@ fn in_line(places: [InputPlace; 6], own: usize, newcomer: InputPlace, i: usize) 
     places[i - 1]
 }
 
-// The first ones, of what is emitted.
-pub fn emitted_places(
+// So many in line from a place on, in an array of N: the first ones are those of what is emitted,
+// the others of what is held then.
+pub fn places_from<const N: usize>(
     places: [InputPlace; 6],
     own: usize,
     newcomer: InputPlace,
+    from: usize,
     count: usize,
-) -> [InputPlace; 7]
-    requires { (own ≤ 6) × (count ≤ 7) }
-    ensures { result ≡ pad_places 7 (take count (joined_by own newcomer places)) }
+) -> [InputPlace; N]
+    requires { (own ≤ 6) × (count ≤ N) × (from + count ≤ 7) }
+    ensures { result ≡ pad_places N (take count (drop from (joined_by own newcomer places))) }
 {
-    let mut first = [InputPlace(0); 7];
-    let mut i: usize = 0;
-    while i < count {
-        first[i] = in_line(places, own, newcomer, i);
-        i = i + 1;
+    let mut part = [InputPlace(0); N];
+    for i in 0..count {
+        part[i] = in_line(places, own, newcomer, from + i);
     }
-    first
-}
-
-// Those behind the first ones, of what is held then: so many.
-fn held_places(
-    places: [InputPlace; 6],
-    own: usize,
-    newcomer: InputPlace,
-    count: usize,
-    held: usize,
-) -> [InputPlace; 6]
-    requires { (own ≤ 6) × (held ≤ 6) × (count + held ≤ 7) }
-    ensures { result ≡ pad_places 6 (take held (drop count (joined_by own newcomer places))) }
-{
-    let mut left = [InputPlace(0); 6];
-    let mut i: usize = 0;
-    while i < held {
-        left[i] = in_line(places, own, newcomer, count + i);
-        i = i + 1;
-    }
-    left
+    part
 }
 
 // The places of what is held after a release, with how many were held before the event and how
@@ -76,9 +56,9 @@ fn places_left(
     ensures { result ≡ places_after places before newcomer released held }
 {
     if released + held == before {
-        return held_places(places, 0, newcomer, before + 1 - held, held);
+        return places_from(places, 0, newcomer, before + 1 - held, held);
     }
-    held_places(places, before, newcomer, before + 1 - held, held)
+    places_from(places, before, newcomer, before + 1 - held, held)
 }
 
 // Whether a release moves places: some were held, and some are released.

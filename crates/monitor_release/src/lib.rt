@@ -9,7 +9,7 @@ ghost use Rattle.monitor_rule.specs.Step.{qualifying};
 ghost use Rattle.monitor_rule.specs.Fronts.{index_in, rest_in, winning_sets, rest_among, over, front};
 ghost use Rattle.monitor_rule.specs.Fronts.{found_in, kept_in, ReleaseRequires};
 
-use base::{as_u32, as_usize, has};
+use base::has;
 use monitor_rule::{Found, Front};
 
 // How many front parts six events have: those of 0 to 6.
@@ -32,12 +32,10 @@ fn winning_sets<'a>(
 {
     let mut index: u32 = 0;
     let mut weight: u32 = 1;
-    let mut i = held;
     winning[held] = table[0];
-    while 0 < i {
-        i = i - 1;
-        index = index + as_u32(ranks[as_usize(buffer[i])]) * weight;
-        weight = weight * k;
+    for i in (0..held).rev() {
+        index += u32::from(ranks[usize::from(buffer[i])]) * weight;
+        weight *= k;
         winning[i] = table[2 * (index as usize)];
     }
 }
@@ -61,7 +59,8 @@ fn keep(qualifies: bool, r: usize, p: usize, found: Found, lengths: &mut [u8; FR
 
 // Asks all front parts in turn, from the empty one to the whole buffer: the lengths of those that
 // qualify, into an array that is 0. `winning` has, for each front part, the states in which the
-// monitor may rest with what is left.
+// monitor may rest with what is left. (Document 02 words it as one loop from 0 to the whole hold,
+// left nowhere else: a `for` would ask the whole buffer behind the loop.)
 fn search<'a>(
     next: &'a [u8; 512],
     winning: &'a [u32; FRONTS],
@@ -88,8 +87,8 @@ fn search<'a>(
         if r == held {
             break found;
         }
-        p = as_usize(next[p * 16 + as_usize(buffer[r])]);
-        r = r + 1;
+        p = usize::from(next[p * 16 + usize::from(buffer[r])]);
+        r += 1;
     }
 }
 
@@ -124,7 +123,7 @@ fn longest(lengths: &[u8], count: usize) -> usize
     if count == 0 {
         return 0;
     }
-    as_usize(lengths[count - 1])
+    usize::from(lengths[count - 1])
 }
 
 // The longest front part of the buffer that leads to where the monitor may rest with what is left,

@@ -11,7 +11,7 @@ ghost use Rattle.monitor_rule.specs.Fronts.{rest_in, over};
 ghost use Rattle.monitor_step.specs.Stepping.{early_row, stepped, overflowed, overflow_emitted};
 ghost use Rattle.monitor_step.specs.Stepping.{StepRequires, OverflowRequires};
 
-use base::{as_u32, as_usize, copy};
+use base::copy;
 use configuration_places::{COUNT_END, InputPlace};
 use monitor_release::release;
 
@@ -52,7 +52,7 @@ pub fn early_row(
     requires { symbols ≤ 16 }
     ensures { result ≡ early_row ranks.now symbols capacity held (input_number received) event }
 {
-    if as_u32(symbols) <= event {
+    if u32::from(symbols) <= event {
         return 14;
     }
     if is_full(ranks[event as usize], capacity, held) {
@@ -70,7 +70,7 @@ fn moved(next: &[u8; 512], passes: bool, q: usize, e: usize) -> usize
     ensures { result ≡ cond passes (get_or next.now (q * 16 + e) 0) q }
 {
     if passes {
-        return as_usize(next[q * 16 + e]);
+        return usize::from(next[q * 16 + e]);
     }
     q
 }
@@ -144,8 +144,8 @@ pub fn step<'a>(
         (result ≡ stepped rest a q (take held buffer) e at)
         × (out.new ≡ sets out.old at (effect rest a q (take held buffer) e).emitted) }
 {
-    let passes = ranks[as_usize(e)] == 0;
-    let p = moved(next, passes, q, as_usize(e));
+    let passes = ranks[usize::from(e)] == 0;
+    let p = moved(next, passes, q, usize::from(e));
     let mut longer = buffer;
     let all = enqueue(passes, e, &mut longer, held);
     let from = pass(passes, e, out, at);
@@ -210,7 +210,7 @@ pub fn overflow<'a>(
         ≡ sets out.old at (overflow_emitted rest a q (take held buffer) (input_number received) e)) }
 {
     let first = buffer[0];
-    let p = moved(next, true, q, as_usize(first));
+    let p = moved(next, true, q, usize::from(first));
     let later = shifted(buffer, held, e);
     let front = release(next, ranks, k, table, p, later, held);
     if !front.rests {

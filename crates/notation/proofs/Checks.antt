@@ -13,13 +13,43 @@ use Rattle.varint.specs.Varint.{bytes}
 use Rattle.text.specs.Decimal.{Appended}
 use Rattle.text.proofs.Appending.{behind, said, kept}
 use Rattle.notation.specs.Tokens.{Token}
-use Rattle.notation.specs.Words.{Fault}
+use Rattle.notation.specs.Words.{Fault, None, number, wrong}
+use Rattle.std.specs.Prelude.{Ok, Err}
+use Rattle.notation.specs.declared.WordFault.{WordFault}
+use Rattle.notation.specs.declared.WordFault.TheVariants.{NotNumber as NoNumber, TooLarge as Over}
+use Rattle.notation.specs.declared.Found.{Found}
+use Rattle.notation.specs.declared.FaultyToken.{FaultyToken}
+use Rattle.notation.specs.Results.{fault_of, as_word, as_item, as_refused}
 use Rattle.notation.specs.Outcomes.{numbers, faulty, before}
 use Rattle.notation.specs.Packing.{Packed, Reading, sound, reading_from, reading, encoded, done, no_room, refused, packed, packed_buffer}
 use Rattle.notation.specs.Items.{Item, item_at, checked, StoreGroupsRequires}
 use Rattle.notation.proofs.Outcomes.{Stands, stands-first, stands-next, left, split, none_left, one_left, no_fault, fault-before, same-fault, placed-fits, placed-short}
 use Rattle.notation.proofs.Finding.{Lies}
-use Rattle.notation.proofs.Readings.{item_lies, item_fewer, item_ended, item_faulty, item_number}
+use Rattle.notation.proofs.Readings.{item_lies, item_small, item_fewer, item_ended, item_faulty, item_number}
+
+-- a word that is a number is sound, and one that is not is not
+sound-none : sound None ≡ true
+unfolding sound
+sound-none = refl
+
+unsound : (f : WordFault) → sound (fault_of f) ≡ false
+unfolding sound
+unsound NoNumber = refl
+unsound Over = refl
+
+-- what was found, as an item: with a number, and with none
+abbrev with-number : Found → ℕ → Item
+with-number f v = record { token = f.token; word = number v }
+
+abbrev with-fault : Found → WordFault → Item
+with-fault f x = record { token = f.token; word = wrong (fault_of x) }
+
+module _ (f : Found) {i : Item} (e : as_item f ≡ i) where
+  found-number : (v : ℕ) → f.word ≡ Ok v → with-number f v ≡ i
+  found-number v h = ap (λ w. record { token = f.token; word = as_word w }) (sym h) ∙ e
+
+  found-fault : (x : WordFault) → f.word ≡ Err x → with-fault f x ≡ i
+  found-fault x h = ap (λ w. record { token = f.token; word = as_word w }) (sym h) ∙ e
 
 -- counting on
 checked-none : (n : ℕ) → done n ≡ checked n (numbers [])
@@ -67,20 +97,20 @@ unfolding reading walks_first stands-first
 checking_begins s = record { walks = walks_first s; fewer = omega arith; so_far = refl }
 
 module _ {s : List ℕ} {lines at n : ℕ} (g : Checking s lines at n) (i : Item) (e : i ≡ item_at s lines at) where
-  pub checking_ended : i.token.to ≤ i.token.from → done n ≡ checked 0 (reading s)
+  checking_ended : i.token.to ≤ i.token.from → done n ≡ checked 0 (reading s)
   checking_ended h = checked-none n ∙ ap (checked n) (sym (item_ended s lines at i e g.walks.stands.steps h)) ∙ g.so_far
 
   module _ (more : i.token.from < i.token.to) where
-    pub checking_refused : sound i.word.fault ≡ false → refused i.word.fault i.token ≡ checked 0 (reading s)
+    checking_refused : sound i.word.fault ≡ false → refused i.word.fault i.token ≡ checked 0 (reading s)
     unfolding checked
     checking_refused f = ap (checked n) (sym (item_faulty s lines at i e g.walks.stands.steps more f)) ∙ g.so_far
 
     module _ (m : ℕ) (c : m ≡ length (bytes i.word.value)) where
-      pub checking_most : n + m ≤ i.token.to
+      checking_most : n + m ≤ i.token.to
       checking_most =
           omega (arith, g.fewer, c, (lies g.walks i e).after, item_fewer s lines at i e g.walks.counted g.walks.stands.inside more)
 
-      pub checking_goes_on : sound i.word.fault ≡ true → Checking s i.token.lines i.token.to (n + m)
+      checking_goes_on : sound i.word.fault ≡ true → Checking s i.token.lines i.token.to (n + m)
       unfolding walks_next steps-more stands-next
       checking_goes_on f =
           let k = steps-more g.walks i e more in
@@ -93,6 +123,29 @@ module _ {s : List ℕ} {lines at n : ℕ} (g : Checking s lines at n) (i : Item
                 ap (checked n) (sym (item_number s lines at i e (suc k.0) more f)) ∙
                 rw k.1 at g.so_far;
           }
+
+-- .. by what was found: nothing, a faulty token, or a number
+module _ {s : List ℕ} {lines at n : ℕ} (g : Checking s lines at n) where
+  pub checked_ended : (item_at s lines at).token.to ≤ (item_at s lines at).token.from → done n ≡ checked 0 (reading s)
+  checked_ended h = checking_ended g (item_at s lines at) refl h
+
+  module _ (f : Found) (more : f.token.from < f.token.to) (e : as_item f ≡ item_at s lines at) where
+    pub checked_lies : Lies s at f.token
+    checked_lies = lies g.walks (as_item f) e
+
+    pub checked_refused : (x : WordFault) → f.word ≡ Err x → refused (fault_of x) f.token ≡ checked 0 (reading s)
+    checked_refused x h = checking_refused g (with-fault f x) (found-fault f e x h) more (unsound x)
+
+    module _ (v : ℕ) (h : f.word ≡ Ok v) where
+      pub checked_small : v < 2097152
+      checked_small = item_small s lines at (with-number f v) (found-number f e v h)
+
+      module _ (m : ℕ) (c : m ≡ length (bytes v)) where
+        pub checked_most : n + m ≤ length s
+        checked_most = omega (arith, checking_most g (with-number f v) (found-number f e v h) more m c, checked_lies.inside)
+
+        pub checked_goes_on : Checking s f.token.lines f.token.to (n + m)
+        checked_goes_on = checking_goes_on g (with-number f v) (found-number f e v h) more m c sound-none
 
 -- numbers one after the other
 encoded-append : (p q : List ℕ) → encoded (p ++ q) ≡ encoded p ++ encoded q
@@ -132,7 +185,7 @@ module _ {s out₀ out : List ℕ} {lines at place : ℕ} (g : Storing s out₀ 
   storing_length = kept g.stored
 
   module _ (i : Item) (e : i ≡ item_at s lines at) where
-    pub storing_ended : i.token.to ≤ i.token.from → out ≡ packed_buffer (reading s) out₀
+    storing_ended : i.token.to ≤ i.token.from → out ≡ packed_buffer (reading s) out₀
     unfolding packed_buffer
     storing_ended h =
         let vs = g.written in
@@ -155,7 +208,7 @@ module _ {s out₀ out : List ℕ} {lines at place : ℕ} (g : Storing s out₀ 
       abbrev v : ℕ
       v = i.word.value
 
-      pub storing_room : place + length (bytes v) ≤ length out
+      storing_room : place + length (bytes v) ≤ length out
       unfolding encoded
       storing_room =
           let l : length (encoded (g.written ++ v ∷ next.0)) ≤ length out₀ = rw next.1 at g.room in
@@ -169,7 +222,7 @@ module _ {s out₀ out : List ℕ} {lines at place : ℕ} (g : Storing s out₀ 
             storing_length,
           )
 
-      pub storing_goes_on : {out' : List ℕ} {n : ℕ} → Appended out place (bytes v) out' n
+      storing_goes_on : {out' : List ℕ} {n : ℕ} → Appended out place (bytes v) out' n
           → Storing s out₀ out' i.token.lines i.token.to n
       unfolding walks_next steps-more stands-next
       storing_goes_on x =
@@ -185,6 +238,31 @@ module _ {s out₀ out : List ℕ} {lines at place : ℕ} (g : Storing s out₀ 
             room = rw joined at g.room;
             stored = said (sym (encoded-more g.written v)) (behind g.stored x);
           }
+
+-- .. by what was found
+module _ {s out₀ out : List ℕ} {lines at place : ℕ} (g : Storing s out₀ out lines at place) where
+  pub stored_ended : (item_at s lines at).token.to ≤ (item_at s lines at).token.from → out ≡ packed_buffer (reading s) out₀
+  stored_ended h = storing_ended g (item_at s lines at) refl h
+
+  module _ (f : Found) (more : f.token.from < f.token.to) (e : as_item f ≡ item_at s lines at) where
+    pub stored_lies : Lies s at f.token
+    stored_lies = lies g.walks (as_item f) e
+
+    pub stored_sound : (x : WordFault) → f.word ≡ Err x → ⊥
+    stored_sound x h =
+        no_fault (fault_of x, f.token) g.later
+        (sym (item_faulty s lines at (with-fault f x) (found-fault f e x h) g.walks.stands.steps more (unsound x)) ∙ g.coming)
+
+    module _ (v : ℕ) (h : f.word ≡ Ok v) where
+      pub stored_fits : (v < 2097152) × (place + length (bytes v) ≤ length out)
+      stored_fits = (
+        item_small s lines at (with-number f v) (found-number f e v h),
+        storing_room g (with-number f v) (found-number f e v h) more,
+      )
+
+      pub stored_goes_on : {out' : List ℕ} {n : ℕ} → Appended out place (bytes v) out' n
+          → Storing s out₀ out' f.token.lines f.token.to n
+      stored_goes_on x = storing_goes_on g (with-number f v) (found-number f e v h) more x
 
 -- a fault of a text is one, at a token in the text
 pub record Proper (s : List ℕ) (f : Fault) (t : Token) : Type 0 where
@@ -220,44 +298,43 @@ unfolding reading
 reading_proper s f t h = proper (suc (length s)) s 0 0 f t (omega arith) (omega arith) h
 
 -- what packing answers, after the pass that checks
-module _ (s out : List ℕ) (a : Packed) (e : a ≡ checked 0 (reading s)) where
+module _ (s out : List ℕ) where
   abbrev Same : Packed → Type 0
-  Same p = (p ≡ packed (reading s) out) × (out ≡ packed_buffer (reading s) out)
+  Same p = record {
+    value : p ≡ packed (reading s) out;
+    out_after : out ≡ packed_buffer (reading s) out;
+  }
 
-  pub pack_refused : sound a.fault ≡ false → Same a
-  unfolding checked packed packed_buffer done sound
-  pack_refused h =
+  pub pack_refused : (x : FaultyToken) → as_refused x ≡ checked 0 (reading s) → Same (as_refused x)
+  unfolding checked packed packed_buffer done
+  pack_refused x e =
       split (reading s)
-      (λ vs q. absurd (clash refl (ap (λ r. sound (checked 0 r).fault) (sym q) ∙ ap (λ p. sound p.fault) (sym e) ∙ h)))
-      (λ x q. (e ∙ ap (checked 0) q ∙ ap (λ r. packed r out) (sym q), ap (λ r. packed_buffer r out) (sym q)))
+      (λ vs q. absurd (clash (ap (λ p. sound p.fault) (e ∙ ap (checked 0) q) ∙ sound-none) (unsound x.fault)))
+      (λ y q. record { value = e ∙ ap (checked 0) q ∙ ap (λ r. packed r out) (sym q); out_after = ap (λ r. packed_buffer r out) (sym q) })
 
-  module _ (h : sound a.fault ≡ true) where
+  module _ (n : ℕ) (e : done n ≡ checked 0 (reading s)) where
     -- the numbers, and how many bytes they take
-    accepted : (vs : List ℕ) × (reading s ≡ numbers vs) × (a ≡ done (length (encoded vs)))
-    unfolding checked refused
+    accepted : (vs : List ℕ) × (reading s ≡ numbers vs) × (n ≡ length (encoded vs))
+    unfolding checked refused done
     accepted =
         split (reading s)
-        (λ vs q. (vs, q, e ∙ ap (checked 0) q ∙ ap done (zero-add (length (encoded vs)))))
-        (λ x q. absurd (clash (ap (λ r. sound (checked 0 r).fault) (sym q) ∙ ap (λ p. sound p.fault) (sym e) ∙ h) (reading_proper s x.0 x.1 q).unsound))
+        (λ vs q. (vs, q, ap (λ p. p.length) (e ∙ ap (checked 0) q) ∙ zero-add (length (encoded vs))))
+        (λ x q. absurd (clash (ap (λ p. sound p.fault) (sym (ap (checked 0) q) ∙ sym e) ∙ sound-none) (reading_proper s x.0 x.1 q).unsound))
 
-    counted : a.length ≡ length (encoded accepted.0)
-    unfolding done
-    counted = ap (λ p. p.length) accepted.2
-
-    pub pack_short : length out < a.length → Same no_room
+    pub pack_short : length out < n → Same no_room
     unfolding packed packed_buffer
     pack_short l =
         let vs = accepted.0 in
-        let short : length out < length (encoded vs) = omega (arith, counted, l) in
-        rw accepted.1 (rw (lt-leb (length (encoded vs)) (length out) short), placed-short (encoded vs) out short)
+        let short : length out < length (encoded vs) = omega (arith, accepted.2, l) in
+        rw accepted.1 (record { value = rw (lt-leb (length (encoded vs)) (length out) short); out_after = placed-short (encoded vs) out short })
 
-    module _ (l : a.length ≤ length out) where
+    module _ (l : n ≤ length out) where
       pub pack_fits : StoreGroupsRequires s out
-      pack_fits = record { values = accepted.0; read = accepted.1; room = omega (arith, counted, l) }
+      pack_fits = record { values = accepted.0; read = accepted.1; room = omega (arith, accepted.2, l) }
 
-      pub pack_done : a ≡ packed (reading s) out
+      pub pack_done : done n ≡ packed (reading s) out
       unfolding packed
       pack_done =
           let vs = accepted.0 in
-          let x : leb (length (encoded vs)) (length out) ≡ true = le-leb (length (encoded vs)) (length out) (omega (arith, counted, l)) in
-          accepted.2 ∙ sym (ap (λ r. packed r out) accepted.1 ∙ rw x)
+          let x : leb (length (encoded vs)) (length out) ≡ true = le-leb (length (encoded vs)) (length out) (omega (arith, accepted.2, l)) in
+          ap done accepted.2 ∙ sym (ap (λ r. packed r out) accepted.1 ∙ rw x)

@@ -1,16 +1,19 @@
 -- Laws of finding tokens.
-use Prim.Native.Nat.{ℕ, ◌+◌, ◌<◌, ◌≤◌}
+use Prim.Native.Nat.{ℕ, ◌+◌, ◌-◌, ◌<◌, ◌≤◌}
 use mathlib.Core.Path.{◌≡◌, refl}
 use mathlib.Core.Bool.{Bool, true, false, ◌||◌}
 use mathlib.Core.List.{List, [], ◌∷◌}
 use native.Mathlib.Numerals.{add-one}
 use native.Mathlib.Omega.{arith}
-use lib.ListN.{length, get_or, drop, length-drop, drop_of_length-le}
-use lib.Seq.{drop-cons}
-use lib.Dec.{eqb}
-use borrow.Author.Tests.{ne_eqb}
+use lib.ListN.{length, get_or, take, drop, length-drop, drop_of_length-le}
+use lib.Seq.{drop-cons, take_all}
+use lib.Dec.{eqb, ltb}
+use borrow.Author.Tests.{ltb-false}
+use Rattle.std.specs.Prelude.{Option, Some, None}
+use Rattle.std.specs.List.{position, position_or_len}
+use Rattle.std.proofs.lemmas.List.Recursion.{is_position_or_len}
 use Rattle.base.proofs.Bools.{by}
-use Rattle.notation.specs.Tokens.{Place, Token, separator, ends, comment, newlines, beginning, token_length, token_at}
+use Rattle.notation.specs.Tokens.{Place, Token, ends, comment, newlines, beginning, token_length, token_at}
 
 -- a byte ends a line or none
 pub newlines_most : (b : ℕ) → newlines b ≤ 1
@@ -20,6 +23,10 @@ newlines_most b = by (eqb b 10) (λ e. rw e (omega arith)) (λ e. rw e (omega ar
 -- one more byte of a list, as a loop goes
 pub next_byte : (s : List ℕ) (at : ℕ) → at < length s → drop at s ≡ get_or s at 0 ∷ drop (at + 1) s
 next_byte s at h = rw (add-one at) (drop-cons s at 0 h)
+
+-- the bytes from a place on, as a program takes them
+pub rest : (s : List ℕ) (at : ℕ) → take (length s - at) (drop at s) ≡ drop at s
+rest s at = take_all (length s - at) (drop at s) (omega (arith, length-drop at s))
 
 -- the loop that looks for the next token
 pub record Beginning (s : List ℕ) (lines from ended at : ℕ) (c : Bool) : Type 0 where
@@ -97,6 +104,35 @@ unfolding token_length
 token_most [] = omega arith
 token_most (b ∷ s) = by (ends b) (λ e. rw e (omega arith)) (λ e. rw e (omega (arith, token_most s)))
 
+-- a token's bytes are those before the first that ends it, or all that there are
+module _ (s : List ℕ) where
+  token_before : token_length s ≡ position_or_len ends s
+  unfolding token_length
+  token_before = is_position_or_len token_length ends refl (λ b l. by (ends b) (λ e. rw e) (λ e. rw e (omega arith))) s
+
+  token_found : (n : ℕ) → position ends s ≡ Some n → n ≡ token_length s
+  token_found n h =
+      by (ltb (position_or_len ends s) (length s))
+      (λ t. let e : Some (position_or_len ends s) ≡ Some n = rw t at h in cc (token_before))
+      (λ t. let e : ◌≡◌ {A = Option ℕ} None (Some n) = rw t at h in cc)
+
+  token_whole : position ends s ≡ None → token_length s ≡ length s
+  token_whole h =
+      by (ltb (position_or_len ends s) (length s))
+      (λ t. let e : ◌≡◌ {A = Option ℕ} (Some (position_or_len ends s)) None = rw t at h in cc)
+      (λ t. omega (arith, token_before, token_most s, ltb-false _ _ t))
+
+-- .. from a place on
+module _ (s : List ℕ) (at : ℕ) (inside : at ≤ length s) where
+  pub end_found : (n : ℕ) → position ends (take (length s - at) (drop at s)) ≡ Some n
+      → (at + n ≤ length s) × (at + n ≡ at + token_length (drop at s))
+  end_found n h =
+      let e : n ≡ token_length (drop at s) = token_found (drop at s) n (rw (rest s at) at h) in
+      (omega (arith, e, token_most (drop at s), length-drop at s), omega (arith, e))
+
+  pub end_whole : position ends (take (length s - at) (drop at s)) ≡ None → length s ≡ at + token_length (drop at s)
+  end_whole h = omega (arith, token_whole (drop at s) (rw (rest s at) at h), length-drop at s)
+
 -- a token lies in the text, after the place from which it was looked for
 pub record Lies (s : List ℕ) (at : ℕ) (t : Token) : Type 0 where
   pub after : at ≤ t.from
@@ -116,22 +152,3 @@ token_lies s lines at h l =
       inside = omega (arith, token_most (drop p.at s), length-drop p.at s);
       counted = g.counted h;
     }
-
--- a byte that is none of five separators
-pub no_separator : (b : ℕ) → (b ≡ 32 → ⊥) → (b ≡ 44 → ⊥) → (b ≡ 9 → ⊥) → (b ≡ 10 → ⊥) → (b ≡ 13 → ⊥) → eqb b 35 ≡ ends b
-unfolding ends separator
-no_separator b h i j k l = rw (ne_eqb b 32 h, ne_eqb b 44 i, ne_eqb b 9 j, ne_eqb b 10 k, ne_eqb b 13 l)
-
--- a newline ends a comment, `#` begins one, and any other byte leaves it so
-module _ (c : Bool) (b : ℕ) where
-  pub comment-ends : b ≡ 10 → false ≡ comment c b
-  unfolding comment
-  comment-ends h = rw h (by c (λ e. rw e) (λ e. rw e))
-
-  pub comment_begins : b ≡ 35 → true ≡ comment c b
-  unfolding comment
-  comment_begins h = rw h (by c (λ e. rw e) (λ e. rw e))
-
-  pub comment-stays : (b ≡ 10 → ⊥) → (b ≡ 35 → ⊥) → c ≡ comment c b
-  unfolding comment
-  comment-stays h i = rw (ne_eqb b 35 i, ne_eqb b 10 h) (by c (λ e. rw e) (λ e. rw e))

@@ -1,16 +1,16 @@
 -- Laws of the number that a token's bytes stand for.
 use Prim.Native.Nat.{ℕ, ◌+◌, ◌-◌, ◌*◌, ◌<◌, ◌≤◌}
-use mathlib.Core.Path.{◌≡◌, refl, ◌∙◌}
+use mathlib.Core.Path.{◌≡◌, refl, sym, ◌∙◌}
 use mathlib.Core.Bool.{true, false}
 use mathlib.Core.List.{List, [], ◌∷◌}
 use native.Mathlib.Omega.{arith}
 use lib.ListN.{length, get_or, drop, drop_of_length-le}
 use lib.Dec.{ltb, leb}
-use borrow.Author.Tests.{lt-ltb, le-ltb, le-leb, lt-leb, ltb-true, leb-true}
-use Rattle.base.proofs.Bools.{by, and_left, and_right, and_both, and-left_false, and-right_false}
-use Rattle.notation.specs.Words.{max_number, is_digit, all_digits, value_from, number, wrong, word_from, word_of}
+use borrow.Author.Tests.{lt-ltb, le-ltb, le-leb, ltb-true, leb-true}
+use Rattle.std.specs.Char.{is_ascii_digit}
+use Rattle.base.proofs.Bools.{by, and_left, and_right, and_both}
+use Rattle.notation.specs.Words.{NotNumber, TooLarge, max_number, is_digit, all_digits, value_from, number, wrong, word_from, word_of}
 use Rattle.notation.specs.Items.{capped}
-use Rattle.notation.specs.declared.Fault.TheVariants.{NotNumber, TooLarge}
 use Rattle.notation.proofs.Finding.{next_byte}
 
 -- a digit, or none
@@ -19,13 +19,9 @@ module _ (b : ℕ) where
   unfolding is_digit
   digit h l = and_both (le-leb 48 b h) (le-leb b 57 l)
 
-  low : b < 48 → is_digit b ≡ false
+  pub ascii_digit : is_ascii_digit b ≡ is_digit b
   unfolding is_digit
-  low h = and-left_false (leb b 57) (lt-leb 48 b h)
-
-  high : 57 < b → is_digit b ≡ false
-  unfolding is_digit
-  high h = and-right_false (leb 48 b) (lt-leb b 57 h)
+  ascii_digit = refl
 
   pub digit_low : is_digit b ≡ true → 48 ≤ b
   unfolding is_digit
@@ -81,21 +77,21 @@ unfolding word_of
 reads_begin w = record { small = omega arith; so_far = refl }
 
 module _ {w : List ℕ} {v i : ℕ} (g : Reads w v i) where
-  module _ (b : ℕ) (h : i < length w) (e : b ≡ get_or w i 0) where
+  module _ (h : i < length w) where
+    abbrev b : ℕ
+    b = get_or w i 0
+
     here : word_from v (b ∷ drop (i + 1) w) ≡ word_of w
-    here = rw e (rw (next_byte w i h) at g.so_far)
+    here = rw (next_byte w i h) at g.so_far
 
-    pub reads_low : b < 48 → wrong NotNumber ≡ word_of w
-    reads_low l = word_wrong v b (drop (i + 1) w) (low b l) ∙ here
+    pub reads_wrong : is_ascii_digit b ≡ false → wrong NotNumber ≡ word_of w
+    reads_wrong l = word_wrong v b (drop (i + 1) w) (sym (ascii_digit b) ∙ l) ∙ here
 
-    pub reads_high : 57 < b → wrong NotNumber ≡ word_of w
-    reads_high l = word_wrong v b (drop (i + 1) w) (high b l) ∙ here
-
-    pub reads_on : {x : ℕ} → 48 ≤ b → b ≤ 57 → x ≡ capped (v * 10 + (b - 48)) → x ≤ 2097152 → Reads w x (i + 1)
-    reads_on {x} l k f m =
+    pub reads_on : {x : ℕ} → is_ascii_digit b ≡ true → x ≡ capped (v * 10 + (b - 48)) → x ≤ 2097152 → Reads w x (i + 1)
+    reads_on {x} l f m =
         record {
           small = m;
-          so_far = rw f (word_capped (v * 10 + (b - 48)) (drop (i + 1) w) ∙ word_goes_on v b (drop (i + 1) w) (digit b l k) ∙ here);
+          so_far = rw f (word_capped (v * 10 + (b - 48)) (drop (i + 1) w) ∙ word_goes_on v b (drop (i + 1) w) (sym (ascii_digit b) ∙ l) ∙ here);
         }
 
   module _ (h : length w ≤ i) where

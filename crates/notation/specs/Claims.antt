@@ -2,10 +2,9 @@
 use Rattle.std.specs.Prelude.{ℕ, ◌≤◌, ◌<◌, ◌≡◌, List, [], ◌∷◌, length, get_or}
 use Prim.Native.String.{String}
 use Rattle.text.specs.Decimal.{ascii}
-use Rattle.notation.specs.Words.{Fault}
+use Rattle.notation.specs.Words.{Fault, NotNumber}
 use Rattle.notation.specs.Outcomes.{numbers}
 use Rattle.notation.specs.Packing.{reading, encoded, done, packed}
-use Rattle.notation.specs.declared.Fault.TheVariants.{NotNumber}
 
 -- what is packed is never longer than the text, ..
 abbrev pub NeverLonger : Type 0

@@ -1,11 +1,15 @@
 -- Items of a text, each a token with what its bytes are, and the check that packing makes of them
 -- first: what inner functions answer and ask.
 use Rattle.std.specs.Prelude.{ℕ, ◌+◌, ◌≤◌, ◌≡◌, cond, List, length, ltb}
-use Rattle.notation.specs.Tokens.{token_at, bytes_of}
-use Rattle.notation.specs.Words.{max_number, word_of}
+use Rattle.notation.specs.Tokens.{Token, token_at, bytes_of}
+use Rattle.notation.specs.Words.{Word, max_number, word_of}
 use Rattle.notation.specs.Outcomes.{numbers, faulty}
 use Rattle.notation.specs.Packing.{Packed, Reading, reading, encoded, done, refused}
-pub use Rattle.notation.specs.declared.Item.{Item}
+
+-- a token and what its bytes are
+pub record Item : Type 0 where
+  pub token : Token
+  pub word : Word
 
 -- a number, and one more than the largest for all above it
 unfoldable pub capped : ℕ → ℕ

@@ -3,9 +3,16 @@ use Rattle.std.specs.Prelude.{ℕ, zero, suc, ◌+◌, Bool, true, false, cond, 
 unfoldable pub use Rattle.varint.specs.Varint.{encoded}
 use Rattle.notation.specs.Outcomes.{Outcome, numbers, faulty, before, placed}
 use Rattle.notation.specs.Tokens.{Token, token_at, bytes_of}
-use Rattle.notation.specs.Words.{Fault, word_of}
-pub use Rattle.notation.specs.declared.Packed.{Packed}
-use Rattle.notation.specs.declared.Fault.TheVariants.{None, NotNumber, TooLarge, NoRoom}
+use Rattle.notation.specs.Words.{Fault, None, NotNumber, TooLarge, NoRoom, word_of}
+
+-- What packing answers: how many bytes were written, or the fault, with the number of the line
+-- where it stands and the token's beginning and end (0 where there is none).
+pub record Packed : Type 0 where
+  pub fault : Fault
+  pub line : ℕ
+  pub from : ℕ
+  pub to : ℕ
+  pub length : ℕ
 
 -- a text's numbers, or its first fault and the token where it stands
 abbrev pub Reading : Type 0

@@ -1,9 +1,19 @@
 -- The number that a token's bytes stand for.
 use Rattle.std.specs.Prelude.{ℕ, ◌+◌, ◌-◌, ◌*◌, Bool, true, cond, ◌&&◌, List, [], ◌∷◌, leb, ltb}
 use Prim.Native.Char.{code}
-pub use Rattle.notation.specs.declared.Fault.{Fault}
-pub use Rattle.notation.specs.declared.Word.{Word}
-use Rattle.notation.specs.declared.Fault.TheVariants.{None, NotNumber, TooLarge}
+
+-- What is wrong: nothing; a token that is no number, or one over 2,097,151; a lent buffer that is
+-- too short.
+pub data Fault : Type 0 where
+  None : Fault
+  NotNumber : Fault
+  TooLarge : Fault
+  NoRoom : Fault
+
+-- what a token's bytes are: a number, or a fault, with value 0
+pub record Word : Type 0 where
+  pub fault : Fault
+  pub value : ℕ
 
 -- the largest number of three groups of seven bits
 abbrev pub max_number : ℕ

@@ -20,37 +20,32 @@ pub struct Token {
     pub to: usize,
 }
 
-// What is wrong: nothing; a token that is no number, or one over 2,097,151; a lent buffer that is
-// too short.
-#[derive(Clone, Copy)]
-pub enum Fault {
-    None,
+// What is wrong with a token: it is no number, or one over 2,097,151.
+#[derive(Clone, Copy, Debug, PartialEq, Eq)]
+pub enum WordFault {
     NotNumber,
     TooLarge,
-    NoRoom,
 }
 
-// What a token's bytes are: a number, or a fault, with value 0.
+// A token that was found, and what its bytes are.
 #[derive(Clone, Copy)]
-pub struct Word {
-    pub fault: Fault,
-    pub value: u32,
-}
-
-// A token and what its bytes are.
-#[derive(Clone, Copy)]
-pub struct Item {
+pub struct Found {
     pub token: Token,
-    pub word: Word,
+    pub word: Result<u32, WordFault>,
 }
 
-// What packing answers: how many bytes were written, or the fault, with the number of the line
-// where it stands and the token's beginning and end (0 where there is none).
-#[derive(Clone, Copy)]
-pub struct Packed {
-    pub fault: Fault,
+// A faulty token: what is wrong, the number of its line, and where the token begins and ends.
+#[derive(Clone, Copy, Debug, PartialEq, Eq)]
+pub struct FaultyToken {
+    pub fault: WordFault,
     pub line: usize,
     pub from: usize,
     pub to: usize,
-    pub length: usize,
+}
+
+// Why a text is not packed: a faulty token, or a lent buffer that is too short.
+#[derive(Clone, Copy, Debug, PartialEq, Eq)]
+pub enum PackError {
+    Faulty(FaultyToken),
+    NoRoom,
 }

@@ -2,9 +2,8 @@
 use Rattle.std.specs.Prelude.{ℕ, ◌-◌, cond, ◌&&◌, List, [], ◌++◌, map, take, drop, leb}
 use Prim.Native.Char.{code}
 use Rattle.text.specs.Decimal.{ascii, decimal}
-use Rattle.notation.specs.declared.Packed.{Packed}
-use Rattle.notation.specs.declared.Fault.{Fault}
-use Rattle.notation.specs.declared.Fault.TheVariants.{None, NotNumber, TooLarge, NoRoom}
+use Rattle.notation.specs.Words.{Fault, None, NotNumber, TooLarge, NoRoom}
+use Rattle.notation.specs.Packing.{Packed}
 
 -- a byte as it is shown: itself where it is a printable character of ASCII, else `?`
 unfoldable pub visible : ℕ → ℕ

@@ -1,109 +1,71 @@
 #![tactic(auto)]
 
 // Packing a text: a pass that looks for faults and counts, then one that writes.
-ghost use Rattle.std.specs.Prelude.{◌≡◌, ◌+◌, ◌<◌, ◌≤◌, length};
+ghost use Rattle.std.specs.Prelude.{◌≡◌, ◌+◌, ◌<◌, ◌≤◌, length, MatchOption};
 ghost use Rattle.varint.specs.Varint.{bytes};
 ghost use Rattle.text.specs.Decimal.{Appended};
-ghost use Rattle.notation.specs.Packing.{sound, reading, done, no_room, refused, packed, packed_buffer};
+ghost use Rattle.notation.specs.Packing.{reading, refused, packed, packed_buffer};
 ghost use Rattle.notation.specs.Items.{item_at, checked, StoreGroupsRequires};
+ghost use Rattle.notation.specs.Results.{fault_of, as_item, as_refused, as_checked, as_packed};
 
-use notation::{Fault, Item, Packed, Token};
+use notation::{FaultyToken, Found, PackError, Place, Token, WordFault};
 use notation_tokens::{next_token, read_word};
 
-// Whether nothing is wrong.
-fn sound(f: Fault) -> bool
-    ensures { result ≡ sound f }
-{
-    match f {
-        Fault::None => true,
-        Fault::NotNumber => false,
-        Fault::TooLarge => false,
-        Fault::NoRoom => false,
-    }
-}
-
-fn done(length: usize) -> Packed
-    ensures { result ≡ done length }
-{
-    Packed {
-        fault: Fault::None,
-        line: 0,
-        from: 0,
-        to: 0,
-        length,
-    }
-}
-
-fn no_room() -> Packed
-    ensures { result ≡ no_room }
-{
-    Packed {
-        fault: Fault::NoRoom,
-        line: 0,
-        from: 0,
-        to: 0,
-        length: 0,
-    }
-}
-
 // A fault at a token.
-fn refused(fault: Fault, t: Token) -> Packed
+fn refused(fault: WordFault, t: Token) -> FaultyToken
     requires { t.lines < t.to }
-    ensures { result ≡ refused fault t }
+    ensures { as_refused result ≡ refused (fault_of fault) t }
 {
-    Packed {
+    FaultyToken {
         fault,
         line: t.lines + 1,
         from: t.from,
         to: t.to,
-        length: 0,
     }
 }
 
-// How many groups a number takes.
+// How many groups a number takes. (There is room for three, so that some are written.)
 fn groups(v: u32) -> usize
     requires { v < 2097152 }
     ensures { result ≡ length (bytes v) }
 {
     let mut out = [0u8; 3];
-    varint::write(&mut out, v)
+    varint::write(&mut out, v).unwrap_or(0)
 }
 
-// The next token from a place on, and what its bytes are.
-fn next_item(source: &[u8], lines: usize, at: usize) -> Item
-    requires { (lines ≤ at) × (at ≤ length source.now) }
-    ensures { result ≡ item_at source.now lines at }
+// The next token from a place on with what its bytes are; nothing at the text's end.
+fn next_item(source: &[u8], place: Place) -> Option<Found>
+    requires { (place.lines ≤ place.at) × (place.at ≤ length source.now) }
+    ensures { let item = item_at source.now place.lines place.at in
+        MatchOption result (item.token.to ≤ item.token.from)
+        (λ found. (found.token.from < found.token.to) × (as_item found ≡ item)) }
 {
-    let token = next_token(source, lines, at);
-    let from = token.from;
-    let to = token.to;
+    let token = next_token(source, place);
+    let Token { from, to, .. } = token;
+    if to <= from {
+        return None;
+    }
     let word = read_word(&source[from..to]);
-    Item { token, word }
+    Some(Found { token, word })
 }
 
 // The first fault, or how many bytes packing takes.
-fn check(source: &[u8]) -> Packed
-    ensures { result ≡ checked 0 (reading source.now) }
+fn check(source: &[u8]) -> Result<usize, FaultyToken>
+    ensures { as_checked result ≡ checked 0 (reading source.now) }
 {
-    let mut lines: usize = 0;
-    let mut at: usize = 0;
-    let mut length: usize = 0;
-    loop {
-        let item = next_item(source, lines, at);
-        let t = item.token;
-        let w = item.word;
-        if t.to <= t.from {
-            break;
+    let mut place = Place { lines: 0, at: 0 };
+    let mut length = 0;
+    while let Some(Found { token, word }) = next_item(source, place) {
+        match word {
+            Ok(value) => length += groups(value),
+            Err(fault) => return Err(refused(fault, token)),
         }
-        let fault = w.fault;
-        if !sound(fault) {
-            return refused(fault, t);
-        }
-        length = length + groups(w.value);
-        lines = t.lines;
-        at = t.to;
+        place = Place {
+            lines: token.lines,
+            at: token.to,
+        };
     }
-    done(length)
+    Ok(length)
 }
 
 // Writes a number's groups from a place on, and answers the place after them.
@@ -111,44 +73,41 @@ fn write_at(out: &mut [u8], at: usize, v: u32) -> usize
     requires { (v < 2097152) × (at + length (bytes v) ≤ length out.old) }
     ensures { Appended out.old at (bytes v) out.new result }
 {
-    at + varint::write(&mut out[at..], v)
+    let count = varint::write(&mut out[at..], v).unwrap_or(0);
+    at + count
 }
 
-// Writes the numbers of a text that has no fault into a buffer with room for them.
+// Writes the numbers of a text that has no fault into a buffer with room for them. (`check` found
+// none, so that no word is one.)
 fn store_groups(source: &[u8], out: &mut [u8])
     requires { StoreGroupsRequires source.now out.old }
     ensures { out.new ≡ packed_buffer (reading source.now) out.old }
 {
-    let mut lines: usize = 0;
-    let mut at: usize = 0;
-    let mut place: usize = 0;
-    loop {
-        let item = next_item(source, lines, at);
-        let t = item.token;
-        let w = item.word;
-        if t.to <= t.from {
-            break;
-        }
-        place = write_at(out, place, w.value);
-        lines = t.lines;
-        at = t.to;
+    let mut place = Place { lines: 0, at: 0 };
+    let mut end = 0;
+    while let Some(Found { token, word }) = next_item(source, place) {
+        let Ok(value) = word else { break };
+        end = write_at(out, end, value);
+        place = Place {
+            lines: token.lines,
+            at: token.to,
+        };
     }
 }
 
-// Writes the numbers of a text in seven-bit groups at the front of `out`. A fault, or too little
-// room, writes nothing.
-pub fn pack(source: &[u8], out: &mut [u8]) -> Packed
-    ensures value { result ≡ packed (reading source.now) out.old }
+// Writes the numbers of a text in seven-bit groups at the front of `out`, and answers how many
+// bytes they take. A fault, or too little room, writes nothing.
+pub fn pack(source: &[u8], out: &mut [u8]) -> Result<usize, PackError>
+    ensures value { as_packed result ≡ packed (reading source.now) out.old }
     ensures out_after { out.new ≡ packed_buffer (reading source.now) out.old }
 {
-    let answer = check(source);
-    let fault = answer.fault;
-    if !sound(fault) {
-        return answer;
-    }
-    if out.len() < answer.length {
-        return no_room();
+    let length = match check(source) {
+        Ok(length) => length,
+        Err(faulty) => return Err(PackError::Faulty(faulty)),
+    };
+    if out.len() < length {
+        return Err(PackError::NoRoom);
     }
     store_groups(source, out);
-    answer
+    Ok(length)
 }

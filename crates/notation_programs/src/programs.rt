@@ -3,10 +3,10 @@ ghost use Rattle.std.specs.Prelude.{length};
 ghost use Rattle.text.specs.Decimal.{Appended};
 ghost use Rattle.notation_programs.specs.Outputs.{pack_output, pack_note, unpack_output, unpack_note};
 
-use crate::Output;
 use notation_faults::message;
+use refusal::Refusal;
 use text::word;
-use text_lines::{fault_line, refusal_line};
+use text_lines::{Output, fault_line, refusal_line};
 
 // The most bytes of a text that is packed, and of an input that is unpacked.
 const MAX_TEXT: usize = 262144;
@@ -26,11 +26,15 @@ pub fn pack_input(source: &[u8], out: &mut [u8; 262144], note: &mut [u8; 96]) ->
             note: long,
         };
     }
-    let packed = notation_pack::pack(source, out);
-    let said = message(source, packed, note);
-    Output {
-        bytes: packed.length,
-        note: said,
+    match notation_pack::pack(source, out) {
+        Ok(length) => Output {
+            bytes: length,
+            note: 0,
+        },
+        Err(error) => Output {
+            bytes: 0,
+            note: message(source, error, note),
+        },
     }
 }
 
@@ -41,22 +45,20 @@ pub fn unpack_input(bytes: &[u8], out: &mut [u8; 240000], note: &mut [u8; 96]) -
     ensures appended_2 { Appended note.old 0 (unpack_note bytes.now) note.new result.note }
 {
     if MAX_INPUT < bytes.len() {
-        let long = refusal_line(note, 0, 18);
+        let long = refusal_line(note, 0, u8::from(Refusal::LongInput));
         return Output {
             bytes: 0,
             note: long,
         };
     }
-    let answer = notation_unpack::unpack(bytes, out);
-    if answer.refusal != 0 {
-        let said = fault_line(note, 0, answer.refusal, answer.place);
-        return Output {
-            bytes: answer.length,
-            note: said,
-        };
-    }
-    Output {
-        bytes: answer.length,
-        note: 0,
+    match notation_unpack::unpack(bytes, out) {
+        Ok(length) => Output {
+            bytes: length,
+            note: 0,
+        },
+        Err(fault) => Output {
+            bytes: 0,
+            note: fault_line(note, 0, u8::from(fault.refusal), fault.place),
+        },
     }
 }

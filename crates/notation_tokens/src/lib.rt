@@ -1,83 +1,75 @@
 #![tactic(auto)]
 
 // The tokens of a text, one after the other, and the number that a token's bytes stand for.
-ghost use Rattle.std.specs.Prelude.{◌≡◌, false, ◌||◌, ◌+◌, ◌≤◌, length, drop};
+ghost use Rattle.std.specs.Prelude.{position, ◌≡◌, false, ◌||◌, ◌+◌, ◌≤◌, length, drop};
 ghost use Rattle.notation.specs.Tokens.{ends, comment, newlines, beginning, token_length, token_at};
-ghost use Rattle.notation.specs.Words.{wrong, word_of};
+ghost use Rattle.notation.specs.Words.{word_of};
 ghost use Rattle.notation.specs.Items.{capped};
+ghost use Rattle.notation.specs.Results.{as_word};
 
-use notation::{Fault, Place, Token, Word};
+use notation::{Place, Token, WordFault};
 
 // A separator, or the beginning of a comment.
+#[tactic(auto, unfolding(notation::specs::Tokens::ends, notation::specs::Tokens::separator))]
 fn ends(b: u8) -> bool
     ensures { result ≡ ends b }
 {
-    if b == b' ' {
-        return true;
-    }
-    if b == b',' {
-        return true;
-    }
-    if b == b'\t' {
-        return true;
-    }
-    if b == b'\n' {
-        return true;
-    }
-    if b == b'\r' {
-        return true;
-    }
-    b == b'#'
+    matches!(b, b' ' | b',' | b'\t' | b'\n' | b'\r' | b'#')
 }
 
 // Whether a byte stands between tokens, where c says whether it is in a comment.
 fn between(c: bool, b: u8) -> bool
     ensures { result ≡ (c || ends b) }
 {
-    if c {
-        return true;
-    }
-    ends(b)
+    c || ends(b)
 }
 
 // Whether the byte after b is in a comment.
+#[tactic(auto, unfolding(notation::specs::Tokens::comment))]
 fn comment(c: bool, b: u8) -> bool
     ensures { result ≡ comment c b }
 {
-    if b == b'\n' {
-        return false;
+    match b {
+        b'\n' => false,
+        b'#' => true,
+        _ => c,
     }
-    if b == b'#' {
-        return true;
-    }
-    c
 }
 
 // How many lines end with a byte.
+#[tactic(auto, unfolding(notation::specs::Tokens::newlines))]
 fn newlines(b: u8) -> usize
     ensures { result ≡ newlines b }
 {
-    if b == b'\n' { 1 } else { 0 }
+    usize::from(b == b'\n')
 }
 
 // Where the next token begins, or the text's end.
-fn beginning(source: &[u8], lines: usize, from: usize) -> Place
-    requires { (lines ≤ from) × (from ≤ length source.now) }
-    ensures { result ≡ beginning (drop from source.now) false lines from }
+fn beginning(source: &[u8], from: Place) -> Place
+    requires { (from.lines ≤ from.at) × (from.at ≤ length source.now) }
+    ensures { result ≡ beginning (drop from.at source.now) false from.lines from.at }
 {
-    let mut ended = lines;
-    let mut at = from;
+    let mut ended = from.lines;
     let mut c = false;
-    while at < source.len() {
+    for at in from.at..source.len() {
         let b = source[at];
         if !between(c, b) {
-            break;
+            return Place { lines: ended, at };
         }
         c = comment(c, b);
-        ended = ended + newlines(b);
-        at = at + 1;
+        ended += newlines(b);
     }
-    Place { lines: ended, at }
+    Place {
+        lines: ended,
+        at: source.len(),
+    }
+}
+
+// The first byte that ends a token.
+fn first_end(bytes: &[u8]) -> Option<usize>
+    ensures { result ≡ position ends bytes.now }
+{
+    bytes.iter().position(|b| ends(*b))
 }
 
 // Where the token that begins at a place ends.
@@ -85,69 +77,47 @@ fn token_end(source: &[u8], from: usize) -> usize
     requires { from ≤ length source.now }
     ensures { result ≡ from + token_length (drop from source.now) }
 {
-    let mut at = from;
-    while at < source.len() {
-        if ends(source[at]) {
-            break;
-        }
-        at = at + 1;
+    match first_end(&source[from..]) {
+        Some(count) => from + count,
+        None => source.len(),
     }
-    at
 }
 
-// The first token from a place on; an empty one at the text's end.
-pub fn next_token(source: &[u8], lines: usize, at: usize) -> Token
-    requires { (lines ≤ at) × (at ≤ length source.now) }
-    ensures { result ≡ token_at source.now lines at }
+// The first token from a place on; an empty one at the text's end. (An Option would not say how
+// many lines end before that.)
+pub fn next_token(source: &[u8], place: Place) -> Token
+    requires { (place.lines ≤ place.at) × (place.at ≤ length source.now) }
+    ensures { result ≡ token_at source.now place.lines place.at }
 {
-    let p = beginning(source, lines, at);
-    let from = p.at;
+    let Place { lines, at: from } = beginning(source, place);
     let to = token_end(source, from);
-    Token {
-        lines: p.lines,
-        from,
-        to,
-    }
+    Token { lines, from, to }
 }
 
 // The largest number of three groups of seven bits.
 const MAX_NUMBER: u32 = 2097151;
 
-fn wrong(fault: Fault) -> Word
-    ensures { result ≡ wrong fault }
-{
-    Word { fault, value: 0 }
-}
-
 // A number, or one more than the largest for all above it.
+#[tactic(auto, unfolding(notation::specs::Items::capped))]
 fn capped(v: u32) -> u32
     ensures { (result ≡ capped v) × (result ≤ 2097152) }
 {
-    if MAX_NUMBER < v { MAX_NUMBER + 1 } else { v }
+    v.min(MAX_NUMBER + 1)
 }
 
 // What a token's bytes are.
-pub fn read_word(bytes: &[u8]) -> Word
-    ensures { result ≡ word_of bytes.now }
+pub fn read_word(bytes: &[u8]) -> Result<u32, WordFault>
+    ensures { as_word result ≡ word_of bytes.now }
 {
     let mut value: u32 = 0;
-    let mut i: usize = 0;
-    while i < bytes.len() {
-        let b = base::as_u32(bytes[i]);
-        if b < 48 {
-            return wrong(Fault::NotNumber);
+    for b in bytes {
+        if !b.is_ascii_digit() {
+            return Err(WordFault::NotNumber);
         }
-        if 57 < b {
-            return wrong(Fault::NotNumber);
-        }
-        value = capped(value * 10 + (b - 48));
-        i = i + 1;
+        value = capped(value * 10 + u32::from(*b - b'0'));
     }
     if MAX_NUMBER < value {
-        return wrong(Fault::TooLarge);
+        return Err(WordFault::TooLarge);
     }
-    Word {
-        fault: Fault::None,
-        value,
-    }
+    Ok(value)
 }

@@ -6,8 +6,7 @@ use lib.ListN.{length}
 use lib.Dec.{ltb, eqb}
 use borrow.Author.Tests.{lt-ltb, le-ltb, ltb-true, ltb-false, eq-eqb, ne_eqb, eqb-true, eqb-false}
 use Rattle.base.proofs.Bools.{by}
-use Rattle.varint.specs.declared.Number.{Number}
-use Rattle.varint.specs.Varint.{value, read}
+use Rattle.varint.specs.Varint.{Number, value, read}
 use Rattle.varint.proofs.Trips.{read-after, read-inside}
 use Rattle.notation.specs.Outcomes.{numbers, faulty, before}
 use Rattle.notation.proofs.Outcomes.{Stands, stands-next, left, no_fault, fault-before, same-fault}

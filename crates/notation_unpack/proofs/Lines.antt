@@ -8,8 +8,7 @@ use lib.ListN.{length, set, length-append}
 use lib.Dec.{leb, ltb, eqb}
 use borrow.Author.Tests.{le-leb, lt-leb, leb-true, leb-false, ltb-true, ltb-false, eqb-true, eqb-false}
 use Rattle.base.proofs.Bools.{by, same_test}
-use Rattle.varint.specs.declared.Number.{Number}
-use Rattle.varint.specs.Varint.{read}
+use Rattle.varint.specs.Varint.{Number, read}
 use Rattle.text.specs.Decimal.{decimal, Appended}
 use Rattle.text.proofs.Appending.{behind, kept, one_byte}
 use Rattle.notation.specs.Outcomes.{numbers, faulty, before}
@@ -254,7 +253,7 @@ module _ (s out : List ℕ) (a : Unpacked) (e : a ≡ measured (length out) (len
       (λ vs q. (vs, q))
       (λ x q. absurd (decoded_proper s x.0 x.1 q (sym (ap (λ r. (unpacked r out).refusal) q) ∙ ap (λ p. p.refusal) (sym unpack_answer) ∙ z)))
 
-  pub unpack_refused : (a.refusal ≡ 0 → ⊥) → out ≡ unpacked_buffer (decoded s) out
+  unpack_refused : (a.refusal ≡ 0 → ⊥) → out ≡ unpacked_buffer (decoded s) out
   unfolding unpacked unpacked_buffer done
   unpack_refused z =
       split (decoded s)
@@ -263,7 +262,7 @@ module _ (s out : List ℕ) (a : Unpacked) (e : a ≡ measured (length out) (len
       (λ t. rw q (placed-short (line_of vs) out (leb-false (length (line_of vs)) (length out) t))))
       (λ x q. rw q)
 
-  pub unpack_fits : a.refusal ≡ 0 → StoreLineRequires s out
+  unpack_fits : a.refusal ≡ 0 → StoreLineRequires s out
   unfolding unpacked refused
   unpack_fits z =
       let vs = (accepted z).0 in
@@ -275,3 +274,14 @@ module _ (s out : List ℕ) (a : Unpacked) (e : a ≡ measured (length out) (len
             (λ t. leb-true (length (line_of vs)) (length out) t)
             (λ t. let x : ◌≡◌ {A = ℕ} 16 0 = sym (ap (λ p. p.refusal) (unpack_answer ∙ ap (λ r. unpacked r out) q) ∙ short_row vs out t) ∙ z in absurd (omega arith));
       }
+
+-- .. by what that pass answers
+module _ (s out : List ℕ) where
+  pub refused_buffer : (row at : ℕ) → refused row at ≡ measured (length out) (length out) false (decoded s) → (row ≡ 0 → ⊥)
+      → out ≡ unpacked_buffer (decoded s) out
+  unfolding refused
+  refused_buffer row at e z = unpack_refused s out (refused row at) e z
+
+  pub done_fits : (n : ℕ) → done n ≡ measured (length out) (length out) false (decoded s) → StoreLineRequires s out
+  unfolding done
+  done_fits n e = unpack_fits s out (done n) e refl

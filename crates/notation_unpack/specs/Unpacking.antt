@@ -4,7 +4,13 @@ use Prim.Native.Char.{code}
 use Rattle.varint.specs.Varint.{read}
 use Rattle.text.specs.Decimal.{decimal}
 use Rattle.notation.specs.Outcomes.{Outcome, numbers, faulty, before, placed}
-pub use Rattle.notation_unpack.specs.declared.Unpacked.{Unpacked}
+
+-- What unpacking answers: how many bytes of text were written, or the refusing row with the place
+-- where the faulty number begins (0 for row 16).
+pub record Unpacked : Type 0 where
+  pub refusal : ℕ
+  pub place : ℕ
+  pub length : ℕ
 
 -- numbers, or the row of the first fault and the place where the faulty number begins
 abbrev pub Decoded : Type 0

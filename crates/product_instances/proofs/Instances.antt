@@ -26,9 +26,8 @@ use Rattle.solver_sets.specs.Definition6.{Final, Uncontrollable}
 use Rattle.solver_sets.specs.Claims.{Winning, Intermediate, Projects}
 use Rattle.solver_sets.proofs.Tables.{table-is-solved}
 use Rattle.solver_sets.proofs.Projection.{images_rest}
-use Rattle.product_rule.specs.declared.Product.{Product}
 use Rattle.product_rule.specs.Pairs.{pair_flags, pair_next, pair_states, same_classes}
-use Rattle.product_rule.specs.Product.{product_of, same_symbols, product_refusal, product_answer}
+use Rattle.product_rule.specs.Product.{Product, product_of, same_symbols, product_refusal, product_answer}
 use Rattle.product_rule.specs.Claims.{Matching, ProductRows, Merges, ProductAnswered, EndsAccepting, sheet_v, no_answer}
 use Rattle.product_rule.proofs.Rows.{product-rows_as_worded}
 use Rattle.product_rule.proofs.Merged.{product_as_worded, product-answered_as_worded, states_are_pairs, held-by_both}

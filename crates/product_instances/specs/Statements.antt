@@ -8,9 +8,8 @@ use Rattle.automaton_format.specs.Reading.{parsed, parse}
 use Rattle.solver_sets.specs.Table.{Buffer, table}
 use Rattle.solver_sets.specs.Definition6.{Union, Final}
 use Rattle.solver_sets.specs.Claims.{Winning, Intermediate, Projects}
-use Rattle.product_rule.specs.declared.Product.{Product}
 use Rattle.product_rule.specs.Pairs.{pair}
-use Rattle.product_rule.specs.Product.{product_of, product_refusal, product_answer}
+use Rattle.product_rule.specs.Product.{Product, product_of, product_refusal, product_answer}
 use Rattle.product_rule.specs.Claims.{SymbolsDiffer, Matching, Merges, EndsAccepting, sheet_v, no_answer, Converse}
 use Rattle.configuration.specs.declared.Configuration.{Configuration}
 use Rattle.configuration.specs.Configuration.{configuration}

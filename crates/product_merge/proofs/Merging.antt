@@ -8,8 +8,7 @@ use lib.ListN.{length, take, drop, length-drop}
 use lib.Seq.{take_all}
 use lib.Dec.{eqb}
 use borrow.Author.Tests.{lt-ltb, le-ltb, eq-eqb, ne_eqb}
-use Rattle.automaton_format.specs.declared.Parsed.{Parsed}
-use Rattle.automaton_format.specs.Reading.{refused, parse}
+use Rattle.automaton_format.specs.Reading.{Parsed, refused, parse}
 use Rattle.automaton_format.specs.Opening.{automaton_at, opening}
 use Rattle.automaton_format.proofs.Faults.{parse-sound}
 use Rattle.automaton_format.proofs.Openings.{opening-inside}

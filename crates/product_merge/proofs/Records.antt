@@ -10,15 +10,14 @@ use borrow.Author.Tests.{eq-eqb, ne_eqb}
 use Rattle.automaton.specs.declared.Automaton.{Automaton}
 use Rattle.automaton.specs.Automaton.{valid}
 use Rattle.automaton.proofs.Facts.{valid_facts}
-use Rattle.automaton_format.specs.declared.Written.{Written}
+use Rattle.automaton_format.specs.Writing.{Written}
 use Rattle.automaton_format.specs.Writing.{record_bytes, write_answer, write_buffer}
 use Rattle.automaton_format.proofs.Storing.{numbers-length, states-small}
 use Rattle.automaton_format.proofs.Outcomes.{record-bytes, write_fits}
 use Rattle.text.specs.Decimal.{Appended}
 use Rattle.text.proofs.Appending.{nothing}
 use Rattle.text_lines.specs.Lines.{refusal_line}
-use Rattle.product_rule.specs.declared.Product.{Product}
-use Rattle.product_rule.specs.Product.{product_of, product_refusal, product_answer}
+use Rattle.product_rule.specs.Product.{Product, product_of, product_refusal, product_answer}
 use Rattle.product_rule.proofs.Merged.{product_merges, product-answered_as_worded}
 use Rattle.product_merge.specs.Outputs.{Output, written, said, merged_records}
 
@@ -41,6 +40,9 @@ module _ (c : Automaton) (v : valid c ≡ true) where
   record_fits =
       let f = valid_facts c v in
       omega (arith, bytes-length, f.symbols-high, f.states-high, states-small c.states c.symbols f.states-high f.symbols-high)
+
+  pub record_passes : (out : List ℕ) → length out ≡ 564 → (write_answer c out).refusal ≡ 0
+  record_passes out k = ap (λ x. x.refusal) (sym (write_fits c out v (omega (arith, bytes-length, record_fits, k))).0)
 
   pub record_stored : (out : List ℕ) → length out ≡ 564 → (w : Written) → w ≡ write_answer c out → (out' : List ℕ) → out' ≡ write_buffer c out
       → Appended out 0 (record_bytes c) out' w.length

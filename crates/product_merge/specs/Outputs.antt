@@ -3,8 +3,7 @@
 -- second sheet up to the end.
 use Rattle.std.specs.Prelude.{ℕ, ◌-◌, cond, List, [], length, drop, eqb, ltb}
 use Rattle.automaton.specs.declared.Automaton.{Automaton}
-use Rattle.automaton_format.specs.declared.Parsed.{Parsed}
-use Rattle.automaton_format.specs.Reading.{parse}
+use Rattle.automaton_format.specs.Reading.{Parsed, parse}
 use Rattle.automaton_format.specs.Writing.{record_bytes}
 use Rattle.automaton_format.specs.Opening.{automaton_at, opening}
 use Rattle.text_lines.specs.Lines.{fault_line, refusal_line, max_input}

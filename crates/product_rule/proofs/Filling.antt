@@ -1,48 +1,38 @@
 -- Laws of making the product's record.
-use Prim.Native.Nat.{ℕ, ◌+◌, ◌*◌, ◌/◌, ◌%◌, ◌<◌, ◌≤◌}
-use mathlib.Core.Path.{◌≡◌, sym, ◌∙◌, ap}
-use mathlib.Core.Bool.{Bool, false, cond, ◌&&◌}
-use mathlib.Core.List.{List}
+use Prim.Native.Nat.{ℕ, zero, suc, ◌+◌, ◌*◌, ◌/◌, ◌%◌, ◌<◌, ◌≤◌}
+use mathlib.Core.Path.{◌≡◌, refl, sym, ◌∙◌, ap}
+use mathlib.Core.Bool.{Bool, cond, ◌&&◌, and_assoc, and-true}
+use mathlib.Core.List.{List, [], ◌∷◌}
 use native.Mathlib.Omega.{arith}
-use lib.ListN.{length, get_or, set}
+use lib.ListN.{length, get_or, set, take}
 use lib.Seq.{sets}
 use lib.Dec.{eqb}
-use borrow.Author.Tests.{eq-eqb, ne_eqb}
+use lib.Pointwise.{pointwise}
+use Rattle.base.specs.Each.{each}
 use Rattle.base.specs.Pad.{pad}
 use Rattle.base.specs.Tabulate.{tabulate, blocks}
 use Rattle.base.proofs.Padding.{pad-length, pad-set, pad-more}
-use Rattle.base.proofs.Ranges.{each_falls, each_keeps}
 use Rattle.base.proofs.Stores.{sets_more}
 use Rattle.base.proofs.Tabulation.{tabulate-length, tabulate-more, blocks-length, blocks_more}
 use Rattle.automaton.specs.Arrays.{goes}
 use Rattle.product_rule.specs.Pairs.{pair, both_accept, pair_flags, pair_next, pair_states, same_classes}
 
--- the flag of a pair by those of its states
-module _ (x y : ℕ) where
-  abbrev flag : ℕ
-  flag = cond (eqb x 1 && eqb y 1) 1 0
+-- the first of the numbers below m + 1, and the rest
+each_front : (p : ℕ → Bool) (m : ℕ) → each (suc m) p ≡ (p 0 && each m (λ k. p (suc k)))
+unfolding each
+each_front p zero = sym (and-true (p 0))
+each_front p (suc m) = ap (λ b. b && p (suc m)) (each_front p m) ∙ and_assoc (p 0) (each m (λ k. p (suc k))) (p (suc m))
 
-  pub first-not : (x ≡ 1 → ⊥) → 0 ≡ flag
-  first-not h = rw (ne_eqb x 1 h)
-
-  pub second-not : x ≡ 1 → (y ≡ 1 → ⊥) → 0 ≡ flag
-  second-not g h = rw (eq-eqb x 1 g, ne_eqb y 1 h)
-
-  pub both_are : x ≡ 1 → y ≡ 1 → 1 ≡ flag
-  both_are g h = rw (eq-eqb x 1 g, eq-eqb y 1 h)
-
--- one more symbol's classes
-module _ (first second : List ℕ) (e : ℕ) (same : Bool) (so_far : same ≡ same_classes first second e) where
-  abbrev alike : ℕ → Bool
-  alike e = eqb (get_or first e 0) (get_or second e 0)
-
-  pub classes_differ : (get_or first e 0 ≡ get_or second e 0 → ⊥) → false ≡ same_classes first second (e + 1)
-  unfolding same_classes
-  classes_differ h = each_falls alike e same so_far (ne_eqb (get_or first e 0) (get_or second e 0) h)
-
-  pub classes_agree : get_or first e 0 ≡ get_or second e 0 → same ≡ same_classes first second (e + 1)
-  unfolding same_classes
-  classes_agree h = each_keeps alike e same so_far (eq-eqb (get_or first e 0) (get_or second e 0) h)
+-- the same classes, as two slices that are equal
+pub slices_alike : (m : ℕ) (first second : List ℕ) → m ≤ length first → m ≤ length second
+    → pointwise eqb (take m first) (take m second) ≡ same_classes first second m
+unfolding same_classes each
+slices_alike zero first second h g = refl
+slices_alike (suc m) [] second h g = absurd (omega arith)
+slices_alike (suc m) (x ∷ first) [] h g = absurd (omega arith)
+slices_alike (suc m) (x ∷ first) (y ∷ second) h g =
+    ap (λ b. eqb x y && b) (slices_alike m first second (omega arith) (omega arith)) ∙
+    sym (each_front (λ e. eqb (get_or (x ∷ first) e 0) (get_or (y ∷ second) e 0)) m)
 
 -- one more flag
 module _ (first second : List ℕ) (n r : ℕ) (flags : List ℕ) (so_far : flags ≡ pad 32 (pair_flags first second n r)) where

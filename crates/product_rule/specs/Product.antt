@@ -6,7 +6,17 @@ use Rattle.base.specs.Pad.{pad}
 use Rattle.automaton.specs.declared.Automaton.{Automaton}
 use Rattle.automaton.specs.Automaton.{valid, blank}
 use Rattle.product_rule.specs.Pairs.{pair, pair_flags, pair_states, same_classes}
-pub use Rattle.product_rule.specs.declared.Product.{Product}
+
+-- The product (refusal 0), or the refusing row with an all-zero record.
+pub record Product : Type 0 where
+  pub refusal : ℕ
+  pub automaton : Automaton
+
+abbrev pub product_made : Automaton → Product
+product_made c = record { refusal = 0; automaton = c }
+
+abbrev pub product_refused : ℕ → Product
+product_refused row = record { refusal = row; automaton = blank }
 
 -- how many pairs of states there are
 abbrev pub pairs_count : Automaton → Automaton → ℕ

@@ -18,8 +18,7 @@ use Rattle.automaton.proofs.Facts.{valid_facts}
 use Rattle.solver_sets.specs.Table.{shorter, buffers_count, table, rounds, short}
 use Rattle.solver_sets.proofs.Tables.{table-is-solved}
 use Rattle.solver_sets.proofs.Paper.{only_definition6}
-use Rattle.solver_answers.specs.declared.Count.{Count}
-use Rattle.solver_answers.specs.Solving.{solve_refusal, solution, solved_table, count_answer}
+use Rattle.solver_answers.specs.Solving.{Count, solve_refusal, solution, solved_table, count_answer}
 use Rattle.solver_answers.specs.Claims.{LeavesSolved, SolvesDefinition6}
 use Rattle.solver_answers.proofs.Bounds.{pow_small, shorter-small, shorter-one}
 

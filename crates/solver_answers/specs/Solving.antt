@@ -5,8 +5,29 @@ use Rattle.base.specs.Rows.{first}
 use Rattle.automaton.specs.declared.Automaton.{Automaton}
 use Rattle.automaton.specs.Automaton.{valid}
 use Rattle.solver_sets.specs.Table.{buffers_count, short, table, rounds}
-pub use Rattle.solver_answers.specs.declared.Solution.{Solution}
-pub use Rattle.solver_answers.specs.declared.Count.{Count}
+
+-- What solving gives: the rounds that struck a state, summed over all buffers (refusal 0), or the
+-- refusing row with 0 rounds.
+pub record Solution : Type 0 where
+  pub refusal : ℕ
+  pub rounds : ℕ
+
+abbrev pub solved : ℕ → Solution
+solved rounds = record { refusal = 0; rounds = rounds }
+
+abbrev pub solve_refused : ℕ → Solution
+solve_refused row = record { refusal = row; rounds = 0 }
+
+-- How many buffers there are (refusal 0), or the refusing row with 0.
+pub record Count : Type 0 where
+  pub refusal : ℕ
+  pub count : ℕ
+
+abbrev pub counted : ℕ → Count
+counted count = record { refusal = 0; count = count }
+
+abbrev pub count_refused : ℕ → Count
+count_refused row = record { refusal = row; count = 0 }
 
 -- the rows that solving checks
 unfoldable pub solve_refusal : Automaton → List ℕ → ℕ

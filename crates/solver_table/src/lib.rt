@@ -13,9 +13,9 @@ use solver_sets::{Sets, Settled};
 
 // The sets of a buffer that begins with a symbol, where `goal` has the states of either set of
 // what follows the symbol.
-fn sets_from<'a>(
-    next: &'a [u8; 512],
-    free: &'a [u8; 16],
+fn sets_from(
+    next: &[u8; 512],
+    free: &[u8; 16],
     n: usize,
     u: usize,
     accepting: u32,
@@ -37,9 +37,9 @@ fn sets_from<'a>(
 // Puts a symbol in front of the `count` buffers that stand from a place on, and writes their sets
 // from another place on. Neighbours often have the same goal, so the last one's sets are kept. At
 // first these are the sets of goal 0: nothing leads into it, so they are the empty buffer's.
-fn fill_symbol<'a>(
-    next: &'a [u8; 512],
-    free: &'a [u8; 16],
+fn fill_symbol(
+    next: &[u8; 512],
+    free: &[u8; 16],
     n: usize,
     u: usize,
     accepting: u32,
@@ -63,8 +63,7 @@ fn fill_symbol<'a>(
         rounds: empty.rounds,
     };
     let mut rounds: u32 = 0;
-    let mut j: usize = 0;
-    while j < count {
+    for j in 0..count {
         let i = from + 2 * j;
         let goal = table[i] | table[i + 1];
         if goal != known {
@@ -76,17 +75,16 @@ fn fill_symbol<'a>(
         table[o] = last.winning;
         table[o + 1] = last.intermediate;
         rounds = rounds + last.rounds;
-        j = j + 1;
     }
     rounds
 }
 
 // Writes the sets of the buffers one longer than the `count` ones that stand from a place on,
 // behind these: for each controllable symbol in turn.
-pub fn fill_level<'a>(
-    next: &'a [u8; 512],
-    free: &'a [u8; 16],
-    classes: &'a [u8; 16],
+pub fn fill_level(
+    next: &[u8; 512],
+    free: &[u8; 16],
+    classes: &[u8; 16],
     n: usize,
     m: usize,
     u: usize,
@@ -107,8 +105,7 @@ pub fn fill_level<'a>(
 {
     let mut at = from + 2 * count;
     let mut rounds: u32 = 0;
-    let mut e: usize = 0;
-    while e < m {
+    for e in 0..m {
         if classes[e] == 1 {
             let more = fill_symbol(
                 next, free, n, u, accepting, empty, e, table, from, at, count,
@@ -116,7 +113,6 @@ pub fn fill_level<'a>(
             rounds = rounds + more;
             at = at + 2 * count;
         }
-        e = e + 1;
     }
     rounds
 }

@@ -1,11 +1,30 @@
 -- What reading and writing answer, and what a program says where it cannot do the one or the
 -- other.
-use Rattle.std.specs.Prelude.{ℕ, ◌≤◌, ◌<◌, ◌≡◌, true, false, List, ◌++◌, length, eqb}
+use Rattle.std.specs.Prelude.{ℕ, ◌≤◌, ◌<◌, ◌≡◌, Bool, true, false, Result, Ok, Err, List, ◌++◌, length, eqb}
 use Rattle.text.specs.Decimal.{ascii}
 use Rattle.std.specs.Counts.{IsPrefixLen}
 use Rattle.streams.specs.Transfers.{Transfer, Answer, begun, transferred}
-pub use Rattle.streams.specs.declared.Input.{Input}
-pub use Rattle.streams.specs.declared.WriteResult.{WriteResult}
+use Rattle.streams.specs.declared.Stopped.{Stopped}
+
+-- how many bytes were read, to the end of the input or until the buffer was full, and whether a
+-- read failed before that
+pub record Input : Type 0 where
+  pub length : ℕ
+  pub failed : Bool
+
+-- how many bytes were handed over, and whether these are all
+pub record WriteResult : Type 0 where
+  pub count : ℕ
+  pub done : Bool
+
+-- .. as they are answered
+abbrev pub reading : Result ℕ Stopped → Input
+reading (Ok n) = record { length = n; failed = false }
+reading (Err stopped) = record { length = stopped.count; failed = true }
+
+abbrev pub writing : Result ℕ Stopped → WriteResult
+writing (Ok n) = record { count = n; done = true }
+writing (Err stopped) = record { count = stopped.count; done = false }
 
 -- what reading, and writing, answers where a transfer is over
 abbrev pub input_of : Transfer → Input

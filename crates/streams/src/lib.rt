@@ -6,106 +6,102 @@
 // input gives or standard output takes.)
 mod transfer;
 
-ghost use Rattle.std.specs.Prelude.{◌≤◌, ◌<◌, ◌+◌, ◌≡◌, ◌++◌, false, length, take};
+ghost use Rattle.std.specs.Prelude.{◌≤◌, ◌<◌, ◌+◌, ◌≡◌, ◌++◌, false, length, take, replicate};
 ghost use Rattle.std.specs.Io.KnownBytes.{Consumes, Appends, IsAtEnd};
-ghost use Rattle.text.specs.Decimal.{Appended};
-ghost use Rattle.streams.specs.Streams.{input_of, written_of, Filled, Handed, cannot_read, cannot_write};
+ghost use Rattle.streams.specs.Streams.{reading, writing, input_of, written_of, Filled, Handed, cannot_read, cannot_write};
 
 use std::io::{Read, Write};
 use text::word;
 use transfer::{Transfer, after, begun};
 
-// How many bytes were read, to the end of the input or until the buffer was full, and whether a
-// read failed before that.
-#[derive(Clone, Copy)]
-pub struct Input {
-    pub length: usize,
-    pub failed: bool,
+// Zeros, behind a name of their own: the prover writes out a long array where it stands.
+pub fn room<const N: usize>() -> [u8; N]
+    ensures { result ≡ replicate N 0 }
+{
+    [0; N]
 }
 
-// How many bytes were handed over, and whether these are all.
-#[derive(Clone, Copy)]
-pub struct WriteResult {
+// How many bytes were moved before a call that failed, or (of a write) took nothing.
+#[derive(Clone, Copy, Debug)]
+pub struct Stopped {
     pub count: usize,
-    pub done: bool,
 }
 
-fn input_of(t: Transfer) -> Input
-    ensures { result ≡ input_of t }
+fn input_of(t: Transfer) -> Result<usize, Stopped>
+    ensures { reading result ≡ input_of t }
 {
-    Input {
-        length: t.count,
-        failed: t.failed,
+    if t.failed {
+        return Err(Stopped { count: t.count });
+    }
+    Ok(t.count)
+}
+
+fn written_of(t: Transfer) -> Result<usize, Stopped>
+    ensures { writing result ≡ written_of t }
+{
+    if t.count == t.size {
+        Ok(t.count)
+    } else {
+        Err(Stopped { count: t.count })
     }
 }
 
-fn written_of(t: Transfer) -> WriteResult
-    ensures { result ≡ written_of t }
-{
-    WriteResult {
-        count: t.count,
-        done: t.count == t.size,
-    }
-}
-
-// Reads to the end of the input, or until the buffer is full.
-pub fn read_all<R: Read>(from: &mut R, buf: &mut [u8]) -> Input
-    ensures filled { Filled buf.new result }
-    ensures taken { Consumes (R.remaining from.old) (R.remaining from.new) (take result.length buf.new) }
-    ensures end { result.failed ≡ false → result.length < length buf.new → IsAtEnd (R.remaining from.new) }
+// Reads to the end of the input, or until the buffer is full, and answers how many bytes. (This
+// loop and the next share all but the call: what a call makes of a transfer is said once, in
+// `after`.)
+pub fn read_all<R: Read>(from: &mut R, buf: &mut [u8]) -> Result<usize, Stopped>
+    ensures filled { Filled buf.new (reading result) }
+    ensures taken { Consumes (R.remaining from.old) (R.remaining from.new) (take (reading result).length buf.new) }
+    ensures end { (reading result).failed ≡ false → (reading result).length < length buf.new → IsAtEnd (R.remaining from.new) }
 {
     let mut t = begun(buf.len());
     while t.going {
-        let at = t.count;
-        let answer = from.read(&mut buf[at..]);
-        let next = after(t, answer);
-        t = next;
+        let answer = from.read(&mut buf[t.count..]);
+        t = after(t, answer);
     }
     input_of(t)
 }
 
-// Hands over all bytes, or those before the first call that fails or takes nothing.
-pub fn write_all<W: Write>(to: &mut W, bytes: &[u8]) -> WriteResult
-    ensures handed { Handed bytes.now result }
-    ensures passed { Appends (W.contents to.old) (W.contents to.new) (take result.count bytes.now) }
+// Hands over all bytes and answers how many, or those before the first call that fails or takes
+// nothing.
+pub fn write_all<W: Write>(to: &mut W, bytes: &[u8]) -> Result<usize, Stopped>
+    ensures handed { Handed bytes.now (writing result) }
+    ensures passed { Appends (W.contents to.old) (W.contents to.new) (take (writing result).count bytes.now) }
 {
     let mut t = begun(bytes.len());
     while t.going {
-        let at = t.count;
-        let answer = to.write(&bytes[at..]);
-        let next = after(t, answer);
-        t = next;
+        let answer = to.write(&bytes[t.count..]);
+        t = after(t, answer);
     }
     written_of(t)
 }
 
-// A program's name and what it says, in one line.
-fn note(out: &mut [u8], name: &[u8], what: &[u8]) -> usize
-    requires { length name.now + length what.now ≤ length out.old }
-    ensures { Appended out.old 0 (name.now ++ what.now) out.new result }
+// A program's name and what it cannot do, in one line for standard error.
+fn cannot<W: Write>(to: &mut W, name: &[u8], what: &[u8]) -> Result<usize, Stopped>
+    requires { (length name.now ≤ 64) × (length what.now ≤ 32) }
+    ensures handed { Handed (name.now ++ what.now) (writing result) }
+    ensures passed { Appends (W.contents to.old) (W.contents to.new) (take (writing result).count (name.now ++ what.now)) }
 {
-    let next = word(out, 0, name);
-    word(out, next, what)
+    let mut line = [0u8; 96];
+    let next = word(&mut line, 0, name);
+    let length = word(&mut line, next, what);
+    write_all(to, &line[..length])
 }
 
 // The line `NAME: cannot read`, for standard error.
-pub fn cannot_read<W: Write>(to: &mut W, name: &[u8]) -> WriteResult
+pub fn cannot_read<W: Write>(to: &mut W, name: &[u8]) -> Result<usize, Stopped>
     requires { length name.now ≤ 64 }
-    ensures handed { Handed (cannot_read name.now) result }
-    ensures passed { Appends (W.contents to.old) (W.contents to.new) (take result.count (cannot_read name.now)) }
+    ensures handed { Handed (cannot_read name.now) (writing result) }
+    ensures passed { Appends (W.contents to.old) (W.contents to.new) (take (writing result).count (cannot_read name.now)) }
 {
-    let mut line = [0u8; 96];
-    let length = note(&mut line, name, b": cannot read\n");
-    write_all(to, &line[..length])
+    cannot(to, name, b": cannot read\n")
 }
 
 // The line `NAME: cannot write`, for standard error.
-pub fn cannot_write<W: Write>(to: &mut W, name: &[u8]) -> WriteResult
+pub fn cannot_write<W: Write>(to: &mut W, name: &[u8]) -> Result<usize, Stopped>
     requires { length name.now ≤ 64 }
-    ensures handed { Handed (cannot_write name.now) result }
-    ensures passed { Appends (W.contents to.old) (W.contents to.new) (take result.count (cannot_write name.now)) }
+    ensures handed { Handed (cannot_write name.now) (writing result) }
+    ensures passed { Appends (W.contents to.old) (W.contents to.new) (take (writing result).count (cannot_write name.now)) }
 {
-    let mut line = [0u8; 96];
-    let length = note(&mut line, name, b": cannot write\n");
-    write_all(to, &line[..length])
+    cannot(to, name, b": cannot write\n")
 }

@@ -11,7 +11,8 @@ use std::io::ErrorKind;
 const MAX_INTERRUPTIONS: usize = 65536;
 
 // Where a transfer of `size` bytes stands: how many were moved, how many interruptions are left,
-// whether another call is to be made, and whether one failed.
+// whether another call is to be made, and whether one failed. (Two flags, as in the definitions of
+// specs/Transfers.antt.)
 #[derive(Clone, Copy)]
 pub struct Transfer {
     pub size: usize,

@@ -6,6 +6,8 @@ use native.Mathlib.Omega.{arith}
 use lib.ListN.{length, length-append}
 use lib.Dec.{ltb}
 use borrow.Author.Tests.{lt-ltb, le-ltb, ltb-true, ltb-false}
+use Rattle.std.specs.Fmt.{decimal as library}
+use Rattle.std.proofs.lemmas.Fmt.{decimal_by_steps}
 use Rattle.base.proofs.Bools.{by}
 use Rattle.text.specs.Decimal.{digit, digits, decimal}
 
@@ -47,9 +49,6 @@ decimal-some n =
     (λ e. rw (decimal-one n (ltb-true n 10 e)) (omega arith))
     (λ e. rw (decimal-more n (ltb-false n 10 e), length-append (decimal (n / 10)) (digit (n % 10) ∷ [])) (omega arith))
 
-pub decimal_longer : (n : ℕ) → 10 ≤ n → length (decimal n) ≡ length (decimal (n / 10)) + 1
-decimal_longer n h = ap length (decimal-more n h) ∙ length-append (decimal (n / 10)) (digit (n % 10) ∷ [])
-
 -- a byte, and any number of a program
 pub byte_length : (n : ℕ) → n < 256 → length (decimal n) ≤ 3
 byte_length n h = decimal-length 2 n (omega arith)
@@ -62,3 +61,12 @@ pub pair-length : (p q : List ℕ) (n m : ℕ)
     → length ((p ++ decimal n) ++ (q ++ decimal m)) ≡ length p + length q + (length (decimal n) + length (decimal m))
 pair-length p q n m =
     rw (length-append (p ++ decimal n) (q ++ decimal m), length-append p (decimal n), length-append q (decimal m)) (omega arith)
+
+-- the library's digits are the same
+pub decimal_is : (n : ℕ) → n < 2 ^ 64 → decimal n ≡ library n
+unfolding digit
+decimal_is n h =
+    decimal_by_steps (λ m ds. decimal m ≡ ds)
+    (λ m l. decimal-one m l)
+    (λ m ds l e. decimal-more m l ∙ ap (λ ds. ds ++ digit (m % 10) ∷ []) e)
+    n h

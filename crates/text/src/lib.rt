@@ -1,9 +1,12 @@
 #![tactic(auto)]
 
 // Text as bytes: words and decimal numbers, stored in a lent buffer from a place on. Each function
-// answers the place after what it stored, and asks for the room that its text takes.
+// answers the place after what it stored, and asks for the room that its text takes. (No heap: the
+// room is lent, and a place in it goes in and comes out.)
 ghost use Rattle.std.specs.Prelude.{◌++◌, ◌+◌, ◌≤◌, length};
 ghost use Rattle.text.specs.Decimal.{decimal, Appended};
+
+use itoa::Buffer;
 
 pub fn word(out: &mut [u8], at: usize, text: &[u8]) -> usize
     requires { at + length text.now ≤ length out.old }
@@ -18,13 +21,8 @@ pub fn number(out: &mut [u8], at: usize, n: usize) -> usize
     requires { at + length (decimal n) ≤ length out.old }
     ensures { Appended out.old at (decimal n) out.new result }
 {
-    if n < 10 {
-        out[at] = 48 + n as u8;
-        return at + 1;
-    }
-    let last = number(out, at, n / 10);
-    out[last] = 48 + (n % 10) as u8;
-    last + 1
+    let mut digits = Buffer::new();
+    word(out, at, digits.format(n).as_bytes())
 }
 
 // A word and a number after it.

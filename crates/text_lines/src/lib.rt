@@ -12,6 +12,13 @@ use text::{labelled, pair, word};
 // The room that a line can take.
 pub const LINE_ROOM: usize = 96;
 
+// How many bytes a program puts on standard output, and how many on standard error.
+#[derive(Clone, Copy)]
+pub struct Output {
+    pub bytes: usize,
+    pub note: usize,
+}
+
 // Two words, each with a number after it, and the line's end.
 fn pair_line(out: &mut [u8], at: usize, first: &[u8], n: usize, second: &[u8], m: usize) -> usize
     requires { at + (length first.now + length second.now) + 41 ≤ length out.old }

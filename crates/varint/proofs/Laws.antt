@@ -1,8 +1,8 @@
 -- The cases of reading and writing a number.
 use Prim.Native.Nat.{ℕ, zero, suc, ◌+◌, ◌-◌, ◌*◌, ◌/◌, ◌%◌, ◌<◌, ◌≤◌}
-use mathlib.Core.Path.{◌≡◌, refl, ◌∙◌, ap, ap₂}
+use mathlib.Core.Path.{◌≡◌, refl, sym, ◌∙◌, ap, ap₂}
 use mathlib.Core.Logic.{◌⊎◌, inl, inr}
-use mathlib.Core.Bool.{true, false}
+use mathlib.Core.Bool.{Bool, true, false}
 use mathlib.Core.List.{List, [], ◌∷◌}
 use lib.ListN.{length, get_or}
 use lib.Seq.{sets, sets-eq}
@@ -91,26 +91,30 @@ bytes-three v h l =
     let e : v / 128 / 128 ≡ v / 16384 = omega arith in
     rw (le-ltb v 128 i, le-ltb (v / 128) 128 j, lt-ltb (v / 128 / 128) 128 k, e)
 
+-- what is answered of a write, and the buffer after it
+abbrev Writes : List ℕ → ℕ → ℕ → Bool → List ℕ → Type 0
+Writes out v n fit new = (n ≡ written_length out v) × (fit ≡ fits out v) × (new ≡ written out v)
+
 -- writing: refused, or the bytes at the front
 module _ (out : List ℕ) (v : ℕ) where
-  refuse : fits out v ≡ false → (0 ≡ written_length out v) × (out ≡ written out v)
+  refuse : fits out v ≡ false → Writes out v 0 false out
   unfolding written written_length
-  refuse h = (rw h, rw h)
+  refuse h = (rw h, sym h, rw h)
 
-  pub too_large : 2097152 ≤ v → (0 ≡ written_length out v) × (out ≡ written out v)
+  pub too_large : 2097152 ≤ v → Writes out v 0 false out
   unfolding fits
   too_large h = refuse (rw (le-ltb v 2097152 h))
 
   module _ (bs : List ℕ) (e : bytes v ≡ bs) (small : v < 2097152) where
-    pub no_room : length out < length bs → (0 ≡ written_length out v) × (out ≡ written out v)
+    pub no_room : length out < length bs → Writes out v 0 false out
     unfolding fits
     no_room h = refuse (rw (lt-ltb v 2097152 small, e, lt-leb (length bs) (length out) h))
 
-    pub room : length bs ≤ length out → (length bs ≡ written_length out v) × (sets out 0 bs ≡ written out v)
+    pub room : length bs ≤ length out → Writes out v (length bs) true (sets out 0 bs)
     unfolding fits written written_length
     room h =
         let f : fits out v ≡ true = rw (lt-ltb v 2097152 small, e, le-leb (length bs) (length out) h) in
-        (rw (f, e), sets-eq bs out 0 (omega arith) ∙ rw (zero-add (length bs), f, e))
+        (rw (f, e), sym f, sets-eq bs out 0 (omega arith) ∙ rw (zero-add (length bs), f, e))
 
 -- what is read: a value and the place after it, or row 1 or 2 where the number begins
 groups-cases : {R : Type 0} (s : List ℕ) (start k unit low at : ℕ)

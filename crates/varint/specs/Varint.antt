@@ -1,11 +1,22 @@
 -- Numbers in one to three groups of seven bits, the low group first, the top bit set on all bytes
 -- but the last (document 01, "The sheet").
-use Rattle.std.specs.Prelude.{ℕ, zero, suc, ◌+◌, ◌-◌, ◌*◌, ◌/◌, ◌%◌, Bool, cond, ◌&&◌, List, [], ◌∷◌, ◌++◌, length, get_or, drop, ltb, leb}
-pub use Rattle.varint.specs.declared.Number.{Number}
+use Rattle.std.specs.Prelude.{Option, Some, None, ℕ, zero, suc, ◌+◌, ◌-◌, ◌*◌, ◌/◌, ◌%◌, Bool, cond, ◌&&◌, List, [], ◌∷◌, ◌++◌, length, get_or, drop, ltb, leb}
+use Rattle.varint.specs.declared.Decoded.{Decoded}
+
+-- What stands at a place of the input: the value and the place after it (refusal 0), or the
+-- refusing row and the place where the number begins, with value 0.
+pub record Number : Type 0 where
+  pub refusal : ℕ
+  pub value : ℕ
+  pub place : ℕ
 
 -- a number that was read: its value and the place after it
 abbrev pub value : ℕ → ℕ → Number
 value v next = record { refusal = 0; value = v; place = next }
+
+-- .. as it is answered
+abbrev pub decoded : Decoded → Number
+decoded d = value d.value d.place
 
 -- a fault: its row and the place where the number begins
 abbrev pub fault : ℕ → ℕ → Number
@@ -51,3 +62,8 @@ written out v = cond (fits out v) (bytes v ++ drop (length (bytes v)) out) out
 -- how many bytes were written
 unfoldable pub written_length : List ℕ → ℕ → ℕ
 written_length out v = cond (fits out v) (length (bytes v)) 0
+
+-- .. where that is not said, none were
+abbrev pub count : Option ℕ → ℕ
+count (Some n) = n
+count None = 0

@@ -8,11 +8,11 @@ use Rattle.automaton_check.proofs.state_below.Goals.{else-limits-e, then-limits-
 
 pub loop-e-init : goal.loop-e-init
 unfolding state_below_to each
-loop-e-init c = (omega arith, refl)
+loop-e-init c = refl
 
 pub loop-e-preserved : goal.loop-e-preserved
-loop-e-preserved c = (omega arith, (elim c.if-limits-e.branch [ then-limits-e w ↦ w.fine-is ∙ state_falls _ _ _ _ _ c.loop-e.invariant.1 w.if-limits-e.true | else-limits-e w ↦ w.fine-is ∙ state_keeps _ _ _ _ _ c.loop-e.invariant.1 w.if-limits-e.false ]))
+loop-e-preserved c = (elim c.if-limits-e.branch [ then-limits-e w ↦ w.fine-is ∙ state_falls _ _ _ _ _ c.loop-e.invariant w.if-limits-e.true | else-limits-e w ↦ w.fine-is ∙ state_keeps _ _ _ _ _ c.loop-e.invariant w.if-limits-e.false ])
 
 pub returns : goal.returns
 unfolding state_below state_below_to
-returns c = let e : c.loop-e.e ≡ 16 = omega arith in rw e at c.loop-e.invariant.1
+returns c = let e : c.loop-e.e ≡ 16 = omega arith in rw e at c.loop-e.invariant

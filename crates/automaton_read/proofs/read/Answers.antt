@@ -1,37 +1,33 @@
-use mathlib.Core.Path.{◌∙◌}
+use Rattle.std.proofs.Common.{◌∙◌, refl, arith}
+use Rattle.refusal.proofs.Numbers.{number_never_0}
+use Rattle.automaton_format.specs.Reading.{refused}
 use Rattle.automaton_format.proofs.Header.{in-range, refused-states, refused-symbols, refused-capacity, refused_start, to_tables}
-use native.Mathlib.Omega.{arith}
+use Rattle.refusal.proofs.Passing.{passed_on}
 use Rattle.automaton_read.proofs.read.Goals as goal
 
-pub returns-then-n-ne0 : goal.returns-then-n-ne0
-returns-then-n-ne0 c = c.refused.ensures ∙ refused-states _ _ c.number-n.ensures c.if-n-ne0.true
+pub returns-in_err-n : goal.returns-in_err-n
+returns-in_err-n c = passed_on _ refused _ _ c.from_residual.ensures.1 ∙ refused-states _ _ c.in_err-n.ensures (number_never_0 _)
 
-pub returns-then-m-ne0 : goal.returns-then-m-ne0
-returns-then-m-ne0 c =
-    c.refused-then-m-ne0.ensures ∙ refused-symbols _ _ c.number-n.ensures c.if-n-ne0.false _ c.number-m.ensures
-    c.if-m-ne0.true
+pub returns-in_err-m : goal.returns-in_err-m
+returns-in_err-m c =
+    passed_on _ refused _ _ c.from_residual-in_err-m.ensures.1 ∙ refused-symbols _ _ c.in_ok-n.ensures refl _ c.in_err-m.ensures (number_never_0 _)
 
-pub returns-then-b-ne0 : goal.returns-then-b-ne0
-returns-then-b-ne0 c =
-    c.refused-then-b-ne0.ensures ∙ refused-capacity _ _ c.number-n.ensures c.if-n-ne0.false _ c.number-m.ensures
-    c.if-m-ne0.false _ c.number-b.ensures c.if-b-ne0.true
+pub returns-in_err-b : goal.returns-in_err-b
+returns-in_err-b c =
+    passed_on _ refused _ _ c.from_residual-in_err-b.ensures.1 ∙ refused-capacity _ _ c.in_ok-n.ensures refl _ c.in_ok-m.ensures refl _ c.in_err-b.ensures (number_never_0 _)
 
-pub returns-then-q-ne0 : goal.returns-then-q-ne0
-returns-then-q-ne0 c =
-    c.refused-then-q-ne0.ensures ∙ refused_start _ _ c.number-n.ensures c.if-n-ne0.false _ c.number-m.ensures
-    c.if-m-ne0.false _ c.number-b.ensures c.if-b-ne0.false _ c.number-q.ensures c.if-q-ne0.true
+pub returns-in_err-q : goal.returns-in_err-q
+returns-in_err-q c =
+    passed_on _ refused _ _ c.from_residual-in_err-q.ensures.1 ∙ refused_start _ _ c.in_ok-n.ensures refl _ c.in_ok-m.ensures refl _ c.in_ok-b.ensures refl _ c.in_err-q.ensures (number_never_0 _)
 
 pub read_tables-requires : goal.read_tables-requires
 read_tables-requires c = (
-  (in-range _ _ _ _ _ _ (omega arith) c.number-n.ensures c.if-n-ne0.false).1,
-  (in-range _ _ _ _ _ _ (omega arith) c.number-m.ensures c.if-m-ne0.false).1,
-  (in-range _ _ _ _ _ _ (omega arith) c.number-b.ensures c.if-b-ne0.false).1,
-  (in-range _ _ _ _ _ _ (omega arith) c.number-q.ensures c.if-q-ne0.false).1,
+  (in-range _ _ _ _ _ _ (omega arith) c.in_ok-n.ensures refl).1,
+  (in-range _ _ _ _ _ _ (omega arith) c.in_ok-m.ensures refl).1,
+  (in-range _ _ _ _ _ _ (omega arith) c.in_ok-b.ensures refl).1,
+  (in-range _ _ _ _ _ _ (omega arith) c.in_ok-q.ensures refl).1,
 )
 
 pub returns : goal.returns
 returns c =
-    c.read_tables.ensures ∙ to_tables _ _ c.number-n.ensures
-    c.if-n-ne0.false _ c.number-m.ensures
-    c.if-m-ne0.false _ c.number-b.ensures
-    c.if-b-ne0.false _ c.number-q.ensures c.if-q-ne0.false
+    c.read_tables.ensures ∙ to_tables _ _ c.in_ok-n.ensures refl _ c.in_ok-m.ensures refl _ c.in_ok-b.ensures refl _ c.in_ok-q.ensures refl

@@ -11,7 +11,7 @@ use Rattle.automaton_symbols.proofs.rank_symbols.Goals.{then-classes-e-eq1, else
 
 pub loop-e-init : goal.loop-e-init
 unfolding controllable_in each.count ranks_to pad
-loop-e-init c = (omega arith, omega arith, refl, refl)
+loop-e-init c = (omega arith, refl, refl)
 
 pub loop-e-preserved : goal.loop-e-preserved
 loop-e-preserved c =
@@ -19,15 +19,13 @@ loop-e-preserved c =
     elim c.if-classes-e-eq1.branch [
       | then-classes-e-eq1 w ↦ (
         omega arith,
-        omega arith,
-        w.count-is ∙ counted _ _ _ v.2 w.if-classes-e-eq1.true,
-        w.ranks-is ∙ rank-set _ _ _ (omega arith) v.3 _ w.if-classes-e-eq1.true (counted _ _ _ v.2 w.if-classes-e-eq1.true),
+        w.count-is ∙ counted _ _ _ v.1 w.if-classes-e-eq1.true,
+        w.ranks-is ∙ rank-set _ _ _ (omega arith) v.2 _ w.if-classes-e-eq1.true (counted _ _ _ v.1 w.if-classes-e-eq1.true),
       )
       | else-classes-e-eq1 w ↦ (
         omega arith,
-        omega arith,
-        w.count-is ∙ passed _ _ _ v.2 w.if-classes-e-eq1.false,
-        w.ranks-is ∙ rank-none _ _ _ (omega arith) v.3 w.if-classes-e-eq1.false,
+        w.count-is ∙ passed _ _ _ v.1 w.if-classes-e-eq1.false,
+        w.ranks-is ∙ rank-none _ _ _ (omega arith) v.2 w.if-classes-e-eq1.false,
       )
     ]
 
@@ -35,4 +33,4 @@ pub returns : goal.returns
 unfolding ranking_of
 returns c =
     let e : c.loop-e.e ≡ c.args.m = omega arith in
-    rw (c.as_u32.ensures.0, c.loop-e.invariant.2, c.loop-e.invariant.3, e)
+    rw (c.from.ensures, c.loop-e.invariant.1, c.loop-e.invariant.2, e)

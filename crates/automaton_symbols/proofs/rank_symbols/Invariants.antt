@@ -1,5 +1,5 @@
 use mathlib.Core.Path.{◌≡◌}
-use Prim.Native.Nat.{◌≤◌, ◌-◌}
+use Prim.Native.Nat.{◌≤◌}
 use Rattle.base.specs.Pad.{pad}
 use Rattle.automaton.specs.Arrays.{controllable_in}
 use Rattle.automaton_symbols.specs.Symbols.{ranks_to}
@@ -7,7 +7,4 @@ use Rattle.automaton_symbols.proofs.rank_symbols.Given as goal
 
 abbrev pub invariant-loop-e : goal.invariant-loop-e
 invariant-loop-e l =
-    (l.e ≤ l.m) × (l.count ≤ l.e) × (l.count ≡ controllable_in l.classes l.e) × (l.ranks ≡ pad 16 (ranks_to l.classes l.e))
-
-abbrev pub decreases-loop-e : goal.decreases-loop-e
-decreases-loop-e l = l.m - l.e
+    (l.count ≤ l.e) × (l.count ≡ controllable_in l.classes l.e) × (l.ranks ≡ pad 16 (ranks_to l.classes l.e))

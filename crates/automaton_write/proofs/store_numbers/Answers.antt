@@ -7,48 +7,48 @@ use native.Mathlib.Omega.{arith}
 use Rattle.automaton_write.proofs.store_numbers.Goals as goal
 
 pub store_four-requires : goal.store_four-requires
-store_four-requires c = let room : let t = c.args.a in
-    4 + t.symbols + t.states + t.states * t.symbols ≤ length c.args.out.now = let stands : Valid c.args.a = valid_facts c.args.a c.requires.0 in
-    omega (arith, numbers-length c.args.a (stands), c.requires.1) in
+store_four-requires c = let room : let t = c.args.a.now in
+    4 + t.symbols + t.states + t.states * t.symbols ≤ length c.args.out.now = let stands : Valid c.args.a.now = valid_facts c.args.a.now c.requires.0 in
+    omega (arith, numbers-length c.args.a.now (stands), c.requires.1) in
     let l : 4 ≤ length c.args.out.now = omega (arith, room) in
     l
 
 pub copy-requires : goal.copy-requires
-copy-requires c = let stands : Valid c.args.a = valid_facts c.args.a c.requires.0 in
-    let room : let t = c.args.a in
-    4 + t.symbols + t.states + t.states * t.symbols ≤ length c.args.out.now = let stands : Valid c.args.a = valid_facts c.args.a c.requires.0 in
-    omega (arith, numbers-length c.args.a (stands), c.requires.1) in
+copy-requires c = let stands : Valid c.args.a.now = valid_facts c.args.a.now c.requires.0 in
+    let room : let t = c.args.a.now in
+    4 + t.symbols + t.states + t.states * t.symbols ≤ length c.args.out.now = let stands : Valid c.args.a.now = valid_facts c.args.a.now c.requires.0 in
+    omega (arith, numbers-length c.args.a.now (stands), c.requires.1) in
     let v = stands in
-    let z = c.as_usize-m.ensures.0 in
-    let l : 4 + c.as_usize-m.result ≤ length c.store_four.new.out = omega (arith, room, z, c.store_four.auto.out) in
+    let z = c.from-m.ensures in
+    let l : 4 + c.from-m.result ≤ length c.store_four.new.out = omega (arith, room, z, c.store_four.auto.out) in
     (omega (arith, z, v.classes-length, v.symbols-high), l)
 
 pub copy-requires-2 : goal.copy-requires-2
-copy-requires-2 c = let stands : Valid c.args.a = valid_facts c.args.a c.requires.0 in
-    let room : let t = c.args.a in
-    4 + t.symbols + t.states + t.states * t.symbols ≤ length c.args.out.now = let stands : Valid c.args.a = valid_facts c.args.a c.requires.0 in
-    omega (arith, numbers-length c.args.a (stands), c.requires.1) in
+copy-requires-2 c = let stands : Valid c.args.a.now = valid_facts c.args.a.now c.requires.0 in
+    let room : let t = c.args.a.now in
+    4 + t.symbols + t.states + t.states * t.symbols ≤ length c.args.out.now = let stands : Valid c.args.a.now = valid_facts c.args.a.now c.requires.0 in
+    omega (arith, numbers-length c.args.a.now (stands), c.requires.1) in
     let v = stands in
-    let z = c.as_usize-m.ensures.0 in
-    let y = c.as_usize-n.ensures.0 in
-    let l : 4 + c.as_usize-m.result + c.as_usize-n.result ≤ length c.copy.new.out =
+    let z = c.from-m.ensures in
+    let y = c.from-n.ensures in
+    let l : 4 + c.from-m.result + c.from-n.result ≤ length c.copy.new.out =
     omega (arith, room, z, y, c.store_four.auto.out, c.copy.auto.out) in
     (omega (arith, y, v.accepting-length, v.states-high), l)
 
 pub store_states-requires : goal.store_states-requires
-store_states-requires c = let stands : Valid c.args.a = valid_facts c.args.a c.requires.0 in
-    let room : let t = c.args.a in
-    4 + t.symbols + t.states + t.states * t.symbols ≤ length c.args.out.now = let stands : Valid c.args.a = valid_facts c.args.a c.requires.0 in
-    omega (arith, numbers-length c.args.a (stands), c.requires.1) in
+store_states-requires c = let stands : Valid c.args.a.now = valid_facts c.args.a.now c.requires.0 in
+    let room : let t = c.args.a.now in
+    4 + t.symbols + t.states + t.states * t.symbols ≤ length c.args.out.now = let stands : Valid c.args.a.now = valid_facts c.args.a.now c.requires.0 in
+    omega (arith, numbers-length c.args.a.now (stands), c.requires.1) in
     let v = stands in
-    let l : 4 + c.as_usize-m.result + c.as_usize-n.result + c.as_usize-n.result * c.as_usize-m.result ≤ length c.copy-2.new.out =
-    rw (c.as_usize-m.ensures.0, c.as_usize-n.ensures.0)
+    let l : 4 + c.from-m.result + c.from-n.result + c.from-n.result * c.from-m.result ≤ length c.copy-2.new.out =
+    rw (c.from-m.ensures, c.from-n.ensures)
     (omega (arith, room, c.store_four.auto.out, c.copy.auto.out, c.copy-2.auto.out)) in
-    (omega (arith, c.as_usize-n.ensures.0, v.states-high), omega (arith, c.as_usize-m.ensures.0, v.symbols-high), l)
+    (omega (arith, c.from-n.ensures, v.states-high), omega (arith, c.from-m.ensures, v.symbols-high), l)
 
 pub returns : goal.returns
-returns c = let stands : Valid c.args.a = valid_facts c.args.a c.requires.0 in
+returns c = let stands : Valid c.args.a.now = valid_facts c.args.a.now c.requires.0 in
     let a = c.args in
     c.store_states.ensures ∙
-    rw (c.copy-2.ensures, c.copy.ensures, c.store_four.ensures, c.as_usize-n.ensures.0, c.as_usize-m.ensures.0)
-    (parts_join a.a (stands) a.out.now)
+    rw (c.copy-2.ensures, c.copy.ensures, c.store_four.ensures, c.from-n.ensures, c.from-m.ensures)
+    (parts_join a.a.now (stands) a.out.now)

@@ -2,12 +2,8 @@ use Rattle.automaton_format.specs.Writing.{next_numbers}
 use lib.Seq.{sets}
 use lib.ListN.{length}
 use mathlib.Core.Path.{◌≡◌}
-use Prim.Native.Nat.{◌≤◌, ◌-◌}
 use Rattle.automaton_write.proofs.store_states.Given as goal
 
 -- The next states, state by state.
 abbrev pub invariant-loop-q : goal.invariant-loop-q
-invariant-loop-q l = (l.q ≤ l.n) × (length l.out ≡ length l.initial.out) × (l.out ≡ sets l.initial.out l.at (next_numbers l.next l.m l.q))
-
-abbrev pub decreases-loop-q : goal.decreases-loop-q
-decreases-loop-q l = l.n - l.q
+invariant-loop-q l = (length l.out ≡ length l.initial.out) × (l.out ≡ sets l.initial.out l.at (next_numbers l.next l.m l.q))

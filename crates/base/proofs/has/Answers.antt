@@ -1,6 +1,5 @@
 use mathlib.Core.Path.{refl}
 use Rattle.base.specs.Masks.{has}
-use borrow.Author.Rules.{rules}
 use Rattle.base.proofs.has.Goals as goal
 
 pub returns : goal.returns

@@ -1,4 +1,3 @@
-use Prim.Native.Nat.{◌-◌, ◌≤◌}
 use mathlib.Core.Path.{◌≡◌}
 use mathlib.Core.List.{map}
 use lib.ListN.{take}
@@ -9,7 +8,4 @@ use Rattle.c_places.proofs.held_places.Given as goal
 
 abbrev pub invariant-loop-i : goal.invariant-loop-i
 invariant-loop-i l =
-    (l.i ≤ 6) × (l.places ≡ pad_places 6 (take l.i (map input_place (places_of max_capacity configuration_places l.bytes))))
-
-abbrev pub decreases-loop-i : goal.decreases-loop-i
-decreases-loop-i l = 6 - l.i
+    l.places ≡ pad_places 6 (take l.i (map input_place (places_of max_capacity configuration_places l.bytes)))

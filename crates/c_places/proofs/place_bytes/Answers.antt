@@ -1,7 +1,6 @@
-use mathlib.Core.Path.{refl}
-use Rattle.c_layout.specs.Layout.{number_bytes}
+use Rattle.std.proofs.Common.{◌∙◌}
+use Rattle.c_layout.proofs.Bytes.{place-le}
 use Rattle.c_places.proofs.place_bytes.Goals as goal
 
 pub returns : goal.returns
-unfolding number_bytes
-returns c = refl
+returns c = c.to_le_bytes.ensures ∙ place-le c.args.value

@@ -9,5 +9,6 @@ pub returns : goal.returns
 returns c =
     let k = c.args.c in
     let six : length k.buffer ≡ max_capacity = search rules in
-    configuration-laid k _ _ _ _ _ _ _ six c.held_bytes-places.ensures.1 c.held_bytes-places.ensures.0 c.place_bytes-received.ensures
-    c.place_bytes-emitted.ensures c.copy.ensures c.copy-2.ensures c.copy-3.ensures c.copy-4.ensures
+    let places-six : length k.places ≡ max_capacity = search rules in
+    configuration-laid k _ _ _ _ _ _ six places-six c.place_bytes-received.ensures c.place_bytes-emitted.ensures c.copy.ensures
+    c.lay_places.ensures c.copy-2.ensures c.copy-3.ensures

@@ -12,7 +12,6 @@ loop-i-preserved c =
     let i = c.loop-i.i in
     let so = c.loop-i.invariant in
     record {
-      upto = omega arith;
       so_far = held_more x.limits x.classes.now cs i _ c.loop-i.sum _ _ c.loop-i-test.true c.held_in-sum.ensures.0 so.so_far;
       small = omega (arith, c.held_in-sum.ensures.2);
       stored = marks_more x.limits x.classes.now c.loop-i.marks cs i _ _ _ c.loop-i-test.true c.held_in-sum.ensures.1 so.stored;

@@ -1,4 +1,4 @@
-use Rattle.std.proofs.Common.{◌≡◌, ◌+◌, ◌-◌, ◌*◌, ◌≤◌, length, drop}
+use Rattle.std.proofs.Common.{◌≡◌, ◌+◌, ◌*◌, ◌≤◌, drop}
 use Rattle.std.proofs.lemmas.List.Edits.{sets}
 use Rattle.clients_day.specs.Days.{held_in_all_by, marks_by}
 use Rattle.clients_day.proofs.held_in_all.Given as goal
@@ -8,11 +8,7 @@ abbrev pub invariant-loop-i : goal.invariant-loop-i
 invariant-loop-i l =
     let cs = l.configurations in
     record {
-      upto : l.i ≤ length cs;
       so_far : l.sum + held_in_all_by l.limits l.classes (drop l.i cs) ≡ held_in_all_by l.limits l.classes cs;
       small : l.sum ≤ l.i * 255;
       stored : sets l.marks l.i (marks_by l.limits l.classes (drop l.i cs)) ≡ sets l.initial.marks 0 (marks_by l.limits l.classes cs);
     }
-
-abbrev pub decreases-loop-i : goal.decreases-loop-i
-decreases-loop-i l = length l.configurations - l.i

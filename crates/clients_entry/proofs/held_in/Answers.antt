@@ -1,5 +1,4 @@
-use mathlib.Core.Path.{◌∙◌, sym}
-use native.Mathlib.Omega.{arith}
+use Rattle.std.proofs.Common.{◌∙◌, ◌<◌, sym, arith, rules}
 use Rattle.clients_entry.specs.Entries.{held_in_by, mark_by}
 use Rattle.clients_entry.proofs.held_in.Goals as goal
 
@@ -11,4 +10,5 @@ pub returns : goal.returns
 unfolding held_in_by mark_by
 returns c =
     let k = sym c.consistent.ensures ∙ c.if-not-consistent.false in
-    (rw k c.as_usize.ensures.0, rw k, c.as_usize.ensures.1)
+    let low : c.args.c.held < 256 = search rules in
+    (rw k c.from.ensures, rw k, omega arith)

@@ -28,29 +28,29 @@ small c = search rules
 
 -- the row before any search
 early : (c : After-early_row-row) → let x = c.args in
-    Early x.limits x.next.now x.ranks.now x.table.now x.c x.event c.as_usize-held.result c.early_row-row.result
+    Early x.limits x.next.now x.ranks.now x.table.now x.c x.event c.from-held.result c.early_row-row.result
 early c =
     record {
       capacity = _;
-      capacity-is = c.as_usize.ensures.0;
-      held-is = c.as_usize-held.ensures.0;
+      capacity-is = c.from.ensures;
+      held-is = c.from-held.ensures;
       row_is = c.early_row-row.ensures;
     }
 
 -- it is taken at a full buffer, or there is room
 took : (c : Joined-row-eq15) → (let x = c.args in
-    Early x.limits x.next.now x.ranks.now x.table.now x.c x.event c.as_usize-held.result c.early_row-row.result)
+    Early x.limits x.next.now x.ranks.now x.table.now x.c x.event c.from-held.result c.early_row-row.result)
     → let x = c.args in
     Takes x.limits x.next.now x.ranks.now x.table.now x.c x.event x.at x.out.now c.if-row-eq15.after c.if-row-eq15.out
 took c y =
     elim c.if-row-eq15.branch [
       | then-row-eq15 w ↦
           rw (w.out-is, w.after-is)
-          (takes_overflowed y w.if-row-eq15.true _ w.as_usize-then-row-eq15.ensures.0 _ _ w.overflow-after.ensures.0 _ _ w.overflow-after.ensures.1)
+          (takes_overflowed y w.if-row-eq15.true _ w.from-then-row-eq15.ensures _ _ w.overflow-after.ensures.0 _ _ w.overflow-after.ensures.1)
       | else-row-eq15 w ↦
           let fits = refuses-none _ (sym c.refuses.ensures ∙ c.if-refuses.false) w.if-row-eq15.false in
           rw (w.out-is, w.after-is)
-          (takes_stepped y fits _ w.as_usize-else-row-eq15.ensures.0 _ _ w.step-after.ensures.0 _ _ w.step-after.ensures.1)
+          (takes_stepped y fits _ w.from-else-row-eq15.ensures _ _ w.step-after.ensures.0 _ _ w.step-after.ensures.1)
     ]
 
 pub bounds-marks-client : goal.bounds-marks-client
@@ -81,7 +81,7 @@ overflow_cast-event c =
 pub overflow-after-requires : goal.overflow-after-requires
 overflow-after-requires c =
     let p = goal.at.overflow-after-requires c in
-    fill_ready (early p.After-early_row-row) c.if-row-eq15.true _ c.as_usize-then-row-eq15.ensures.0 _ (enters p.Else-marks-client-eq0)
+    fill_ready (early p.After-early_row-row) c.if-row-eq15.true _ c.from-then-row-eq15.ensures _ (enters p.Else-marks-client-eq0)
     _ (room p.Else-marks-client-eq0) (small p.Else-marks-client-eq0)
 
 pub overflow_cast-event-else-row-eq15 : goal.overflow_cast-event-else-row-eq15
@@ -94,7 +94,7 @@ pub step-after-requires : goal.step-after-requires
 step-after-requires c =
     let p = goal.at.step-after-requires c in
     let fits = refuses-none _ (sym c.refuses.ensures ∙ c.if-refuses.false) c.if-row-eq15.false in
-    take_ready (early p.After-early_row-row) fits _ c.as_usize-else-row-eq15.ensures.0 _ (enters p.Else-marks-client-eq0)
+    take_ready (early p.After-early_row-row) fits _ c.from-else-row-eq15.ensures _ (enters p.Else-marks-client-eq0)
     _ (room p.Else-marks-client-eq0) (small p.Else-marks-client-eq0)
 
 pub shape_of-out-then-after-ne0 : goal.shape_of-out-then-after-ne0

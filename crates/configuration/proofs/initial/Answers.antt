@@ -8,4 +8,4 @@ returns-then-valid c = rw (sym c.valid.ensures ∙ c.if-valid.true, c.empty.ensu
 
 pub returns : goal.returns
 unfolding initial_answer
-returns c = rw (sym c.valid.ensures ∙ c.if-valid.false, c.empty-2.ensures)
+returns c = rw (sym c.valid.ensures ∙ c.if-valid.false)

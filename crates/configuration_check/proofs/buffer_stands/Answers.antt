@@ -16,21 +16,19 @@ place symbols classes held buffer i = place_stands symbols classes (ltb i held) 
 
 pub loop-i-init : goal.loop-i-init
 unfolding each
-loop-i-init c = (omega arith, refl)
+loop-i-init c = refl
 
 pub loop-i-preserved : goal.loop-i-preserved
 loop-i-preserved c =
     let a = c.args in
     let l = c.loop-i in
     let p = place a.symbols a.classes.now a.held a.buffer.now in
-    let e = sym c.place_stands.ensures in (
-      omega arith,
-      elim c.if-not-place_stands.branch [
-        | then-not-place_stands w ↦ w.fine-is ∙ each_falls p l.i l.fine l.invariant.1 (e ∙ w.if-not-place_stands.true)
-        | else-not-place_stands w ↦ w.fine-is ∙ each_keeps p l.i l.fine l.invariant.1 (e ∙ w.if-not-place_stands.false)
-      ],
-    )
+    let e = sym c.place_stands.ensures in
+    elim c.if-not-place_stands.branch [
+      | then-not-place_stands w ↦ w.fine-is ∙ each_falls p l.i l.fine l.invariant (e ∙ w.if-not-place_stands.true)
+      | else-not-place_stands w ↦ w.fine-is ∙ each_keeps p l.i l.fine l.invariant (e ∙ w.if-not-place_stands.false)
+    ]
 
 pub returns : goal.returns
 unfolding buffer_stands
-returns c = let e : c.loop-i.i ≡ 6 = omega arith in rw e at c.loop-i.invariant.1
+returns c = let e : c.loop-i.i ≡ 6 = omega arith in rw e at c.loop-i.invariant

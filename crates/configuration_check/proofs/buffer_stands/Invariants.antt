@@ -3,11 +3,7 @@ use Rattle.base.specs.Each.{each}
 use lib.Dec.{ltb}
 use lib.ListN.{get_or}
 use mathlib.Core.Path.{◌≡◌}
-use Prim.Native.Nat.{◌≤◌, ◌-◌}
 use Rattle.configuration_check.proofs.buffer_stands.Given as goal
 
 abbrev pub invariant-loop-i : goal.invariant-loop-i
-invariant-loop-i l = (l.i ≤ 6) × (l.fine ≡ each l.i (λ i. place_stands l.symbols l.classes (ltb i l.held) (get_or l.buffer i 0)))
-
-abbrev pub decreases-loop-i : goal.decreases-loop-i
-decreases-loop-i l = 6 - l.i
+invariant-loop-i l = l.fine ≡ each l.i (λ i. place_stands l.symbols l.classes (ltb i l.held) (get_or l.buffer i 0))

@@ -19,21 +19,21 @@ returns-then-capacity-c c = fails _ _ _ _ _ (λ p. omega (arith, p.few))
 
 pub returns-then-not-counts_fit : goal.returns-then-not-counts_fit
 returns-then-not-counts_fit c = let counts : let x = c.args.c in
-    c.counts_fit.result ≡ eqb (x.emitted.0 + x.held) x.received.0 = rw c.as_u32.ensures.0 at c.counts_fit.ensures in
+    c.counts_fit.result ≡ eqb (x.emitted.0 + x.held) x.received.0 = rw c.from.ensures at c.counts_fit.ensures in
     fails _ _ _ _ _ (λ p. clash (counts ∙ p.counts) (c.if-not-counts_fit.true))
 
 pub returns-then-not-inputs_stand : goal.returns-then-not-inputs_stand
 returns-then-not-inputs_stand c = let inputs : let x = c.args.c in
-    c.inputs_stand.result ≡ inputs_stand x.held x.received.0 (map input_number x.places) = rw c.as_usize-held.ensures.0 at c.inputs_stand.ensures.0 in
+    c.inputs_stand.result ≡ inputs_stand x.held x.received.0 (map input_number x.places) = rw c.from-held.ensures at c.inputs_stand.ensures.0 in
     fails _ _ _ _ _ (λ p. clash (inputs ∙ p.inputs) (c.if-not-inputs_stand.true))
 
 pub returns : goal.returns
 returns c = let long : length c.args.c.buffer ≡ 6 = search rules in
     let inputs : let x = c.args.c in
-    c.inputs_stand.result ≡ inputs_stand x.held x.received.0 (map input_number x.places) = rw c.as_usize-held.ensures.0 at c.inputs_stand.ensures.0 in
+    c.inputs_stand.result ≡ inputs_stand x.held x.received.0 (map input_number x.places) = rw c.from-held.ensures at c.inputs_stand.ensures.0 in
     let counts : let x = c.args.c in
-    c.counts_fit.result ≡ eqb (x.emitted.0 + x.held) x.received.0 = rw c.as_u32.ensures.0 at c.counts_fit.ensures in
-    rw c.as_usize-held.ensures.0 at c.buffer_stands.ensures ∙
+    c.counts_fit.result ≡ eqb (x.emitted.0 + x.held) x.received.0 = rw c.from.ensures at c.counts_fit.ensures in
+    rw c.from-held.ensures at c.buffer_stands.ensures ∙
     decides _ _ _ _ _ (long) c.inputs_stand.ensures.1 (record {
       state_low = omega (arith, c.if-states-c.false);
       few = omega (arith, c.if-capacity-c.false);

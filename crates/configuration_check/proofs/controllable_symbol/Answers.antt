@@ -9,4 +9,4 @@ returns-then-symbols-e c = rw (le-ltb c.args.e c.args.symbols (omega arith))
 
 pub returns : goal.returns
 unfolding controllable_symbol
-returns c = let a = c.args in rw (lt-ltb a.e a.symbols (omega arith), c.class_at.ensures, c.as_usize.ensures.0)
+returns c = let a = c.args in rw (lt-ltb a.e a.symbols (omega arith), c.class_at.ensures, c.from.ensures)

@@ -1,5 +1,6 @@
-use mathlib.Core.Path.{◌≡◌}
+use mathlib.Core.Path.{◌≡◌, ◌∙◌}
 use mathlib.Core.Bool.{true, false}
+use Rattle.configuration_check.proofs.Laws.{before-ltb}
 use Rattle.configuration_check.proofs.input_stands.Goals as goal
 
 pub returns-then-not-used : goal.returns-then-not-used
@@ -17,4 +18,4 @@ returns c =
     let a = c.args in
     let u : a.used ≡ true = c.if-not-used.false in
     let r : a.rises ≡ true = c.if-not-rises.false in
-    rw (u, r)
+    c.lt.ensures ∙ before-ltb a.place.0 a.received.0 ∙ rw (u, r)

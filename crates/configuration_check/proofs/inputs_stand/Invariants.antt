@@ -1,4 +1,3 @@
-use Prim.Native.Nat.{◌≤◌, ◌-◌}
 use mathlib.Core.Path.{◌≡◌}
 use mathlib.Core.List.{map}
 use Rattle.base.specs.Each.{each}
@@ -8,7 +7,4 @@ use Rattle.configuration_check.proofs.inputs_stand.Given as goal
 
 abbrev pub invariant-loop-i : goal.invariant-loop-i
 invariant-loop-i l =
-    (l.i ≤ 6) × (l.fine ≡ each l.i (input_stands l.held (input_number l.received) (map input_number l.places)))
-
-abbrev pub decreases-loop-i : goal.decreases-loop-i
-decreases-loop-i l = 6 - l.i
+    l.fine ≡ each l.i (input_stands l.held (input_number l.received) (map input_number l.fn.places))

@@ -11,10 +11,10 @@ pub returns-then-winning : goal.returns-then-winning
 unfolding ascii winning_end
 returns-then-winning c = rw c.if-winning.true c.word.ensures
 
-pub word-requires-2 : goal.word-requires-2
+pub word-requires-else-winning : goal.word-requires-else-winning
 unfolding ascii winning_end
-word-requires-2 c = omega arith
+word-requires-else-winning c = omega arith
 
-pub returns : goal.returns
+pub returns-else-winning : goal.returns-else-winning
 unfolding ascii winning_end
-returns c = rw c.if-winning.false c.word-2.ensures
+returns-else-winning c = rw c.if-winning.false c.word-else-winning.ensures

@@ -6,4 +6,4 @@ pub returns-then-answer-ne0 : goal.returns-then-answer-ne0
 returns-then-answer-ne0 c = said (answer-refused _ _ c.if-answer-ne0.true) c.refused_event_line.ensures
 
 pub returns : goal.returns
-returns c = said (answer-accepted _ _ c.if-answer-ne0.false) (rw c.as_usize-count.ensures.0 at c.event_line.ensures)
+returns c = said (answer-accepted _ _ c.if-answer-ne0.false) (rw c.from-count.ensures at c.event_line.ensures)

@@ -19,11 +19,11 @@ pub loop-out-preserved : goal.loop-out-preserved
 loop-out-preserved c =
     again c.loop-out.invariant c.line-step.ensures
 
-pub shape_of-out-then-out-at-lt-LINE_ROOM : goal.shape_of-out-then-out-at-lt-LINE_ROOM
-shape_of-out-then-out-at-lt-LINE_ROOM c = kept-length c.loop-out.invariant
+pub shape_of-out-after-loop-out : goal.shape_of-out-after-loop-out
+shape_of-out-after-loop-out c = kept-length c.loop-out.invariant
 
-pub returns-then-out-at-lt-LINE_ROOM : goal.returns-then-out-at-lt-LINE_ROOM
-returns-then-out-at-lt-LINE_ROOM c = record { continued = c.loop-out.invariant; progress_value = λ room z. absurd (omega (arith, kept-length c.loop-out.invariant)) }
+pub returns-after-loop-out : goal.returns-after-loop-out
+returns-after-loop-out c = record { continued = c.loop-out.invariant; progress_value = λ room z. absurd (omega (arith, kept-length c.loop-out.invariant)) }
 
 pub shape_of-out-then-step-at : goal.shape_of-out-then-step-at
 shape_of-out-then-step-at c =

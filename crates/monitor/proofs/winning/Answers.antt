@@ -1,13 +1,8 @@
 use mathlib.Core.Path.{◌∙◌, sym}
-use borrow.Author.Rules.{rules}
-use Rattle.automaton.proofs.Whole.{shapes}
 use Rattle.monitor_rule.proofs.Searching.{rests_asks}
 use Rattle.monitor_entry.proofs.Entries.{entered, entered_opened}
 use Rattle.monitor.proofs.Receiving.{lent_at, rest_is, status-stands, status-refuses, status-answers}
 use Rattle.monitor.proofs.winning.Goals as goal
-
-pub enter-entry-requires : goal.enter-entry-requires
-enter-entry-requires c = shapes _ (search rules) (search rules) (search rules)
 
 pub returns-then-entry-ne0 : goal.returns-then-entry-ne0
 returns-then-entry-ne0 c =
@@ -23,11 +18,11 @@ pub rests-requires : goal.rests-requires
 rests-requires c =
     let o = entered_opened _ _ _ c.enter-entry.ensures c.if-entry-ne0.false in
     let stands = sym c.consistent.ensures ∙ c.if-not-consistent.false in
-    rests_asks (lent_at _ _ o.0 _ o.1 _ stands) _ _ c.as_usize.ensures.0 c.as_usize-2.ensures.0
+    rests_asks (lent_at _ _ o.0 _ o.1 _ stands) _ _ c.from.ensures c.from-2.ensures
 
 pub returns : goal.returns
 returns c =
     let o = entered_opened _ _ _ c.enter-entry.ensures c.if-entry-ne0.false in
     let stands = sym c.consistent.ensures ∙ c.if-not-consistent.false in
     status-answers _ _ _ o.0 stands _
-    (rest_is _ _ o.0 _ o.1 _ stands _ (rw (c.as_usize-2.ensures.0, c.as_usize.ensures.0) at c.rests.ensures))
+    (rest_is _ _ o.0 _ o.1 _ stands _ (rw (c.from-2.ensures, c.from.ensures) at c.rests.ensures))

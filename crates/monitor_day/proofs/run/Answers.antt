@@ -2,15 +2,10 @@ use Prim.Native.Nat.{◌+◌, ◌<◌, ◌≤◌}
 use mathlib.Core.Path.{◌∙◌, sym}
 use lib.ListN.{length}
 use native.Mathlib.Omega.{arith}
-use borrow.Author.Rules.{rules}
-use Rattle.automaton.proofs.Whole.{shapes}
 use Rattle.monitor_entry.proofs.Entries.{entered, entered_opened}
 use Rattle.monitor_loop.proofs.Taking.{lends, enters}
 use Rattle.monitor_day.proofs.Days.{run-stands, run-refuses, run-lacks-room, run-goes}
 use Rattle.monitor_day.proofs.run.Goals as goal
-
-pub enter-entry-requires : goal.enter-entry-requires
-enter-entry-requires c = shapes _ (search rules) (search rules) (search rules)
 
 pub returns-then-entry-ne0 : goal.returns-then-entry-ne0
 returns-then-entry-ne0 c =
@@ -28,7 +23,7 @@ returns-then-out-held c =
     let o = entered_opened _ _ _ c.enter-entry.ensures c.if-entry-ne0.false in
     let stands = sym c.consistent.ensures ∙ c.if-not-consistent.false in
     let x = c.args in
-    let l : length x.out.now < length x.events.now + x.c.held = omega (arith, c.as_usize-held.ensures.0, c.if-out-held.true) in
+    let l : length x.out.now < length x.events.now + x.c.held = omega (arith, c.from-held.ensures, c.if-out-held.true) in
     let r = run-lacks-room _ _ _ _ _ o.0 stands l in
     (c.refused_run-then-out-held.ensures ∙ r.0, r.1)
 
@@ -38,7 +33,7 @@ returns-then-out-held-2 c =
     let stands = sym c.consistent.ensures ∙ c.if-not-consistent.false in
     let x = c.args in
     let l : length x.out.now < length x.events.now + x.c.held =
-    omega (arith, c.as_usize-held.ensures.0, c.if-out-held-2.true, c.if-out-held.false)
+    omega (arith, c.from-held.ensures, c.if-out-held-2.true, c.if-out-held.false)
     in
     let r = run-lacks-room _ _ _ _ _ o.0 stands l in
     (c.refused_run-then-out-held-2.ensures ∙ r.0, r.1)
@@ -47,7 +42,7 @@ pub process-requires : goal.process-requires
 process-requires c =
     let o = entered_opened _ _ _ c.enter-entry.ensures c.if-entry-ne0.false in
     let stands = sym c.consistent.ensures ∙ c.if-not-consistent.false in
-    (enters (lends _ _ o.0 _ o.1) stands, omega (arith, c.as_usize-held.ensures.0, c.if-out-held-2.false, c.if-out-held.false))
+    (enters (lends _ _ o.0 _ o.1) stands, omega (arith, c.from-held.ensures, c.if-out-held-2.false, c.if-out-held.false))
 
 pub returns : goal.returns
 returns c =
@@ -55,7 +50,7 @@ returns c =
     let stands = sym c.consistent.ensures ∙ c.if-not-consistent.false in
     let x = c.args in
     let room : length x.events.now + x.c.held ≤ length x.out.now =
-    omega (arith, c.as_usize-held.ensures.0, c.if-out-held-2.false, c.if-out-held.false)
+    omega (arith, c.from-held.ensures, c.if-out-held-2.false, c.if-out-held.false)
     in
     let f = c.process.ensures _ (lends _ _ o.0 _ o.1) stands in
     let r = run-goes _ _ _ x.events.now x.out.now o.0 stands room in

@@ -2,4 +2,4 @@ use Rattle.monitor_loop.proofs.derive.Goals as goal
 
 -- src/lib.rt:42:1
 pub returns : goal.returns
-returns c = rw c.as_u32.ensures.0
+returns c = rw c.from.ensures

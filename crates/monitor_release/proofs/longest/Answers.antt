@@ -12,4 +12,4 @@ returns-then-count-eq0 c = rw c.if-count-eq0.true
 pub returns : goal.returns
 returns c =
     let n : c.args.count - 1 + 1 ≡ c.args.count = omega arith in
-    c.as_usize.ensures.0 ∙ rw n at (sym (last-first 0 c.args.lengths.now (c.args.count - 1) (omega (arith, c.requires))))
+    c.from.ensures ∙ rw n at (sym (last-first 0 c.args.lengths.now (c.args.count - 1) (omega (arith, c.requires))))

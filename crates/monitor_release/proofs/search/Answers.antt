@@ -21,7 +21,7 @@ keep-found-requires c =
 
 pub bounds-next-p : goal.bounds-next-p
 bounds-next-p c =
-    omega (arith, c.as_usize.ensures.0, c.requires.3 c.loop-r.r, c.loop-r.invariant.1)
+    omega (arith, c.from.ensures, c.requires.3 c.loop-r.r, c.loop-r.invariant.1)
 
 pub loop-r-preserved : goal.loop-r-preserved
 loop-r-preserved c = let asked : let a = c.args in
@@ -33,12 +33,12 @@ loop-r-preserved c = let asked : let a = c.args in
     _ c.keep-found.ensures.0 _ c.keep-found.ensures.1 in
     let a = c.args in
     let v = c.loop-r.invariant in
-    let m = c.as_usize in
+    let m = c.from in
     let h : c.loop-r.r < a.held = omega (arith, v.0) in (
       omega arith,
-      omega (arith, c.as_usize-p.ensures.0, c.requires.2 (c.loop-r.p * 16 + m.result)),
+      omega (arith, c.from-p.ensures, c.requires.2 (c.loop-r.p * 16 + m.result)),
       v.2,
-      searching_goes_on _ _ _ _ (asked) (omega (arith, v.2)) _ (next-state [] a.next.now a.buffer a.held c.loop-r.p c.loop-r.r _ _ h m.ensures.0 c.as_usize-p.ensures.0),
+      searching_goes_on _ _ _ _ (asked) (omega (arith, v.2)) _ (next-state [] a.next.now a.buffer a.held c.loop-r.p c.loop-r.r _ _ h m.ensures c.from-p.ensures),
     )
 
 pub returns : goal.returns

@@ -1,4 +1,3 @@
-use Prim.Native.Nat.{◌≤◌}
 use mathlib.Core.Path.{◌≡◌}
 use lib.ListN.{length, take}
 use Rattle.monitor_rule.proofs.Numbers.{Reading}
@@ -6,7 +5,4 @@ use Rattle.monitor_release.proofs.winning_sets.Given as goal
 
 abbrev pub invariant-loop-i : goal.invariant-loop-i
 invariant-loop-i l =
-    (l.i ≤ l.held) × (length (take l.held l.buffer) ≡ l.held) × Reading l.table l.ranks l.k (take l.held l.buffer) l.winning l.index l.weight l.i
-
-abbrev pub decreases-loop-i : goal.decreases-loop-i
-decreases-loop-i l = l.i
+    (length (take l.held l.buffer) ≡ l.held) × Reading l.table l.ranks l.k (take l.held l.buffer) l.winning l.index l.weight l.i

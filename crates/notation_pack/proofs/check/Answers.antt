@@ -1,49 +1,39 @@
-use Rattle.notation.proofs.Readings.{item_small}
-use Rattle.notation.proofs.Checks.{checking_begins, checking_ended, checking_refused, checking_most, checking_goes_on, lies}
-use mathlib.Core.Path.{sym, ◌∙◌}
+use Rattle.notation.proofs.Checks.{checking_begins, checked_ended, checked_lies, checked_refused, checked_small, checked_most, checked_goes_on}
+use mathlib.Core.Path.{◌∙◌}
 use native.Mathlib.Omega.{arith}
 use Rattle.notation_pack.proofs.check.Goals as goal
 
-pub loop-t-init : goal.loop-t-init
-loop-t-init c = checking_begins _
-
-pub next_item-item-requires : goal.next_item-item-requires
-next_item-item-requires c = (c.loop-t.invariant.walks.counted, c.loop-t.invariant.walks.stands.inside)
-
-pub refused-requires : goal.refused-requires
-refused-requires c =
-    omega (arith, (lies c.loop-t.invariant.walks _ c.next_item-item.ensures).counted, c.if-t.false)
-
-pub returns-then-not-sound : goal.returns-then-not-sound
-returns-then-not-sound c =
-    c.refused.ensures ∙ checking_refused c.loop-t.invariant _ c.next_item-item.ensures c.if-t.false
-    (sym c.sound.ensures ∙ c.if-not-sound.true)
+pub loop-token-init : goal.loop-token-init
+loop-token-init c = checking_begins _
 
 pub groups-length-requires : goal.groups-length-requires
-groups-length-requires c = item_small _ _ _ _ c.next_item-item.ensures
+groups-length-requires c =
+    let found = c.in-Some.ensures in checked_small c.loop-token.invariant c.in-Some.field-0 found.0 found.1 _ c.in-Ok.is
 
 pub overflow_add-length : goal.overflow_add-length
 overflow_add-length c =
-    omega (
-      arith,
-      checking_most c.loop-t.invariant _ c.next_item-item.ensures c.if-t.false _ c.groups-length.ensures,
-      (lies c.loop-t.invariant.walks _ c.next_item-item.ensures).inside,
-    )
+    let found = c.in-Some.ensures in
+    omega (arith, checked_most c.loop-token.invariant c.in-Some.field-0 found.0 found.1 _ c.in-Ok.is _ c.groups-length.ensures)
 
-pub loop-t-smaller : goal.loop-t-smaller
-loop-t-smaller c =
-    omega (
-      arith,
-      (lies c.loop-t.invariant.walks _ c.next_item-item.ensures).after,
-      (lies c.loop-t.invariant.walks _ c.next_item-item.ensures).inside,
-      c.if-t.false,
-    )
+pub refused-requires : goal.refused-requires
+refused-requires c =
+    let found = c.in-Some.ensures in
+    omega (arith, (checked_lies c.loop-token.invariant c.in-Some.field-0 found.0 found.1).counted, found.0)
 
-pub loop-t-preserved : goal.loop-t-preserved
-loop-t-preserved c =
-    checking_goes_on c.loop-t.invariant _ c.next_item-item.ensures c.if-t.false _ c.groups-length.ensures
-    (sym c.sound.ensures ∙ c.if-not-sound.false)
+pub returns-in-Err : goal.returns-in-Err
+returns-in-Err c =
+    let found = c.in-Some.ensures in
+    c.refused.ensures ∙ checked_refused c.loop-token.invariant c.in-Some.field-0 found.0 found.1 _ c.in-Err.is
+
+pub loop-token-smaller : goal.loop-token-smaller
+loop-token-smaller c =
+    let found = c.in-Some.ensures in
+    let l = checked_lies c.loop-token.invariant c.in-Some.field-0 found.0 found.1 in omega (arith, l.after, l.inside, found.0)
+
+pub loop-token-preserved : goal.loop-token-preserved
+loop-token-preserved c =
+    let found = c.in-Some.ensures in
+    checked_goes_on c.loop-token.invariant c.in-Some.field-0 found.0 found.1 _ c.in-Ok.is _ c.groups-length.ensures
 
 pub returns : goal.returns
-returns c =
-    c.done.ensures ∙ checking_ended c.loop-t.invariant _ c.next_item-item.ensures c.if-t.true
+returns c = checked_ended c.loop-token.invariant c.in_default.ensures

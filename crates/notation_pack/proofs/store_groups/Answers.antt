@@ -1,35 +1,28 @@
-use Rattle.notation.proofs.Readings.{item_small}
-use Rattle.notation.proofs.Checks.{storing_begins, storing_length, storing_ended, storing_room, storing_goes_on, lies}
+use Rattle.notation.proofs.Checks.{storing_begins, stored_ended, stored_lies, stored_sound, stored_fits, stored_goes_on}
 use native.Mathlib.Omega.{arith}
 use Rattle.notation_pack.proofs.store_groups.Goals as goal
 
-pub loop-t-init : goal.loop-t-init
-loop-t-init c = storing_begins c.requires
+pub loop-token-init : goal.loop-token-init
+loop-token-init c = storing_begins c.requires
 
-pub next_item-item-requires : goal.next_item-item-requires
-next_item-item-requires c = (c.loop-t.invariant.walks.counted, c.loop-t.invariant.walks.stands.inside)
+pub write_at-end-requires : goal.write_at-end-requires
+write_at-end-requires c =
+    let found = c.in-Some.ensures in stored_fits c.loop-token.invariant c.in-Some.field-0 found.0 found.1 _ c.in-Ok.is
 
-pub write_at-place-requires : goal.write_at-place-requires
-write_at-place-requires c =
-    (item_small _ _ _ _ c.next_item-item.ensures, storing_room c.loop-t.invariant _ c.next_item-item.ensures c.if-t.false)
+pub loop-token-smaller : goal.loop-token-smaller
+loop-token-smaller c =
+    let found = c.in-Some.ensures in
+    let l = stored_lies c.loop-token.invariant c.in-Some.field-0 found.0 found.1 in omega (arith, l.after, l.inside, found.0)
 
-pub loop-t-smaller : goal.loop-t-smaller
-loop-t-smaller c =
-    omega (
-      arith,
-      (lies c.loop-t.invariant.walks _ c.next_item-item.ensures).after,
-      (lies c.loop-t.invariant.walks _ c.next_item-item.ensures).inside,
-      c.if-t.false,
-    )
+pub loop-token-preserved : goal.loop-token-preserved
+loop-token-preserved c =
+    let found = c.in-Some.ensures in
+    stored_goes_on c.loop-token.invariant c.in-Some.field-0 found.0 found.1 _ c.in-Ok.is c.write_at-end.ensures
 
-pub loop-t-preserved : goal.loop-t-preserved
-loop-t-preserved c =
-    storing_goes_on c.loop-t.invariant _ c.next_item-item.ensures c.if-t.false c.write_at-place.ensures
+pub returns-in_default-word : goal.returns-in_default-word
+returns-in_default-word c =
+    let found = c.in-Some.ensures in
+    absurd (stored_sound c.loop-token.invariant c.in-Some.field-0 found.0 found.1 _ c.in_default-word.is)
 
-pub shape_of-out : goal.shape_of-out
-shape_of-out c =
-    storing_length c.loop-t.invariant
-
-pub returns : goal.returns
-returns c =
-    storing_ended c.loop-t.invariant _ c.next_item-item.ensures c.if-t.true
+pub returns-in_default : goal.returns-in_default
+returns-in_default c = stored_ended c.loop-token.invariant c.in_default.ensures

@@ -4,8 +4,8 @@ use Prim.Native.Nat.{◌-◌}
 use Rattle.notation_pack.proofs.store_groups.Given as goal
 
 -- Each item's groups, one behind the other.
-abbrev pub invariant-loop-t : goal.invariant-loop-t
-invariant-loop-t l = Storing l.source l.initial.out l.out l.lines l.at l.place
+abbrev pub invariant-loop-token : goal.invariant-loop-token
+invariant-loop-token l = Storing l.source l.initial.out l.out l.place.lines l.place.at l.end
 
-abbrev pub decreases-loop-t : goal.decreases-loop-t
-decreases-loop-t l = length l.source - l.at
+abbrev pub decreases-loop-token : goal.decreases-loop-token
+decreases-loop-token l = length l.source - l.place.at

@@ -1,13 +1,12 @@
-use Rattle.notation.proofs.Finding.{scanning_ended, scanning_found, scanning_goes_on}
-use mathlib.Core.Path.{sym, ◌∙◌}
-use native.Mathlib.Omega.{arith}
+use Rattle.std.proofs.Common.{sym, ◌∙◌, arith}
+use Rattle.notation.proofs.Finding.{end_found, end_whole}
 use Rattle.notation_tokens.proofs.token_end.Goals as goal
 
-pub loop-at-preserved : goal.loop-at-preserved
-loop-at-preserved c = scanning_goes_on c.loop-at.invariant c.loop-at-test.true (sym c.ends.ensures ∙ c.if-ends.false)
+pub overflow_add-result : goal.overflow_add-result
+overflow_add-result c = record { fits = omega (arith, (end_found _ _ c.requires _ (sym c.first_end.ensures ∙ c.in-Some.is)).0) }
 
-pub returns-after-loop-at : goal.returns-after-loop-at
-returns-after-loop-at c = scanning_ended c.loop-at.invariant (omega arith)
+pub returns-in-Some : goal.returns-in-Some
+returns-in-Some c = (end_found _ _ c.requires _ (sym c.first_end.ensures ∙ c.in-Some.is)).1
 
-pub returns-then-ends : goal.returns-then-ends
-returns-then-ends c = scanning_found c.loop-at.invariant c.loop-at-test.true (sym c.ends.ensures ∙ c.if-ends.true)
+pub returns-in-None : goal.returns-in-None
+returns-in-None c = end_whole _ _ c.requires (sym c.first_end.ensures ∙ c.in-None.is)

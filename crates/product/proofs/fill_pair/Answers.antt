@@ -8,7 +8,7 @@ use Rattle.product.proofs.fill_pair.Goals as goal
 
 pub loop-e-init : goal.loop-e-init
 unfolding pair_next tabulate
-loop-e-init c = (omega arith, refl, refl)
+loop-e-init c = (refl, refl)
 
 pub overflow_mul-next-in-loop-e : goal.overflow_mul-next-in-loop-e
 overflow_mul-next-in-loop-e c =
@@ -23,7 +23,7 @@ overflow_add-next-in-loop-e-2 c =
 pub loop-e-preserved : goal.loop-e-preserved
 loop-e-preserved c =
     let g = c.loop-e.invariant in
-    (omega arith, simp length-set g.1, next_more _ _ _ _ _ _ _ _ _ g.2 _ refl)
+    (simp length-set g.0, next_more _ _ _ _ _ _ _ _ _ g.1 _ refl)
 
 pub returns : goal.returns
-returns c = let e : c.loop-e.e ≡ c.args.m = omega arith in rw e at c.loop-e.invariant.2
+returns c = let e : c.loop-e.e ≡ c.args.m = omega arith in rw e at c.loop-e.invariant.1

@@ -1,11 +1,7 @@
 use mathlib.Core.Path.{◌≡◌}
-use Prim.Native.Nat.{◌≤◌, ◌-◌}
 use Rattle.base.specs.Pad.{pad}
 use Rattle.product_rule.specs.Pairs.{pair_flags}
 use Rattle.product.proofs.pair_flags.Given as goal
 
 abbrev pub invariant-loop-r : goal.invariant-loop-r
-invariant-loop-r l = (l.r ≤ l.pairs) × (l.flags ≡ pad 32 (pair_flags l.first l.second l.n l.r))
-
-abbrev pub decreases-loop-r : goal.decreases-loop-r
-decreases-loop-r l = l.pairs - l.r
+invariant-loop-r l = (l.flags ≡ pad 32 (pair_flags l.first l.second l.n l.r))

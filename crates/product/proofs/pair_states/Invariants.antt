@@ -1,5 +1,4 @@
 use mathlib.Core.Path.{◌≡◌}
-use Prim.Native.Nat.{◌≤◌, ◌-◌}
 use lib.ListN.{length}
 use Rattle.base.specs.Pad.{pad}
 use Rattle.product_rule.specs.Pairs.{pair_states}
@@ -7,7 +6,4 @@ use Rattle.product.proofs.pair_states.Given as goal
 
 abbrev pub invariant-loop-r : goal.invariant-loop-r
 invariant-loop-r l =
-    (l.r ≤ l.pairs) × (length l.next ≡ 512) × (l.next ≡ pad 512 (pair_states l.first l.second l.n l.m l.r))
-
-abbrev pub decreases-loop-r : goal.decreases-loop-r
-decreases-loop-r l = l.pairs - l.r
+    (length l.next ≡ 512) × (l.next ≡ pad 512 (pair_states l.first l.second l.n l.m l.r))

@@ -1,12 +1,8 @@
 use Rattle.solver_table.proofs.Levels.{Levelling}
 use Rattle.solver_table.specs.Levels.{sets_from}
-use Prim.Native.Nat.{◌≤◌, ◌-◌}
 use Rattle.solver_table.proofs.fill_level.Given as goal
 
 -- A level: the sets for each controllable symbol in turn, behind the level before.
 abbrev pub invariant-loop-e : goal.invariant-loop-e
 invariant-loop-e l =
-    (l.e ≤ l.m) × Levelling (sets_from l.next l.free l.n l.u l.accepting) l.classes l.initial.table l.from l.count l.e l.table l.at l.rounds
-
-abbrev pub decreases-loop-e : goal.decreases-loop-e
-decreases-loop-e l = l.m - l.e
+    Levelling (sets_from l.next l.free l.n l.u l.accepting) l.classes l.initial.table l.from l.count l.e l.table l.at l.rounds

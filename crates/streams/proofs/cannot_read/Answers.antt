@@ -1,8 +1,7 @@
 use Rattle.text.specs.Decimal.{ascii}
-use Rattle.text.proofs.Appending.{front-is}
 use Rattle.streams.specs.Streams.{cannot_read}
 use Rattle.streams.proofs.cannot_read.Goals as goal
 
 pub returns : goal.returns
 unfolding cannot_read ascii
-returns g c = rw (front-is c.note-length.ensures) at c.write_all.ensures
+returns g c = c.cannot.ensures

@@ -5,32 +5,32 @@ use borrow.Author.Rules.{rules}
 use Rattle.varint.proofs.read.Goals as goal
 
 pub returns-then-s-at : goal.returns-then-s-at
-returns-then-s-at c = c.fault.ensures ∙ ended_at _ _ (omega arith)
+returns-then-s-at c = ended_at _ _ (omega arith)
 
 pub returns-then-a-lt128 : goal.returns-then-a-lt128
-returns-then-a-lt128 c = one_byte _ _ _ (omega arith) c.as_u32-a.ensures.0 (omega arith)
+returns-then-a-lt128 c = one_byte _ _ _ (omega arith) c.from-a.ensures (omega arith)
 
 pub returns-then-s-at-le1 : goal.returns-then-s-at-le1
 returns-then-s-at-le1 c =
-    c.fault-then-s-at-le1.ensures ∙ ended-second _ _ _ (omega arith) c.as_u32-a.ensures.0 (omega arith) (omega arith)
+    ended-second _ _ _ (omega arith) c.from-a.ensures (omega arith) (omega arith)
 
 pub returns-then-b-lt128 : goal.returns-then-b-lt128
 returns-then-b-lt128 c =
-    two_bytes _ _ _ (omega arith) c.as_u32-a.ensures.0 (omega arith) _ (omega arith) c.as_u32-b.ensures.0
+    two_bytes _ _ _ (omega arith) c.from-a.ensures (omega arith) _ (omega arith) c.from-b.ensures
     (omega arith)
 
 pub returns-then-s-at-le2 : goal.returns-then-s-at-le2
 returns-then-s-at-le2 c =
-    c.fault-then-s-at-le2.ensures ∙ ended-third _ _ _ (omega arith) c.as_u32-a.ensures.0 (omega arith) _
-    (omega arith) c.as_u32-b.ensures.0 (omega arith) (omega arith)
+    ended-third _ _ _ (omega arith) c.from-a.ensures (omega arith) _
+    (omega arith) c.from-b.ensures (omega arith) (omega arith)
 
 pub returns-then-c-lt128 : goal.returns-then-c-lt128
 returns-then-c-lt128 c =
-    three-bytes _ _ _ (omega arith) c.as_u32-a.ensures.0 (omega arith) _ (omega arith)
-    c.as_u32-b.ensures.0 (omega arith) _ (omega arith) c.as_u32-c.ensures.0 (omega arith)
+    three-bytes _ _ _ (omega arith) c.from-a.ensures (omega arith) _ (omega arith)
+    c.from-b.ensures (omega arith) _ (omega arith) c.from-c.ensures (omega arith)
 
 pub returns : goal.returns
 returns c =
-    c.fault-2.ensures ∙ too_long _ _ _ (omega arith) c.as_u32-a.ensures.0 (omega arith) _
-    (omega arith) c.as_u32-b.ensures.0 (omega arith) _ (omega arith)
-    c.as_u32-c.ensures.0 (omega arith)
+    too_long _ _ _ (omega arith) c.from-a.ensures (omega arith) _
+    (omega arith) c.from-b.ensures (omega arith) _ (omega arith)
+    c.from-c.ensures (omega arith)

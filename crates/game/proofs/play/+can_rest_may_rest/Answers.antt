@@ -26,15 +26,15 @@ unfolding step
 can_rest-can_rest-requires t c =
     let a = c.args in
     let p = c.requires.0 in
-    let e : c.as_usize-e.result < a.m = omega (arith, p.events a.at (omega arith)) in
-    (omega arith, (p, omega arith, rw c.step-t.ensures (p.steps a.q c.as_usize-e.result (omega arith) e)))
+    let e : c.from-e.result < a.m = omega (arith, p.events a.at (omega arith)) in
+    (omega arith, (p, omega arith, rw c.step-t.ensures (p.steps a.q c.from-e.result (omega arith) e)))
 
 pub can_rest-returns : goal.can_rest-returns
 unfolding step
 can_rest-returns t c =
     let a = c.args in
     c.can_rest.ensures ∙
-    rw (c.step-t.ensures, c.as_usize-e.ensures.0)
+    rw (c.step-t.ensures, c.from-e.ensures)
     (sym (come_released _ a.buffer.now a.held a.at _ _ (omega arith) (omega arith) (sym c.may_rest.ensures ∙ c.if-may_rest.false)))
 
 pub may_rest-returns-then-accepting-q-ne1 : goal.may_rest-returns-then-accepting-q-ne1
@@ -47,7 +47,7 @@ may_rest-returns-then-rounds-eq0 t c = sym (rest_last _ _ _ _ c.if-rounds-eq0.tr
 
 pub may_rest-loop-e-init : goal.may_rest-loop-e-init
 unfolding each
-may_rest-loop-e-init t c = (omega arith, refl)
+may_rest-loop-e-init t c = refl
 
 pub may_rest-can_rest-requires : goal.may_rest-can_rest-requires
 unfolding step
@@ -65,18 +65,16 @@ may_rest-returns-then-not-can_rest t c =
 pub may_rest-loop-e-preserved : goal.may_rest-loop-e-preserved
 unfolding controllable step
 may_rest-loop-e-preserved t c =
-    let l = c.loop-e in (
-      omega arith,
-      each_more l.e _ ∙
-          and_both l.invariant.1
-          (elim c.if-classes-e-ne1.branch [
-            | may_rest-then-classes-e-ne1+else-not-can_rest w ↦ turn_in _ _ _ _ l.e _ w.step-t.ensures (sym w.can_rest.ensures ∙ w.if-not-can_rest.false)
-            | may_rest-else-classes-e-ne1 w ↦ or_left _ (eq-eqb _ _ w.if-classes-e-ne1.false)
-          ]),
-    )
+    let l = c.loop-e in
+    each_more l.e _ ∙
+    and_both l.invariant
+    (elim c.if-classes-e-ne1.branch [
+      | may_rest-then-classes-e-ne1+else-not-can_rest w ↦ turn_in _ _ _ _ l.e _ w.step-t.ensures (sym w.can_rest.ensures ∙ w.if-not-can_rest.false)
+      | may_rest-else-classes-e-ne1 w ↦ or_left _ (eq-eqb _ _ w.if-classes-e-ne1.false)
+    ])
 
 pub may_rest-returns : goal.may_rest-returns
 unfolding accepts
 may_rest-returns t c =
     let e : c.loop-e.e ≡ c.args.m = omega arith in
-    sym (rest_on _ _ _ _ c.if-rounds-eq0.false (eq-eqb (get_or c.args.accepting.now c.args.q 0) 1 (omega arith)) ∙ (rw e at c.loop-e.invariant.1))
+    sym (rest_on _ _ _ _ c.if-rounds-eq0.false (eq-eqb (get_or c.args.accepting.now c.args.q 0) 1 (omega arith)) ∙ (rw e at c.loop-e.invariant))

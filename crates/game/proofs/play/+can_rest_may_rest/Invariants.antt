@@ -1,4 +1,4 @@
-use Rattle.std.proofs.Common.{◌≡◌, ◌≤◌, ◌+◌, ◌-◌, ◌*◌, true}
+use Rattle.std.proofs.Common.{◌≡◌, ◌+◌, ◌-◌, ◌*◌, true}
 use Rattle.base.specs.Each.{each}
 use Rattle.game.specs.Arena.{arena, held_from}
 use Rattle.game.proofs.Turns.{turn}
@@ -14,8 +14,4 @@ decreases-may_rest l = 2 * ((l.held - l.at) * 33 + l.rounds)
 
 abbrev pub invariant-may_rest-loop-e : goal.invariant-may_rest-loop-e
 invariant-may_rest-loop-e l =
-    (l.e ≤ l.m) ×
-    (each l.e (turn (arena l.n l.m l.classes l.accepting l.next) (held_from l.buffer l.held l.at) (l.rounds - 1) l.q) ≡ true)
-
-abbrev pub decreases-may_rest-loop-e : goal.decreases-may_rest-loop-e
-decreases-may_rest-loop-e l = l.m - l.e
+    each l.e (turn (arena l.n l.m l.classes l.accepting l.next) (held_from l.buffer l.held l.at) (l.rounds - 1) l.q) ≡ true

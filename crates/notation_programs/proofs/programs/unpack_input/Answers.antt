@@ -1,27 +1,37 @@
+use Prim.Native.Nat.{ℕ, ◌<◌}
 use lib.ListN.{length}
-use mathlib.Core.Path.{◌≡◌, sym}
+use mathlib.Core.Path.{◌≡◌, refl, sym, ap, ◌∙◌}
 use Rattle.text.proofs.Appending.{nothing, said}
-use Rattle.notation_programs.proofs.Outcomes.{unpack_long-output, unpack_long-note, unpack-note, unpack_no_note, unpack_stored}
+use Rattle.text_lines.specs.Lines.{fault_line, refusal_line}
+use Rattle.refusal.proofs.Numbers.{number_never_0}
+use Rattle.notation_programs.proofs.Outcomes.{unpack_long-output, unpack_long-note, line_stored, line_silent, fault_stored, fault_said}
 use borrow.Author.Rules.{rules}
 use Rattle.notation_programs.proofs.programs.unpack_input.Goals as goal
 
 pub returns-then-bytes-gt-MAX_INPUT : goal.returns-then-bytes-gt-MAX_INPUT
 returns-then-bytes-gt-MAX_INPUT c =
     let t = c.if-bytes-gt-MAX_INPUT.true in
-    record { appended = said (sym (unpack_long-output _ t)) (nothing _); appended_2 = said (unpack_long-note _ t) c.refusal_line-long.ensures }
-
-pub returns-then-answer-ne0 : goal.returns-then-answer-ne0
-returns-then-answer-ne0 c = let long : length c.args.out.now ≡ 240000 = search rules in
-    let l = long in record {
-      appended = unpack_stored _ _ c.if-bytes-gt-MAX_INPUT.false l (λ i m. (c.type_inv.bytes i).fits) _ c.unpack-answer.ensures.value c.unpack-answer.ensures.out_after;
-      appended_2 = said (unpack-note _ _ c.if-bytes-gt-MAX_INPUT.false l (λ i m. (c.type_inv.bytes i).fits) _ c.unpack-answer.ensures.value c.if-answer-ne0.true)
-          c.fault_line-said.ensures;
+    record {
+      appended = said (sym (unpack_long-output _ t)) (nothing _);
+      appended_2 = said (ap refusal_line c.from.ensures ∙ unpack_long-note _ t) c.refusal_line-long.ensures;
     }
 
-pub returns : goal.returns
-returns c = let long : length c.args.out.now ≡ 240000 = search rules in
-    let l = long in record {
-      appended = unpack_stored _ _ c.if-bytes-gt-MAX_INPUT.false l (λ i m. (c.type_inv.bytes i).fits) _ c.unpack-answer.ensures.value c.unpack-answer.ensures.out_after;
-      appended_2 = said (sym (unpack_no_note _ _ c.if-bytes-gt-MAX_INPUT.false l (λ i m. (c.type_inv.bytes i).fits) _ c.unpack-answer.ensures.value c.if-answer-ne0.false))
-          (nothing _);
+pub returns-in-Ok : goal.returns-in-Ok
+returns-in-Ok c =
+    let long : length c.args.out.now ≡ 240000 = search rules in
+    let l = c.if-bytes-gt-MAX_INPUT.false in
+    record {
+      appended = line_stored _ _ l long (λ i m. (c.type_inv.bytes i).fits) _ c.in-Ok.ensures.value _ refl c.in-Ok.ensures.out_after;
+      appended_2 = said (line_silent _ _ l long (λ i m. (c.type_inv.bytes i).fits) _ c.in-Ok.ensures.value _ refl) (nothing _);
+    }
+
+pub returns-in-Err : goal.returns-in-Err
+returns-in-Err c =
+    let long : length c.args.out.now ≡ 240000 = search rules in
+    let l = c.if-bytes-gt-MAX_INPUT.false in
+    let bytes = λ (i : ℕ) (m : i < length c.args.bytes.now). (c.type_inv.bytes i).fits in
+    record {
+      appended = fault_stored _ _ l long bytes _ c.in-Err.ensures.value _ _ refl c.in-Err.ensures.out_after;
+      appended_2 = said (ap (λ n. fault_line n c.in-Err.fault.place) c.from-in-Err.ensures ∙ fault_said _ _ l long bytes _ c.in-Err.ensures.value _ _ refl (number_never_0 _))
+          c.fault_line.ensures;
     }
