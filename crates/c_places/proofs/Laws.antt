@@ -52,7 +52,7 @@ unfolding places_bytes
 bytes-append [] n = append-nil (number_bytes place_size n)
 bytes-append (m ∷ ns) n = ap (λ l. number_bytes place_size m ++ l) (bytes-append ns n) ∙ sym (append_assoc (number_bytes place_size m) (places_bytes ns) (number_bytes place_size n))
 
-bytes_many : (ns : List ℕ) → length (places_bytes ns) ≡ length ns * place_size
+pub bytes_many : (ns : List ℕ) → length (places_bytes ns) ≡ length ns * place_size
 unfolding places_bytes
 bytes_many [] = refl
 bytes_many (n ∷ ns) = length-append (number_bytes place_size n) (places_bytes ns) ∙ omega (arith, number-length place_size n, bytes_many ns)

@@ -9,8 +9,13 @@ ghost use Rattle.c_layout.specs.Offsets.{place_size, max_capacity, configuration
 ghost use Rattle.c_layout.specs.Layout.{part, number_of, number_bytes, places_of, places_bytes};
 
 use base::copy;
-use c_layout::{CONFIGURATION_PLACES, CONFIGURATION_SIZE, MAX_CAPACITY, PLACE_SIZE};
+use c_layout::{CONFIGURATION_PLACES, CONFIGURATION_SIZE, MAX_CAPACITY, MAX_EMITTED, PLACE_SIZE};
 use configuration_places::InputPlace;
+
+// How many bytes the places of what is held take, and of what is emitted.
+pub const HELD_SIZE: usize = MAX_CAPACITY * PLACE_SIZE;
+
+pub const EMITTED_SIZE: usize = MAX_EMITTED * PLACE_SIZE;
 
 pub fn place_bytes(value: u32) -> [u8; PLACE_SIZE]
     ensures { result ≡ number_bytes place_size value }

@@ -30,6 +30,9 @@ pub fn receive(
             let answer = clients::receive(a, table, configurations, record.client, record.symbol);
             let_in(record, expected, answer)
         }
-        Err(fault) => not_let_in(a, table, configurations.len(), expected, fault),
+        Err(fault) => {
+            let row = u8::from(fault.refusal);
+            not_let_in(a, table, configurations.len(), expected, row, fault.place)
+        }
     }
 }

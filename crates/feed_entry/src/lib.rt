@@ -4,7 +4,6 @@
 // in, and to one that is not.
 ghost use Rattle.std.specs.Prelude.{◌≡◌};
 ghost use Rattle.clients_answers.specs.Clients.{refused_for};
-ghost use Rattle.refusal.specs.Numbers.{number};
 ghost use Rattle.feed_record.specs.Records.{admitted_of, turned_away};
 ghost use Rattle.feed_answers.specs.Feed.{refused_fed};
 ghost use Rattle.feed_entry.specs.Entries.{refuses_call, not_let_in, let_in_of};
@@ -14,7 +13,6 @@ use clients_answers::ReceivedFor;
 use clients_entry::enter_list;
 use feed_answers::Fed;
 use feed_record::{Admitted, Expected};
-use refusal::Fault;
 
 // Whether a row refuses a call over a list before the record is looked at: 11, 12 and 20. (Not
 // `matches!`: the goals of an or-pattern's arms do not say which number was matched.)
@@ -37,22 +35,22 @@ fn refused(row: u8, place: usize, expected: Expected) -> Fed
 }
 
 // The answer to a record that is not let in, in a list of so many: rows 11, 12 and 20 come before
-// its own.
+// its own. (A number stands for the row, and no `Fault`: the promise is about every number.)
 pub fn not_let_in(
     a: &Automaton,
     table: &[u32],
     count: usize,
     expected: Expected,
-    fault: Fault,
+    row: u8,
+    place: usize,
 ) -> Fed
-    ensures { let m = turned_away expected (number fault.refusal) fault.place in
-        result ≡ not_let_in a.now table.now count m }
+    ensures { result ≡ not_let_in a.now table.now count (turned_away expected row place) }
 {
     let entry = enter_list(a, table, count);
     if entry.refusal != 0 {
         return refused(entry.refusal, 0, expected);
     }
-    refused(u8::from(fault.refusal), fault.place, expected)
+    refused(row, place, expected)
 }
 
 // The answer to a record that is let in, by the answer to its event. Where that is a row of the

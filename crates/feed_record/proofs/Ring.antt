@@ -4,7 +4,7 @@ use Rattle.feed_record.specs.Serials.{serials, distance, following, ahead}
 use Rattle.feed_record.specs.Claims.{RingAsWorded}
 
 module _ (x s : ℕ) (fx : x < serials) (fs : s < serials) where
-  distance-only : (d : ℕ) → d < serials → (d + x) % serials ≡ s → d ≡ distance x s
+  pub distance-only : (d : ℕ) → d < serials → (d + x) % serials ≡ s → d ≡ distance x s
   unfolding distance
   distance-only d l h = omega arith
 

@@ -111,7 +111,8 @@ fn emit<'a>(buffer: &'a [u8; 6], count: usize, out: &mut [u8], at: usize)
     }
 }
 
-// What is left of the buffer, moved to its front.
+// What is left of the buffer, moved to its front. (No copy is made of nothing: in a day of many
+// releases that is a call each time.)
 fn left<'a>(buffer: &'a [u8; 6], held: usize, count: usize) -> [u8; 6]
     requires { (held ≤ 6) × (count ≤ held) × (buffer.now ≡ pad 6 (take held buffer.now)) }
     ensures { result ≡ pad 6 (drop count (take held buffer.now)) }
@@ -120,7 +121,9 @@ fn left<'a>(buffer: &'a [u8; 6], held: usize, count: usize) -> [u8; 6]
         return *buffer;
     }
     let mut kept = [0u8; 6];
-    copy(buffer, count, held - count, &mut kept, 0);
+    if count < held {
+        copy(buffer, count, held - count, &mut kept, 0);
+    }
     kept
 }
 

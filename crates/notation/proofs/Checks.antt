@@ -97,20 +97,20 @@ unfolding reading walks_first stands-first
 checking_begins s = record { walks = walks_first s; fewer = omega arith; so_far = refl }
 
 module _ {s : List ℕ} {lines at n : ℕ} (g : Checking s lines at n) (i : Item) (e : i ≡ item_at s lines at) where
-  checking_ended : i.token.to ≤ i.token.from → done n ≡ checked 0 (reading s)
+  pub checking_ended : i.token.to ≤ i.token.from → done n ≡ checked 0 (reading s)
   checking_ended h = checked-none n ∙ ap (checked n) (sym (item_ended s lines at i e g.walks.stands.steps h)) ∙ g.so_far
 
   module _ (more : i.token.from < i.token.to) where
-    checking_refused : sound i.word.fault ≡ false → refused i.word.fault i.token ≡ checked 0 (reading s)
+    pub checking_refused : sound i.word.fault ≡ false → refused i.word.fault i.token ≡ checked 0 (reading s)
     unfolding checked
     checking_refused f = ap (checked n) (sym (item_faulty s lines at i e g.walks.stands.steps more f)) ∙ g.so_far
 
     module _ (m : ℕ) (c : m ≡ length (bytes i.word.value)) where
-      checking_most : n + m ≤ i.token.to
+      pub checking_most : n + m ≤ i.token.to
       checking_most =
           omega (arith, g.fewer, c, (lies g.walks i e).after, item_fewer s lines at i e g.walks.counted g.walks.stands.inside more)
 
-      checking_goes_on : sound i.word.fault ≡ true → Checking s i.token.lines i.token.to (n + m)
+      pub checking_goes_on : sound i.word.fault ≡ true → Checking s i.token.lines i.token.to (n + m)
       unfolding walks_next steps-more stands-next
       checking_goes_on f =
           let k = steps-more g.walks i e more in
@@ -185,7 +185,7 @@ module _ {s out₀ out : List ℕ} {lines at place : ℕ} (g : Storing s out₀ 
   storing_length = kept g.stored
 
   module _ (i : Item) (e : i ≡ item_at s lines at) where
-    storing_ended : i.token.to ≤ i.token.from → out ≡ packed_buffer (reading s) out₀
+    pub storing_ended : i.token.to ≤ i.token.from → out ≡ packed_buffer (reading s) out₀
     unfolding packed_buffer
     storing_ended h =
         let vs = g.written in
@@ -208,7 +208,7 @@ module _ {s out₀ out : List ℕ} {lines at place : ℕ} (g : Storing s out₀ 
       abbrev v : ℕ
       v = i.word.value
 
-      storing_room : place + length (bytes v) ≤ length out
+      pub storing_room : place + length (bytes v) ≤ length out
       unfolding encoded
       storing_room =
           let l : length (encoded (g.written ++ v ∷ next.0)) ≤ length out₀ = rw next.1 at g.room in
@@ -222,7 +222,7 @@ module _ {s out₀ out : List ℕ} {lines at place : ℕ} (g : Storing s out₀ 
             storing_length,
           )
 
-      storing_goes_on : {out' : List ℕ} {n : ℕ} → Appended out place (bytes v) out' n
+      pub storing_goes_on : {out' : List ℕ} {n : ℕ} → Appended out place (bytes v) out' n
           → Storing s out₀ out' i.token.lines i.token.to n
       unfolding walks_next steps-more stands-next
       storing_goes_on x =

@@ -3,7 +3,7 @@
 // What the program `pack` says of a fault in a text, stored in a lent buffer.
 ghost use Rattle.std.specs.Prelude.{◌≡◌, ◌+◌, ◌≤◌, length};
 ghost use Rattle.text.specs.Decimal.{Appended};
-ghost use Rattle.notation.specs.Results.{fault_of, as_error};
+ghost use Rattle.notation.specs.Results.{fault_of, as_error, as_packed};
 ghost use Rattle.notation_faults.specs.Messages.{visible, shown, token_line, said, message};
 
 use notation::{FaultyToken, PackError, WordFault};
@@ -56,7 +56,7 @@ fn said(fault: WordFault, line: usize, token: &[u8], out: &mut [u8]) -> usize
 }
 
 // The line that says why a text is not packed.
-pub fn message(source: &[u8], error: PackError, out: &mut [u8]) -> usize
+fn explain(source: &[u8], error: PackError, out: &mut [u8]) -> usize
     requires { let answer = as_error error in
         (answer.from ≤ answer.to) × (answer.to ≤ length source.now) × (96 ≤ length out.old) }
     ensures { Appended out.old 0 (message source.now (as_error error)) out.new result }
@@ -71,5 +71,17 @@ pub fn message(source: &[u8], error: PackError, out: &mut [u8]) -> usize
             },
         ) => said(fault, line, &source[from..to], out),
         PackError::NoRoom => word(out, 0, b"no room for the bytes\n"),
+    }
+}
+
+// The line of a fault that packing answered; nothing where there is none.
+pub fn message(source: &[u8], answer: Result<usize, PackError>, out: &mut [u8]) -> usize
+    requires { let told = as_packed answer in
+        (told.from ≤ told.to) × (told.to ≤ length source.now) × (96 ≤ length out.old) }
+    ensures { Appended out.old 0 (message source.now (as_packed answer)) out.new result }
+{
+    match answer {
+        Ok(_) => 0,
+        Err(error) => explain(source, error, out),
     }
 }

@@ -45,14 +45,14 @@ module _ (s out : List ℕ) (h : length s ≤ 262144) (l : length out ≡ 262144
       (λ vs q. rw (e, room_in_text s vs out q (omega arith)) (omega arith, omega arith))
       (λ y q. let x = reading_proper s y.0 y.1 q in rw (e, q) (x.order, x.inside))
 
-  pack-note : message s p ≡ pack_note s
+  pub pack-note : message s p ≡ pack_note s
   unfolding packed pack_note fault_note message saying done
   pack-note =
       split (reading s)
       (λ vs q. rw (le-ltb 262144 (length s) h, e, room_in_text s vs out q (omega arith), q))
       (λ y q. rw (le-ltb 262144 (length s) h, e, q))
 
-  pack_stored : {out' : List ℕ} → out' ≡ packed_buffer (reading s) out → Appended out 0 (pack_output s) out' p.length
+  pub pack_stored : {out' : List ℕ} → out' ≡ packed_buffer (reading s) out → Appended out 0 (pack_output s) out' p.length
   unfolding packed packed_buffer pack_output packed_bytes refused done
   pack_stored f =
       split (reading s)
@@ -101,21 +101,21 @@ module _ (s out : List ℕ) (h : length s ≤ 60000) (l : length out ≡ 240000)
   few : (vs : List ℕ) → decoded s ≡ numbers vs → length (line_of vs) ≤ length out
   few vs q = omega (arith, line-bounded s vs d q)
 
-  unpack-note : (p.refusal ≡ 0 → ⊥) → fault_line p.refusal p.place ≡ unpack_note s
+  pub unpack-note : (p.refusal ≡ 0 → ⊥) → fault_line p.refusal p.place ≡ unpack_note s
   unfolding unpacked unpack_note row_note row-refused written
   unpack-note z =
       split (decoded s)
       (λ vs q. absurd (z (ap (λ a. a.refusal) e ∙ rw (q, le-leb (length (line_of vs)) (length out) (few vs q)))))
       (λ y q. rw (le-ltb 60000 (length s) h, e, q))
 
-  unpack_no_note : p.refusal ≡ 0 → unpack_note s ≡ []
+  pub unpack_no_note : p.refusal ≡ 0 → unpack_note s ≡ []
   unfolding unpacked unpack_note row_note row-refused
   unpack_no_note z =
       split (decoded s)
       (λ vs q. rw (le-ltb 60000 (length s) h, q))
       (λ y q. absurd (decoded_proper s y.0 y.1 q (sym (ap (λ a. a.refusal) (e ∙ ap (λ r. unpacked r out) q)) ∙ z)))
 
-  unpack_stored : {out' : List ℕ} → out' ≡ unpacked_buffer (decoded s) out → Appended out 0 (unpack_output s) out' p.length
+  pub unpack_stored : {out' : List ℕ} → out' ≡ unpacked_buffer (decoded s) out → Appended out 0 (unpack_output s) out' p.length
   unfolding unpacked unpacked_buffer unpack_output line_text row-refused written
   unpack_stored f =
       split (decoded s)

@@ -33,7 +33,7 @@ pub fn pack_input(source: &[u8], out: &mut [u8; 262144], note: &mut [u8; 96]) ->
         },
         Err(error) => Output {
             bytes: 0,
-            note: message(source, error, note),
+            note: message(source, Err(error), note),
         },
     }
 }

@@ -253,7 +253,7 @@ module _ (s out : List ℕ) (a : Unpacked) (e : a ≡ measured (length out) (len
       (λ vs q. (vs, q))
       (λ x q. absurd (decoded_proper s x.0 x.1 q (sym (ap (λ r. (unpacked r out).refusal) q) ∙ ap (λ p. p.refusal) (sym unpack_answer) ∙ z)))
 
-  unpack_refused : (a.refusal ≡ 0 → ⊥) → out ≡ unpacked_buffer (decoded s) out
+  pub unpack_refused : (a.refusal ≡ 0 → ⊥) → out ≡ unpacked_buffer (decoded s) out
   unfolding unpacked unpacked_buffer done
   unpack_refused z =
       split (decoded s)
@@ -262,7 +262,7 @@ module _ (s out : List ℕ) (a : Unpacked) (e : a ≡ measured (length out) (len
       (λ t. rw q (placed-short (line_of vs) out (leb-false (length (line_of vs)) (length out) t))))
       (λ x q. rw q)
 
-  unpack_fits : a.refusal ≡ 0 → StoreLineRequires s out
+  pub unpack_fits : a.refusal ≡ 0 → StoreLineRequires s out
   unfolding unpacked refused
   unpack_fits z =
       let vs = (accepted z).0 in

@@ -17,10 +17,15 @@ pub fn word(out: &mut [u8], at: usize, text: &[u8]) -> usize
 }
 
 // A number in decimal.
+#[inline]
 pub fn number(out: &mut [u8], at: usize, n: usize) -> usize
     requires { at + length (decimal n) ≤ length out.old }
     ensures { Appended out.old at (decimal n) out.new result }
 {
+    if n < 10 {
+        out[at] = b'0' + n as u8; // most numbers here are one digit, which needs no buffer
+        return at + 1;
+    }
     let mut digits = Buffer::new();
     word(out, at, digits.format(n).as_bytes())
 }

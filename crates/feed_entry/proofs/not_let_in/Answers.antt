@@ -1,5 +1,4 @@
-use Rattle.std.proofs.Common.{◌∙◌, ap}
-use Rattle.feed_answers.specs.Feed.{refused_fed}
+use Rattle.std.proofs.Common.{◌∙◌}
 use Rattle.feed_entry.proofs.Entering.{away_list, away_record}
 use Rattle.feed_entry.proofs.not_let_in.Goals as goal
 
@@ -7,7 +6,4 @@ pub returns-then-entry-ne0 : goal.returns-then-entry-ne0
 returns-then-entry-ne0 c = c.refused.ensures ∙ away_list _ _ _ _ c.enter_list-entry.ensures _ c.if-entry-ne0.true
 
 pub returns : goal.returns
-returns c =
-    let x = c.args in
-    c.refused-2.ensures ∙ ap (λ row. refused_fed x.expected row x.fault.place) c.from.ensures ∙
-    away_record _ _ _ _ c.enter_list-entry.ensures _ c.if-entry-ne0.false
+returns c = c.refused-2.ensures ∙ away_record _ _ _ _ c.enter_list-entry.ensures _ c.if-entry-ne0.false
