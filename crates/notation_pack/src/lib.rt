@@ -78,8 +78,8 @@ fn write_at(out: &mut [u8], at: usize, v: u32) -> usize
 }
 
 // Writes the numbers of a text that has no fault into a buffer with room for them. (`check` found
-// none, so that no word is one. Not inlined: as a part of `main`, as `check` is, it left the loops
-// of both where blanks and comments took 1.3 to 1.4 times as long.)
+// none, so that no word is one. Not inlined: as a part of `main`, where `check` is, it moved the
+// loops of both to places at which blanks and comments took 1.3 to 1.5 times as long.)
 #[inline(never)]
 fn store_groups(source: &[u8], out: &mut [u8])
     requires { StoreGroupsRequires source.now out.old }
